@@ -1,0 +1,92 @@
+-- Document 01, "Events and their records": an event with its counts, as the definitions and the demands speak of it,
+-- and what makes it out of the code's enum and the counts beside it. Assumes nothing.
+use mathlib.Core.Bool.{Bool, true, false, not, _&&_, cond}
+use mathlib.Core.List.{List, [], _∷_}
+use Prim.Native.Nat.{ℕ}
+use lib.Dec.{leb, eqb}
+use lib.IntN.{ℤ, pos, negℤ}
+use lib.Signed.{ltZ}
+use lib.ListN.{take, drop}
+use Rattle.events.specs.Setup.{groups, inputs}
+use Rattle.events.specs.declared.Setup.{Setup}
+use Rattle.events.specs.declared.Counts.{Counts}
+use Rattle.events.specs.declared.BusEvent.{BusEvent}
+use Rattle.events.specs.declared.Event.{Event as Coded}
+use Rattle.events.specs.declared.Event.the-variants.{Setup as Setup-, Por as Por-, Boot as Boot-, Pin as Pin-, Xready as Xready-, Scan as Scan-, Temp as Temp-, Count as Count-, Sense as Sense-, Load as Load-, OnBus as OnBus-}
+
+-- an event of a chip that stands: SCAN has a count for each input, TEMP one for each five
+pub data Event : Type 0 where
+  Por Boot Pin Xready : Event
+  Scan Temp : List ℕ → Event
+  Count : ℕ → Event
+  Sense : ℤ → Event
+  Load : Bool → Event
+  OnBus : BusEvent → Event
+
+-- ── number 3: a payload value out of range ──
+abbrev pub within : ℕ → List ℕ → Bool
+within most [] = true
+within most (x ∷ xs) = leb x most && within most xs
+
+-- a count is 0 to 16,383
+abbrev pub countMost : ℕ
+countMost = 16383
+
+-- SENSE is within ±500,000 µV
+abbrev pub senseMost : ℕ
+senseMost = 500000
+
+abbrev pub senseFits : ℤ → Bool
+senseFits v = not (ltZ (pos senseMost) v) && not (ltZ (pos senseMost) (negℤ v))
+
+unfoldable pub fits : Event → Bool
+fits Por = true
+fits Boot = true
+fits Pin = true
+fits Xready = true
+fits (Scan xs) = within countMost xs
+fits (Temp xs) = within countMost xs
+fits (Count n) = true
+fits (Sense v) = senseFits v
+fits (Load l) = true
+fits (OnBus b) = true
+
+-- ── number 2: SETUP not first, or counts that do not fit the part ──
+-- how many counts stand beside an event of the code
+abbrev pub countsWanted : Setup → Coded → ℕ
+countsWanted u (Setup- v) = 0
+countsWanted u Por- = 0
+countsWanted u Boot- = 0
+countsWanted u Pin- = 0
+countsWanted u Xready- = 0
+countsWanted u Scan- = inputs u
+countsWanted u Temp- = groups u
+countsWanted u (Count- n) = 0
+countsWanted u (Sense- v) = 0
+countsWanted u (Load- l) = 0
+countsWanted u (OnBus- b) = 0
+
+-- as many as wanted, and 0 in every place after them
+unfoldable pub countsFit : ℕ → Counts → Bool
+countsFit n k = eqb (k .many) n && within 0 (drop n (k .of))
+
+-- what the code's event means to a chip that stands: an event, or the number 2
+pub data Meant : Type 0 where
+  means : Event → Meant
+  unfit : Meant
+
+abbrev pub eventOf : Setup → Coded → List ℕ → Meant
+eventOf u (Setup- v) xs = unfit
+eventOf u Por- xs = means Por
+eventOf u Boot- xs = means Boot
+eventOf u Pin- xs = means Pin
+eventOf u Xready- xs = means Xready
+eventOf u Scan- xs = means (Scan (take (inputs u) xs))
+eventOf u Temp- xs = means (Temp (take (groups u) xs))
+eventOf u (Count- n) xs = means (Count n)
+eventOf u (Sense- v) xs = means (Sense v)
+eventOf u (Load- l) xs = means (Load l)
+eventOf u (OnBus- b) xs = means (OnBus b)
+
+unfoldable pub meantOf : Setup → Coded → Counts → Meant
+meantOf u e k = cond (countsFit (countsWanted u e) k) (eventOf u e (k .of)) unfit

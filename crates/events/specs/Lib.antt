@@ -1,0 +1,3 @@
+pub mod Setup
+pub mod Event
+pub mod Fault

@@ -1,0 +1,27 @@
+-- Document 01, "The chip that is modelled": the setup, and number 1. Assumes nothing.
+use mathlib.Core.Bool.{Bool, true, false, _&&_, cond}
+use Prim.Native.Nat.{ℕ, _*_}
+use lib.Dec.{eqb, leb, ltb}
+use Rattle.events.specs.declared.Setup.{Setup}
+use Rattle.events.specs.declared.Checked.{Checked}
+use Rattle.events.specs.declared.Checked.the-variants.{Good, Bad}
+
+-- part 1 to 3, CRC 0 or 1, bus address 0x08 to 0x77, gain code 0 to 31, any offset, floor 0 to 4,095
+abbrev pub setupFits : ℕ → ℕ → ℕ → ℕ → ℕ → Bool
+setupFits part crc address gain floor =
+    leb 1 part && leb part 3 && leb crc 1 && leb 0x08 address && leb address 0x77 && leb gain 31 && leb floor 4095
+
+abbrev pub setupOf : ℕ → ℕ → ℕ → ℕ → ℕ → ℕ → Setup
+setupOf part crc address gain offset floor =
+    record { part = part; crc = eqb crc 1; address = address; gain = gain; offset = offset; floor = floor }
+
+unfoldable pub checkedOf : ℕ → ℕ → ℕ → ℕ → ℕ → ℕ → Checked
+checkedOf part crc address gain offset floor =
+    cond (setupFits part crc address gain floor) (Good (setupOf part crc address gain offset floor)) Bad
+
+-- five inputs for part 1, ten for part 2, fifteen for part 3: that many groups of five
+unfoldable pub groups : Setup → ℕ
+groups u = cond (ltb (u .part) 3) (u .part) 3
+
+unfoldable pub inputs : Setup → ℕ
+inputs u = cond (ltb (u .part) 3) (5 * u .part) 15

@@ -1,0 +1,87 @@
+// What the chip is set up with, and what can happen to it.
+ghost use mathlib.Core.Path.{_≡_};
+ghost use Rattle.events.specs.Setup.{setupOf, checkedOf, inputs as inputsSpec, groups as groupsSpec};
+
+pub struct Setup {
+    pub part: u8,
+    pub crc: bool,
+    pub address: u8,
+    pub gain: u8,
+    pub offset: u8,
+    pub floor: u16,
+}
+
+// What the host does on the bus. IN holds whether the host does not acknowledge.
+pub enum BusEvent {
+    Start,
+    Out(u8),
+    In(bool),
+    Stop,
+}
+
+// What happens to the chip. The counts of a SCAN or TEMP stand beside it.
+pub enum Event {
+    Setup(Setup),
+    Por,
+    Boot,
+    Scan,
+    Temp,
+    Count(u16),
+    Sense(i32),
+    Pin,
+    Load(bool),
+    Xready,
+    OnBus(BusEvent),
+}
+
+// How many counts there are, and the counts: input 1 first, 0 from the first place that is not used.
+pub struct Counts {
+    pub many: u8,
+    pub of: [u16; 15],
+}
+
+pub enum Checked {
+    Good(Setup),
+    // Number 1.
+    Bad,
+}
+
+// Six numbers as a setup, where each is in its range.
+pub fn setup_of(part: u8, crc: u8, address: u8, gain: u8, offset: u8, floor: u16) -> Checked
+    ensures { λ r. ⌜ r ≡ checkedOf part crc address gain offset floor ⌝ }
+{
+    let good = (1 <= part)
+        & (part <= 3)
+        & (crc <= 1)
+        & (0x08 <= address)
+        & (address <= 0x77)
+        & (gain <= 31)
+        & (floor <= 4095);
+    if good {
+        return Checked::Good(Setup {
+            part,
+            crc: crc == 1,
+            address,
+            gain,
+            offset,
+            floor,
+        });
+    }
+    Checked::Bad
+}
+
+impl Setup {
+    // How many groups of five inputs the part has: at most three.
+    pub fn groups(self) -> u8
+        ensures { λ r. ⌜ r ≡ groupsSpec self ⌝ }
+    {
+        if self.part < 3 { self.part } else { 3 }
+    }
+
+    // How many cell inputs the part has.
+    pub fn inputs(self) -> u8
+        ensures { λ r. ⌜ r ≡ inputsSpec self ⌝ }
+    {
+        if self.part < 3 { 5 * self.part } else { 15 }
+    }
+}
