@@ -1,0 +1,6 @@
+// Vectors that are run and compared: each line is held against crates/vectors/stdout, which tests/vectors writes from other sources.
+mod crc;
+
+fn main() {
+    crc::run();
+}
