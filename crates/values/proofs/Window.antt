@@ -10,7 +10,7 @@ use lib.Signed.{ltZ, nonNeg}
 use mir.Syntax.{w8, w64}
 use mir.Val.{Fits}
 use borrow.Author.Tests.{lt-ltb, le-ltb, le-leb, lt-leb, ltb-true, ltb-false}
-use Rattle.values.specs.Values.{Said, gives, refuses, inWindow, floor, up, gain, signed8}
+use Rattle.values.specs.Values.{Said, gives, refuses, inWindow, floor, full, up, gain, offsetMicrovolts}
 use Rattle.values.proofs.Within.{Within, abs-neg, lit, times, signed}
 
 up-cond : (P : ℕ → Type 0) (t : Bool) (x y : ℤ) → (T t → P (up x)) → (T (not t) → P (up y)) → P (up (cond t x y))
@@ -74,35 +74,35 @@ not-more (pos m) n e = ltb-false n m e
 not-more (negsuc m) n e = omega arith
 
 -- a full count, below the window, above it and within
-module _ {start full : ℕ} where
-  pub under : full < start → inWindow start (pos full) ≡ refuses 8
-  under h = simp (lt-leb start full h)
+module _ (start last n : ℕ) where
+  pub under : n < start → inWindow start last (pos n) ≡ refuses 8
+  under h = simp (lt-leb start n h)
 
-  pub over : start ≤ full → start + 4096 ≤ full → inWindow start (pos full) ≡ refuses 8
-  over h k = simp (le-leb start full h, le-ltb full (start + 4096) k)
+  pub over : start ≤ n → last < n → inWindow start last (pos n) ≡ refuses 8
+  over h k = simp (le-leb start n h, lt-leb n last k)
 
-  pub inside : start ≤ full → full < start + 4096 → inWindow start (pos full) ≡ gives ((full - start) / 16)
-  inside h k = simp (le-leb start full h, lt-ltb full (start + 4096) k)
+  pub inside : start ≤ n → n ≤ last → inWindow start last (pos n) ≡ gives ((n - start) / 16)
+  inside h k = simp (le-leb start n h, le-leb n last k)
 
 -- what lies far enough below or above is refused, at every gain
-module _ {start g : ℕ} (s : 4096 ≤ start) (s' : start ≤ 8192) (h : 344 ≤ g) (h' : g ≤ 375) where
-  far-below : (z : ℤ) → up z ≤ 1128000 → inWindow start (floor z g) ≡ refuses 8
-  far-below (pos a) k = under (div-lt-iff-lt-mul {k = g} (omega arith) .1 (omega (arith, mul-le-mul s h)))
+module _ {start last g : ℕ} (s : 4096 ≤ start) (s' : start ≤ 8192) (l : last ≤ 12287) (h : 344 ≤ g) (h' : g ≤ 375) where
+  far-below : (z : ℤ) → up z ≤ 1128000 → inWindow start last (floor z g) ≡ refuses 8
+  far-below (pos a) k = under _ _ (a / g) (div-lt-iff-lt-mul {k = g} (omega arith) .1 (omega (arith, mul-le-mul s h)))
   far-below (negsuc a) k = refl
 
-  far-above : (z : ℤ) → 4872000 ≤ up z → inWindow start (floor z g) ≡ refuses 8
+  far-above : (z : ℤ) → 4872000 ≤ up z → inWindow start last (floor z g) ≡ refuses 8
   far-above (pos a) k =
-      let q : start + 4096 ≤ a / g = le-div-iff-mul-le {k = g} (omega arith) .1 (omega (arith, mul-le-mul {n₁ = start + 4096} {n₂ = 12288} (omega arith) h')) in
-      over (omega arith) q
+      let q : 12288 ≤ a / g = le-div-iff-mul-le {k = g} (omega arith) .1 (omega (arith, mul-le-mul {n₁ = 12288} {n₂ = 12288} (omega arith) h')) in
+      over start last (a / g) (omega arith) (omega arith)
   far-above (negsuc a) k = refl
 
 -- the same of a wanted voltage
-pub offset-size : {b : ℕ} → Fits w8 b → natAbs (pos 1000 *ℤ signed8 b) ≤ 128000
+pub offset-size : {b : ℕ} → Fits w8 b → natAbs (offsetMicrovolts b) ≤ 128000
 offset-size f = times (lit 1000) (signed f refl) .size
 
-module _ {start code b : ℕ} (s : 4096 ≤ start) (s' : start ≤ 8192) (h : code < 32) (f : Fits w8 b) (wanted : ℤ) where
-  pub too-low : ltZ wanted (pos 1000000) ≡ true → inWindow start (floor (wanted -ℤ pos 1000 *ℤ signed8 b) (gain code)) ≡ refuses 8
-  too-low e = far-below {g = gain code} s s' (omega arith) (omega arith) (wanted -ℤ pos 1000 *ℤ signed8 b) (omega (arith, less wanted 1000000 e, less-by wanted (pos 1000 *ℤ signed8 b) .0, offset-size f))
+module _ {start last code b : ℕ} (s : 4096 ≤ start) (s' : start ≤ 8192) (l : last ≤ 12287) (h : code < 32) (f : Fits w8 b) (wanted : ℤ) where
+  pub too-low : ltZ wanted (pos 1000000) ≡ true → inWindow start last (full code b wanted) ≡ refuses 8
+  too-low e = far-below {g = gain code} s s' l (omega arith) (omega arith) (wanted -ℤ offsetMicrovolts b) (omega (arith, less wanted 1000000 e, less-by wanted (offsetMicrovolts b) .0, offset-size f))
 
-  pub too-high : ltZ (pos 5000000) wanted ≡ true → inWindow start (floor (wanted -ℤ pos 1000 *ℤ signed8 b) (gain code)) ≡ refuses 8
-  too-high e = far-above {g = gain code} s s' (omega arith) (omega arith) (wanted -ℤ pos 1000 *ℤ signed8 b) (omega (arith, more wanted 5000000 e, less-by wanted (pos 1000 *ℤ signed8 b) .1, offset-size f))
+  pub too-high : ltZ (pos 5000000) wanted ≡ true → inWindow start last (full code b wanted) ≡ refuses 8
+  too-high e = far-above {g = gain code} s s' l (omega arith) (omega arith) (wanted -ℤ offsetMicrovolts b) (omega (arith, more wanted 5000000 e, less-by wanted (offsetMicrovolts b) .1, offset-size f))

@@ -1,14 +1,13 @@
--- The least, the greatest and the total of cell voltages, and the reading made of them. Assumes nothing.
-use Prim.Native.Nat.{ℕ, _<_, _≤_}
+-- Document 01, "Values on the way out", the reading for forecasting: least, greatest and total cell µV, and CC. Assumes nothing.
+use Prim.Native.Nat.{ℕ}
 use mathlib.Core.Bool.{cond}
 use mathlib.Core.List.{List, [], _∷_, map}
 use lib.IntN.{ℤ, pos, _+ℤ_}
-use lib.ListN.{getD}
+use lib.ListN.{getD, take}
 use lib.Signed.{ltZ}
 use Rattle.values.specs.Values.{cellMicrovolts, ccHundredths}
 use Rattle.values.specs.Double.{IsDouble}
 use Rattle.values.specs.declared.Reading.{Reading}
-use Rattle.values.specs.declared.Registers.{Registers}
 
 abbrev pub lesser : ℤ → ℤ → ℤ
 lesser a b = cond (ltZ b a) b a
@@ -24,20 +23,23 @@ fold f z (v ∷ l) = fold f (f z v) l
 abbrev pub voltages : ℕ → ℕ → List ℕ → List ℤ
 voltages code offset counts = map (cellMicrovolts code offset) counts
 
--- the first of some counts' voltages, from which the least and the greatest are sought
+-- the first place's voltage, from which the least and the greatest are sought; with no cell at all both are this
 abbrev pub firstOf : ℕ → ℕ → List ℕ → ℤ
 firstOf code offset counts = cellMicrovolts code offset (getD counts 0 0)
 
--- a reading: each of its doubles is the whole number
-pub record IsReading (code offset : ℕ) (counts : List ℕ) (cc : ℕ) (r : Reading) : Type 0 where
-  pub least : IsDouble (r .least) (fold lesser (firstOf code offset counts) (voltages code offset counts))
-  pub greatest : IsDouble (r .greatest) (fold greater (firstOf code offset counts) (voltages code offset counts))
-  pub total : IsDouble (r .total) (fold _+ℤ_ (pos 0) (voltages code offset counts))
-  pub current : IsDouble (r .cc) (ccHundredths cc)
+-- the least, the greatest and the total of the first `many` places
+abbrev pub leastOf : ℕ → ℕ → ℕ → List ℕ → ℤ
+leastOf code offset many counts = fold lesser (firstOf code offset counts) (voltages code offset (take many counts))
 
--- what a chip's registers always hold
-pub record Held (c : Registers) : Type 0 where
-  pub code : c .code < 32
-  pub some : 0 < c .inputs
-  pub most : c .inputs ≤ 15
-  pub counts : (k : ℕ) → getD (c .cells) k 0 < 16384
+abbrev pub greatestOf : ℕ → ℕ → ℕ → List ℕ → ℤ
+greatestOf code offset many counts = fold greater (firstOf code offset counts) (voltages code offset (take many counts))
+
+abbrev pub totalOf : ℕ → ℕ → ℕ → List ℕ → ℤ
+totalOf code offset many counts = fold _+ℤ_ (pos 0) (voltages code offset (take many counts))
+
+-- a reading: each double equal to the whole number
+pub record IsReading (code offset many : ℕ) (counts : List ℕ) (cc : ℕ) (r : Reading) : Type 0 where
+  pub least : IsDouble (r .least) (leastOf code offset many counts)
+  pub greatest : IsDouble (r .greatest) (greatestOf code offset many counts)
+  pub total : IsDouble (r .total) (totalOf code offset many counts)
+  pub current : IsDouble (r .cc) (ccHundredths cc)

@@ -1,9 +1,9 @@
--- Document 01's worked examples that are marked with a star: one list, and one claim over all of it. Assumes nothing.
+-- Document 01, "Both sides of each line": the cases marked *, one list with a single claim. Assumes nothing.
 use Prim.Native.Nat.{ℕ}
 use mathlib.Core.Path.{_≡_, refl}
 use mathlib.Core.List.{List, [], _∷_, map}
 use lib.IntN.{ℤ, pos, negsuc}
-use Rattle.values.specs.Values.{Said, gives, refuses, cellSaid, ccHundredths, ohmsSaid, thresholdSaid}
+use Rattle.values.specs.Values.{Said, gives, refuses, cellSaid, ccHundredths, ohmsSaid, overSaid, underSaid, thresholdSaid}
 use Rattle.crc8.specs.Crc.{crc}
 
 -- what is asked of the paper. A gain is given by its code: 354 is 344 + 10
@@ -12,7 +12,8 @@ pub data Ask : Type 0 where
   cc : (reading : ℕ) → Ask
   thermistor : (count : ℕ) → Ask
   check : (bytes : List ℕ) → Ask
-  threshold : (start code offset : ℕ) (wanted : ℤ) → Ask
+  over : (code offset : ℕ) (wanted : ℤ) → Ask
+  under : (code offset : ℕ) (wanted : ℤ) → Ask
 
 abbrev pub whole : Said ℕ → Said ℤ
 whole (gives n) = gives (pos n)
@@ -24,7 +25,8 @@ answer (cell code offset count) = cellSaid code offset count
 answer (cc reading) = gives (ccHundredths reading)
 answer (thermistor count) = whole (ohmsSaid count)
 answer (check bytes) = gives (pos (crc bytes))
-answer (threshold start code offset wanted) = whole (thresholdSaid start code offset wanted)
+answer (over code offset wanted) = whole (overSaid code offset wanted)
+answer (under code offset wanted) = whole (underSaid code offset wanted)
 
 -- −n, of an n above 0
 abbrev minus : ℕ → ℤ
@@ -50,8 +52,8 @@ worked =
     ∷ check (0x10 ∷ 0x05 ∷ 0x03 ∷ []) ⇒ gives (pos 0xEA)
     ∷ check (0x03 ∷ []) ⇒ gives (pos 0x09)
     ∷ check (0x11 ∷ 0x00 ∷ []) ⇒ gives (pos 0x42)
-    ∷ threshold 8192 10 30 (pos 4300000) ⇒ gives (pos 0xF1)
-    ∷ threshold 4096 10 30 (pos 2500000) ⇒ gives (pos 0xB4)
+    ∷ over 10 30 (pos 4300000) ⇒ gives (pos 0xF1)
+    ∷ under 10 30 (pos 2500000) ⇒ gives (pos 0xB4)
     ∷ []
 
 pub all-worked : map (λ (w : Worked). answer (w .ask)) worked ≡ map (λ (w : Worked). w .paper) worked

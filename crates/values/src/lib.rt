@@ -1,13 +1,13 @@
+// Document 01, "Values on the way out": exact conversions of what the chip counts.
 ghost use mathlib.Core.Path.{_≡_};
-ghost use Prim.Native.Nat.{ℕ, _^_, _+_, _-_, _*_, _/_, _<_, _≤_};
-ghost use lib.ListN.{length, getD, take};
-ghost use lib.IntN.{natAbs, pos, negsuc, _+ℤ_, _-ℤ_, _*ℤ_};
-ghost use Rattle.values.specs.Values.{signed8, signed16, cellMicrovolts, cellSaid, ccHundredths, ohmsSaid, dieSaid, thresholdSaid, up, floor, gain};
+ghost use Prim.Native.Nat.{_^_, _+_, _≤_, _<_, min};
+ghost use lib.IntN.{natAbs, pos};
+ghost use Rattle.values.specs.Values.{signed8, signed16, cellMicrovolts, cellSaid, ccHundredths, ohmsSaid, dieSaid, full, thresholdSaid, overSaid, underSaid, up};
 ghost use Rattle.values.specs.Double.{IsDouble};
-ghost use Rattle.values.specs.Forecast.{lesser, greater, IsReading, Held};
+ghost use Rattle.values.specs.Forecast.{lesser, greater, IsReading};
 ghost use Rattle.values.specs.Said.{numberOf, saidVoltage, saidOhms, saidDie, saidCode};
 
-// What the chip counts, and what the paper's formula makes of it: two units.
+// Two units: what the chip counts, and what the formula makes of a count.
 pub struct RawCount(pub u16);
 
 pub struct Microvolts(pub i64);
@@ -53,19 +53,27 @@ pub fn number_of(why: Refusal) -> u8
 }
 
 // A byte read as signed.
-pub fn signed_byte(b: u8) -> i64
+fn signed_byte(b: u8) -> i64
     ensures { λ r. ⌜ r ≡ signed8 b ⌝ }
 {
     if b < 128 { b as i64 } else { b as i64 - 256 }
 }
 
+// The formula with nothing refused: no gain code and no count takes an i64 near its ends.
 fn cell(code: u8, offset: u8, count: u16) -> i64
-    requires { ⌜ (code < 32) × (count < 16384) ⌝ }
     ensures { λ r. ⌜ r ≡ cellMicrovolts code offset count ⌝ }
 {
     (344 + code as i64) * (count as i64) + 1000 * signed_byte(offset)
 }
 
+// The same in its unit, for a chip whose setup and counts were judged before.
+pub fn cell_microvolts(code: u8, offset: u8, count: u16) -> Microvolts
+    ensures { λ r. ⌜ r .0 ≡ cellMicrovolts code offset count ⌝ }
+{
+    Microvolts(cell(code, offset, count))
+}
+
+// A cell's voltage on bare numbers, which are judged.
 pub fn cell_voltage(code: u8, offset: u8, count: RawCount) -> CellVoltage
     ensures { λ r. ⌜ saidVoltage r ≡ cellSaid code offset (count .0) ⌝ }
 {
@@ -80,7 +88,7 @@ pub fn cell_voltage(code: u8, offset: u8, count: RawCount) -> CellVoltage
 }
 
 // A 16-bit reading read as signed.
-pub fn signed_word(x: u16) -> i64
+fn signed_word(x: u16) -> i64
     ensures { λ r. ⌜ r ≡ signed16 x ⌝ }
 {
     if x < 32768 {
@@ -90,12 +98,14 @@ pub fn signed_word(x: u16) -> i64
     }
 }
 
+// The coulomb counter's reading in hundredths of a microvolt.
 pub fn cc_hundredths(reading: u16) -> i64
     ensures { λ r. ⌜ r ≡ ccHundredths reading ⌝ }
 {
     signed_word(reading) * 844
 }
 
+// A thermistor's resistance, rounded down: from 9,323 counts up there is none.
 pub fn thermistor_ohms(count: RawCount) -> Resistance
     ensures { λ r. ⌜ saidOhms r ≡ ohmsSaid (count .0) ⌝ }
 {
@@ -107,6 +117,7 @@ pub fn thermistor_ohms(count: RawCount) -> Resistance
     Resistance::Is(10000 * v / (3300000 - v))
 }
 
+// The die's temperature in half thousandths of a degree C.
 pub fn die_temperature(count: RawCount) -> DieTemperature
     ensures { λ r. ⌜ saidDie r ≡ dieSaid (count .0) ⌝ }
 {
@@ -126,7 +137,7 @@ pub struct Reading {
     pub cc: f64,
 }
 
-// A whole number of at most 2 ^ 53 as a double: the cast loses nothing.
+// A whole number of at most 2^53 as a double: the cast loses nothing.
 fn doubled(v: i64) -> f64
     requires { ⌜ natAbs v ≤ 2 ^ 53 ⌝ }
     ensures { λ r. ⌜ IsDouble r v ⌝ }
@@ -146,18 +157,23 @@ fn greater_of(a: i64, b: i64) -> i64
     if a < b { b } else { a }
 }
 
-// The reading of some cells, of which there are 1 to 15.
-pub fn forecast_reading(code: u8, offset: u8, counts: &[u16], cc: u16) -> Reading
-    requires { ⌜ code < 32 ⌝ }
-    requires { ⌜ (0 < length (now counts)) × (length (now counts) ≤ 15) ⌝ }
-    requires { ⌜ ((k : ℕ) → getD (now counts) k 0 < 16384) ⌝ }
-    ensures { λ r. ⌜ IsReading code offset (now (counts .entry)) cc r ⌝ }
+// How many of the fifteen places are cells.
+fn places(many: u8) -> usize
+    ensures { λ r. ⌜ r ≡ min many 15 ⌝ }
 {
+    if many < 15 { many as usize } else { 15 }
+}
+
+// The reading of the first `many` cells.
+pub fn forecast(code: u8, offset: u8, many: u8, counts: [u16; 15], cc: u16) -> Reading
+    ensures { λ r. ⌜ IsReading code offset many counts cc r ⌝ }
+{
+    let n = places(many);
     let mut least = cell(code, offset, counts[0]);
     let mut greatest = least;
     let mut total: i64 = 0;
     let mut i = 0;
-    while i < counts.len() {
+    while i < n {
         let v = cell(code, offset, counts[i]);
         least = lesser_of(least, v);
         greatest = greater_of(greatest, v);
@@ -176,15 +192,16 @@ pub fn forecast_reading(code: u8, offset: u8, counts: &[u16], cc: u16) -> Readin
 fn full_count(code: u8, offset: u8, wanted: i64) -> u64
     requires { ⌜ code < 32 ⌝ }
     requires { ⌜ (1000000 ≤ up wanted) × (up wanted ≤ 5000000) ⌝ }
-    ensures { λ r. ⌜ pos r ≡ floor (wanted -ℤ pos 1000 *ℤ signed8 offset) (gain code) ⌝ }
+    ensures { λ r. ⌜ pos r ≡ full code offset wanted ⌝ }
 {
     (wanted - 1000 * signed_byte(offset)) as u64 / (344 + code as u64)
 }
 
-// The threshold's code for a wanted voltage, in the window of 4,096 counts from start. No gain and offset take a voltage below 1,000,000 or above 5,000,000 to either window.
-fn threshold(start: u64, code: u8, offset: u8, wanted: i64) -> ThresholdCode
+// The threshold's code for a wanted voltage, in the window from start to last. No gain and offset take a voltage below 1,000,000 or above 5,000,000 to either window.
+fn threshold(start: u64, last: u64, code: u8, offset: u8, wanted: i64) -> ThresholdCode
     requires { ⌜ (4096 ≤ start) × (start ≤ 8192) ⌝ }
-    ensures { λ r. ⌜ saidCode r ≡ thresholdSaid start code offset wanted ⌝ }
+    requires { ⌜ (last ≤ start + 4095) × (last ≤ 12287) ⌝ }
+    ensures { λ r. ⌜ saidCode r ≡ thresholdSaid start last code offset wanted ⌝ }
 {
     if code > 31 {
         return ThresholdCode::No(Refusal::GainCode);
@@ -199,40 +216,22 @@ fn threshold(start: u64, code: u8, offset: u8, wanted: i64) -> ThresholdCode
     if full < start {
         return ThresholdCode::No(Refusal::Window);
     }
-    if full >= start + 4096 {
+    if full > last {
         return ThresholdCode::No(Refusal::Window);
     }
     ThresholdCode::Is(((full - start) / 16) as u8)
 }
 
+// The OV_TRIP code for a wanted over-voltage.
 pub fn over_voltage_code(code: u8, offset: u8, wanted: Microvolts) -> ThresholdCode
-    ensures { λ r. ⌜ saidCode r ≡ thresholdSaid 8192 code offset (wanted .0) ⌝ }
+    ensures { λ r. ⌜ saidCode r ≡ overSaid code offset (wanted .0) ⌝ }
 {
-    threshold(8192, code, offset, wanted.0)
+    threshold(8192, 12287, code, offset, wanted.0)
 }
 
+// The UV_TRIP code for a wanted under-voltage.
 pub fn under_voltage_code(code: u8, offset: u8, wanted: Microvolts) -> ThresholdCode
-    ensures { λ r. ⌜ saidCode r ≡ thresholdSaid 4096 code offset (wanted .0) ⌝ }
+    ensures { λ r. ⌜ saidCode r ≡ underSaid code offset (wanted .0) ⌝ }
 {
-    threshold(4096, code, offset, wanted.0)
-}
-
-// What the chip's registers hold of a reading: 5, 10 or 15 counts.
-pub struct Registers {
-    pub code: u8,
-    pub offset: u8,
-    pub inputs: usize,
-    pub cells: [u16; 15],
-    pub cc: u16,
-}
-
-impl Registers {
-    pub fn forecast(self) -> Reading
-        requires { ⌜ Held self ⌝ }
-        ensures { λ r. ⌜ IsReading (self .code) (self .offset) (take (self .inputs) (self .cells)) (self .cc) r ⌝ }
-    {
-        let n = self.inputs;
-        let cells = self.cells;
-        forecast_reading(self.code, self.offset, &cells[..n], self.cc)
-    }
+    threshold(4096, 8191, code, offset, wanted.0)
 }

@@ -11,11 +11,11 @@ use Rattle.values.proofs.cell.Statement.{statement}
 use Rattle.values.proofs.cell.Tie as tie
 
 module _ (c : tie.Start) where
-  factor : Within 375 (pos 344 +ℤ toZ w64 (c .args .code)) (pos (gain (c .args .code)))
-  factor = plus (lit 344) (nat (c .args .code) 31 (omega arith) tt)
+  factor : Within 599 (pos 344 +ℤ toZ w64 (c .args .code)) (pos (gain (c .args .code)))
+  factor = plus (lit 344) (nat (c .args .code) 255 (omega arith) tt)
 
-  product : Within (375 * 16383) (toZ w64 (ofZ w64 (pos 344 +ℤ toZ w64 (c .args .code))) *ℤ toZ w64 (c .args .count)) (pos (gain (c .args .code) * c .args .count))
-  product = times (back tt factor) (nat (c .args .count) 16383 (omega arith) tt)
+  product : Within (599 * 65535) (toZ w64 (ofZ w64 (pos 344 +ℤ toZ w64 (c .args .code))) *ℤ toZ w64 (c .args .count)) (pos (gain (c .args .code) * c .args .count))
+  product = times (back tt factor) (nat (c .args .count) 65535 (omega arith) tt)
 
 offset : (c : tie.After-signed-byte) → Within 128000 (pos 1000 *ℤ toZ w64 (ofZ w64 (c .signed-byte .result))) (pos 1000 *ℤ signed8 (c .before .args .offset))
 offset c = times (lit 1000) (back tt (signed (c .before .fits .offset) (c .signed-byte .ensures)))
