@@ -1,9 +1,7 @@
+-- `Registers::coulombs` meets its contract, by whether CC is counted.
 use borrow.Author.Needs.{needs}
 use Rattle.registers.proofs.Registers.coulombs.Statement.{statement}
 use Rattle.registers.proofs.Registers.coulombs.Tie as tie
-
-counting-requires : tie.Need-counting-requires
-counting-requires c κs = search needs
 
 returns : tie.Need-returns
 returns c = simp (c .before .before .before .before .before .before .before .if1 .taken, c .before .before .counting .ensures)
@@ -12,4 +10,9 @@ returns-2 : tie.Need-returns-2
 returns-2 c = simp (c .if1 .left)
 
 pub coulombs-spec : {M : Type 1} → statement M
-coulombs-spec = tie.close (tie.spec counting-requires returns returns-2)
+coulombs-spec =
+    tie.close
+    (tie.spec
+    (λ c κs. search needs)
+    returns
+    returns-2)
