@@ -109,6 +109,24 @@ told-nothing u here low nack (Checking v s) a o e = refl
 told-nothing u here low nack (Reading s k) a o e = cc
 told-nothing u here low nack (Summing k) a o e = refl
 
+-- the same of any bus; and one that asks for a register asks for the one at its pointer
+pub wants-nothing : (u : Setup) (here low : ℕ) (nack : Bool) (b : Bus) → wanted b ≡ NoRegister → takes u here low nack b ≡ takes u 0 0 nack b
+unfolding wanted
+wants-nothing u here low nack b e = told-nothing u here low nack (b .line .phase) (b .line .pointer) (b .owed) e
+
+wants-in : (p : Phase) (a a′ : ℕ) → wantedIn p a ≡ Register a′ → a ≡ a′
+wants-in Idle a a′ e = cc
+wants-in Address a a′ e = cc
+wants-in (Pointing s) a a′ e = cc
+wants-in (Writing s) a a′ e = cc
+wants-in (Checking v s) a a′ e = cc
+wants-in (Reading s k) a a′ e = cc
+wants-in (Summing k) a a′ e = cc
+
+pub wants-at : (b : Bus) (a : ℕ) → wanted b ≡ Register a → b .line .pointer ≡ a
+unfolding wanted
+wants-at b a e = wants-in (b .line .phase) (b .line .pointer) a e
+
 -- CRC off: the byte after a pair's high byte is the low byte of the same value, whatever the register holds by then
 pub pair-plain : (u : Setup) (s a here low here′ low′ : ℕ) (k n : Bool) (o : Owed) → u .crc ≡ false → isHigh a ≡ true
     → takes u here′ low′ n (takes u here low false (reading s k a o) .bus) .byte ≡ low

@@ -62,7 +62,8 @@ pub struct Taken {
     pub byte: u8,
 }
 
-fn grown(at: u8) -> u8
+// The address after one: 0xFF to 0x00.
+pub fn grown(at: u8) -> u8
     ensures { λ r. ⌜ r ≡ grownSpec at ⌝ }
 {
     ((at as u16 + 1) % 256) as u8

@@ -1,0 +1,25 @@
+-- START: by the mode, what its definition says.
+use Rattle.chip.proofs.Modes.{in-normal, in-sleep}
+use borrow.Author.Tests.{not-true, not-false}
+use Rattle.events.specs.Event.{OnBus}
+use Rattle.events.specs.declared.BusEvent.the-variants.{Start}
+use borrow.Author.Needs.{needs}
+use Rattle.chip.proofs.Chip.start.Statement.{statement}
+use Rattle.chip.proofs.Chip.start.Tie as tie
+
+returns : tie.Need-returns
+returns c = in-sleep (OnBus Start) (c .before .before .before .args .self) (not-true _ (c .before .if1 .taken)) (c .quiet .ensures)
+
+returns-2 : tie.Need-returns-2
+returns-2 c = let b = c .before .before .before .before .before in in-normal (OnBus Start) (b .before .before .args .self) (not-false _ (b .if1 .left)) (simp (c .quiet2 .ensures, c .before .moved .ensures, c .before .before .start .ensures))
+
+pub start-spec : {M : Type 1} → statement M
+start-spec =
+    tie.close
+    (tie.spec
+    (λ c κs. search needs)
+    returns
+    (λ c κs. search needs)
+    (λ c κs. search needs)
+    (λ c κs. search needs)
+    returns-2)

@@ -1,0 +1,32 @@
+-- An event by the mode that the chip is in: what a method shows of its answer in NORMAL, or in SHIP, is what the event does. Assumes nothing.
+use mathlib.Core.Path.{_≡_, refl, sym, _∙_}
+use mathlib.Core.Bool.{Bool, true, false, cond}
+use Rattle.events.specs.Event.{Event, Por}
+use Rattle.chip.specs.declared.Chip.{Chip}
+use Rattle.chip.specs.declared.Stepped.{Stepped}
+use Rattle.chip.specs.Chip.{quiet, inShip, normally, asleep, happened}
+
+pub in-normal : {s : Stepped} (e : Event) (c : Chip) → c .awake ≡ true → s ≡ normally e c → s ≡ happened e c
+unfolding happened
+in-normal e c a h = h ∙ sym (by (c .awake) a)
+  where
+    by : (b : Bool) → b ≡ true → cond b (normally e c) (asleep e c) ≡ normally e c
+    by true q = refl
+    by false q = cc
+
+pub in-sleep : {s : Stepped} (e : Event) (c : Chip) → c .awake ≡ false → s ≡ asleep e c → s ≡ happened e c
+unfolding happened
+in-sleep e c a h = h ∙ sym (by (c .awake) a)
+  where
+    by : (b : Bool) → b ≡ false → cond b (normally e c) (asleep e c) ≡ asleep e c
+    by true q = cc
+    by false q = refl
+
+-- POR does the same in both
+pub in-either : {s : Stepped} (c : Chip) → s ≡ quiet 0 (inShip (c .setup)) → s ≡ happened Por c
+unfolding happened
+in-either c h = h ∙ sym (by (c .awake))
+  where
+    by : (b : Bool) → cond b (normally Por c) (asleep Por c) ≡ quiet 0 (inShip (c .setup))
+    by true = refl
+    by false = refl

@@ -1,0 +1,162 @@
+-- The chip: setup, mode, bus, registers and runs, and what each event does and answers. Document 01, "Numbers given back", "Modes",
+-- "Bus" and "Judging" put together over the rooms below. Assumes nothing.
+use mathlib.Core.Bool.{Bool, true, false, cond}
+use mathlib.Core.List.{List, [], _∷_}
+use Prim.Native.Nat.{ℕ}
+use lib.IntN.{ℤ}
+use Rattle.events.specs.declared.Setup.{Setup}
+use Rattle.events.specs.declared.Counts.{Counts}
+use Rattle.events.specs.declared.BusEvent.{BusEvent}
+use Rattle.events.specs.declared.BusEvent.the-variants.{Start, Stop, Out, In}
+use Rattle.events.specs.declared.Event.{Event as Coded}
+use Rattle.events.specs.Event.{Event, Por, Boot, Pin, Xready, Scan, Temp, Count, Sense, Load, OnBus, fits, Meant, means, unfit, eventOf, meantOf}
+use Rattle.events.specs.Fault.{Fault}
+use Rattle.bus.specs.declared.Line.{Line}
+use Rattle.bus.specs.declared.Bus.{Bus}
+use Rattle.bus.specs.declared.Store.{Store}
+use Rattle.bus.specs.declared.Outed.{Outed}
+use Rattle.bus.specs.declared.Taken.{Taken}
+use Rattle.bus.specs.declared.Store.the-variants.{Nothing, At}
+use Rattle.bus.specs.Bus.{withLine, quietBus, grown, started, stopped, outed, takes}
+use Rattle.settings.specs.declared.Settings.{Settings}
+use Rattle.settings.specs.Write.{ships}
+use Rattle.registers.specs.declared.Registers.{Registers}
+use Rattle.registers.specs.State.{reset, withShown, withLoad}
+use Rattle.registers.specs.Write.{written}
+use Rattle.registers.specs.Read.{readAt}
+use Rattle.registers.specs.Fault.{raised}
+use Rattle.registers.specs.Judging.{scanned, warmed, coulombs, pulled, unready}
+use Rattle.protection.specs.declared.Runs.{Runs}
+use Rattle.protection.specs.Fault.{noRuns}
+use Rattle.protection.specs.Rule.{counted, risen}
+use Rattle.chip.specs.declared.Chip.{Chip}
+use Rattle.chip.specs.declared.Stepped.{Stepped}
+
+-- ── answers: a number, and for an OUT or IN that is done the bus flag and byte ──
+abbrev pub quiet : ℕ → Chip → Stepped
+quiet n c = record { chip = c; number = n; flag = false; byte = 0 }
+
+abbrev pub answered : ℕ → Chip → Stepped
+answered b c = record { chip = c; number = 0; flag = true; byte = b }
+
+-- ── one part put anew ──
+abbrev pub withAwake : Bool → Chip → Chip
+withAwake a c = record { setup = c .setup; awake = a; bus = c .bus; registers = c .registers; runs = c .runs }
+
+abbrev pub withBus : Bus → Chip → Chip
+withBus b c = record { setup = c .setup; awake = c .awake; bus = b; registers = c .registers; runs = c .runs }
+
+abbrev pub withRegisters : Registers → Chip → Chip
+withRegisters r c = record { setup = c .setup; awake = c .awake; bus = c .bus; registers = r; runs = c .runs }
+
+abbrev pub withRuns : Runs → Chip → Chip
+withRuns n c = record { setup = c .setup; awake = c .awake; bus = c .bus; registers = c .registers; runs = n }
+
+-- ── Modes: on entering SHIP every register takes its reset value, all runs end, the bus is idle and its pointer 0 ──
+abbrev pub inShip : Setup → Chip
+inShip u = record { setup = u; awake = false; bus = quietBus; registers = reset; runs = noRuns }
+
+-- ── Judging: the runs go on, and what rises is shown and puts off its drive ──
+abbrev pub judged : Event → Chip → Chip
+judged e c =
+    withRuns (counted (c .setup .floor) (c .registers .settings) (c .runs) e)
+    (withRegisters (withShown (raised (risen (c .setup .floor) (c .registers .settings) (c .runs) e) (c .registers .shown)) (c .registers)) c)
+
+-- ── Bus: an accepted store; the byte that ships is acknowledged, then the bus is idle and the pointer 0 ──
+abbrev pub moved : Line → Chip → Chip
+moved l c = withBus (withLine l (c .bus)) c
+
+abbrev pub accepted : Line → ℕ → ℕ → Chip → Chip
+accepted l a v c = withRegisters (written (c .setup) a v (c .registers)) (moved l c)
+
+unfoldable pub storedAt : Line → ℕ → ℕ → Chip → Chip
+storedAt l a v c = cond (ships a v (c .registers .settings)) (inShip (c .setup)) (accepted l a v c)
+
+abbrev pub stored : Line → Store → Chip → Chip
+stored l Nothing c = moved l c
+stored l (At a v) c = storedAt l a v c
+
+-- 0 acknowledged, 1 not
+abbrev pub nacked : Bool → ℕ
+nacked acked = cond acked 0 1
+
+abbrev pub sent : Outed → Chip → Stepped
+sent o c = answered (nacked (o .acked)) (stored (o .line) (o .store) c)
+
+abbrev pub reads : Chip → ℕ → ℕ
+reads c a = readAt (c .setup) (c .registers) a
+
+abbrev pub handed : Taken → Chip → Stepped
+handed t c = answered (t .byte) (withBus (t .bus) c)
+
+-- the bus is told the register at its pointer and the one after it
+abbrev pub given : Bool → Chip → Taken
+given nack c = takes (c .setup) (reads c (c .bus .line .pointer)) (reads c (grown (c .bus .line .pointer))) nack (c .bus)
+
+abbrev pub fetched : Bool → Chip → Stepped
+fetched nack c = handed (given nack c) c
+
+abbrev pub onBus : BusEvent → Chip → Stepped
+onBus Start c = quiet 0 (moved (started (c .bus .line)) c)
+onBus Stop c = quiet 0 (moved (stopped (c .bus .line)) c)
+onBus (Out b) c = sent (outed (c .setup) (c .bus .line) b) c
+onBus (In nack) c = fetched nack c
+
+-- ── each event in NORMAL, and in SHIP ──
+abbrev pub normally : Event → Chip → Stepped
+normally Por c = quiet 0 (inShip (c .setup))
+normally Boot c = quiet 0 c
+normally Pin c = quiet 0 (withRegisters (pulled (c .registers)) c)
+normally Xready c = quiet 0 (withRegisters (unready (c .registers)) c)
+normally (Scan xs) c = quiet 0 (judged (Scan xs) (withRegisters (scanned xs (c .registers)) c))
+normally (Temp xs) c = quiet 0 (withRegisters (warmed xs (c .registers)) c)
+normally (Count n) c = quiet 0 (withRegisters (coulombs n (c .registers)) c)
+normally (Sense v) c = quiet 0 (judged (Sense v) c)
+normally (Load l) c = quiet 0 (withRegisters (withLoad l (c .registers)) c)
+normally (OnBus b) c = onBus b c
+
+-- bus events are no refusals: the bus stays idle, OUT is not acknowledged and IN gives 0xFF
+abbrev pub busAsleep : BusEvent → Chip → Stepped
+busAsleep Start c = quiet 0 c
+busAsleep Stop c = quiet 0 c
+busAsleep (Out b) c = answered 1 c
+busAsleep (In nack) c = answered 0xFF c
+
+-- number 4: SCAN to XREADY
+abbrev pub asleep : Event → Chip → Stepped
+asleep Por c = quiet 0 (inShip (c .setup))
+asleep Boot c = quiet 0 (withAwake true c)
+asleep Pin c = quiet 4 c
+asleep Xready c = quiet 4 c
+asleep (Scan xs) c = quiet 4 c
+asleep (Temp xs) c = quiet 4 c
+asleep (Count n) c = quiet 4 c
+asleep (Sense v) c = quiet 4 c
+asleep (Load l) c = quiet 4 c
+asleep (OnBus b) c = busAsleep b c
+
+-- an event whose values are in range
+unfoldable pub happened : Event → Chip → Stepped
+happened e c = cond (c .awake) (normally e c) (asleep e c)
+
+-- 3 before 4
+unfoldable pub stepped : Event → Chip → Stepped
+stepped e c = cond (fits e) (happened e c) (quiet 3 c)
+
+abbrev pub next : Event → Chip → Chip
+next e c = stepped e c .chip
+
+-- ── the code's event and the counts beside it: 2 before 3 ──
+abbrev pub steppedAs : Meant → Chip → Stepped
+steppedAs (means e) c = stepped e c
+steppedAs unfit c = quiet 2 c
+
+abbrev pub steppedBy : Coded → Counts → Chip → Stepped
+steppedBy e k c = steppedAs (meantOf (c .setup) e k) c
+
+abbrev pub happenedAs : Meant → Chip → Stepped
+happenedAs (means e) c = happened e c
+happenedAs unfit c = quiet 2 c
+
+abbrev pub happenedBy : Coded → List ℕ → Chip → Stepped
+happenedBy e xs c = happenedAs (eventOf (c .setup) e xs) c
