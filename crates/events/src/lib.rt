@@ -40,6 +40,14 @@ pub struct Counts {
     pub of: [u16; 15],
 }
 
+// One answer for each of the four faults that wait for a delay.
+pub struct Faults {
+    pub ov: bool,
+    pub uv: bool,
+    pub scd: bool,
+    pub ocd: bool,
+}
+
 pub enum Checked {
     Good(Setup),
     // Number 1.

@@ -1,5 +1,6 @@
 // Document 01, "Values on the way out": conversions on grids that have both sides of every line.
 ghost use Rattle.vectors.specs.Number.{IsNumber};
+use libc::STDOUT_FILENO;
 use values::CellVoltage;
 use values::DieTemperature;
 use values::Microvolts;
@@ -112,21 +113,21 @@ const MIXED: [u16; 15] = [
 ];
 
 fn put(n: u64) {
-    io::write_all(1, b" ");
-    io::print_decimal(1, n);
+    io::write_all(STDOUT_FILENO, b" ");
+    io::print_decimal(STDOUT_FILENO, n);
 }
 
 fn put_signed(v: i64) {
     if v < 0 {
-        io::write_all(1, b" -");
-        io::print_decimal(1, (-(v + 1)) as u64 + 1);
+        io::write_all(STDOUT_FILENO, b" -");
+        io::print_decimal(STDOUT_FILENO, (-(v + 1)) as u64 + 1);
     } else {
         put(v as u64);
     }
 }
 
 fn put_refusal(why: Refusal) {
-    io::write_all(1, b" refused");
+    io::write_all(STDOUT_FILENO, b" refused");
     put(values::number_of(why) as u64);
 }
 
@@ -134,16 +135,16 @@ fn put_refusal(why: Refusal) {
 fn put_double(x: f64)
     requires { ⌜ IsNumber x ⌝ }
 {
-    io::write_all(1, b" ");
-    io::print_hex(1, f64::to_bits(x), 16);
+    io::write_all(STDOUT_FILENO, b" ");
+    io::print_hex(STDOUT_FILENO, f64::to_bits(x), 16);
 }
 
 fn cell_line(code: u8, offset: u8, count: u16) {
-    io::write_all(1, b"cell");
+    io::write_all(STDOUT_FILENO, b"cell");
     put(code as u64);
     put(offset as u64);
     put(count as u64);
-    io::write_all(1, b" =");
+    io::write_all(STDOUT_FILENO, b" =");
     let answer = values::cell_voltage(code, offset, RawCount(count));
     match answer {
         CellVoltage::Is(v) => put_signed(v.0),
@@ -151,21 +152,21 @@ fn cell_line(code: u8, offset: u8, count: u16) {
     }
     let plain = values::cell_microvolts(code, offset, count);
     put_signed(plain.0);
-    io::write_all(1, b"\n");
+    io::write_all(STDOUT_FILENO, b"\n");
 }
 
 fn current_line(word: u16) {
-    io::write_all(1, b"cc");
+    io::write_all(STDOUT_FILENO, b"cc");
     put(word as u64);
-    io::write_all(1, b" =");
+    io::write_all(STDOUT_FILENO, b" =");
     put_signed(values::cc_hundredths(word));
-    io::write_all(1, b"\n");
+    io::write_all(STDOUT_FILENO, b"\n");
 }
 
 fn temperature_line(count: u16) {
-    io::write_all(1, b"temperature");
+    io::write_all(STDOUT_FILENO, b"temperature");
     put(count as u64);
-    io::write_all(1, b" =");
+    io::write_all(STDOUT_FILENO, b" =");
     let ohms = values::thermistor_ohms(RawCount(count));
     match ohms {
         Resistance::Is(n) => put(n),
@@ -176,7 +177,7 @@ fn temperature_line(count: u16) {
         DieTemperature::Is(v) => put_signed(v),
         DieTemperature::No(why) => put_refusal(why),
     }
-    io::write_all(1, b"\n");
+    io::write_all(STDOUT_FILENO, b"\n");
 }
 
 fn put_code(code: ThresholdCode) {
@@ -187,29 +188,29 @@ fn put_code(code: ThresholdCode) {
 }
 
 fn threshold_line(code: u8, offset: u8, wanted: i64) {
-    io::write_all(1, b"threshold");
+    io::write_all(STDOUT_FILENO, b"threshold");
     put(code as u64);
     put(offset as u64);
     put_signed(wanted);
-    io::write_all(1, b" =");
+    io::write_all(STDOUT_FILENO, b" =");
     put_code(values::over_voltage_code(code, offset, Microvolts(wanted)));
     put_code(values::under_voltage_code(code, offset, Microvolts(wanted)));
-    io::write_all(1, b"\n");
+    io::write_all(STDOUT_FILENO, b"\n");
 }
 
 fn reading_line(code: u8, offset: u8, many: u8, counts: [u16; 15], cc: u16) {
-    io::write_all(1, b"reading");
+    io::write_all(STDOUT_FILENO, b"reading");
     put(code as u64);
     put(offset as u64);
     put(many as u64);
     put(cc as u64);
-    io::write_all(1, b" =");
+    io::write_all(STDOUT_FILENO, b" =");
     let r = values::forecast(code, offset, many, counts, cc);
     put_double(r.least);
     put_double(r.greatest);
     put_double(r.total);
     put_double(r.cc);
-    io::write_all(1, b"\n");
+    io::write_all(STDOUT_FILENO, b"\n");
 }
 
 fn cells() {

@@ -9,9 +9,6 @@ use Rattle.crc8.specs.Laws.{crcOn-next, crcOn-done}
 use Rattle.crc8.specs.Crc.{crcOn}
 use Rattle.crc8.proofs.crc_on.Statement.{statement}
 use Rattle.crc8.proofs.crc_on.Tie as tie
-use Rattle.crc8.proofs.crc_on.Reads as reads
-use Rattle.crc8.proofs.crc_on.Lts as lts
-use Rattle.crc8.proofs.crc_byte.Reads as crc-byte-reads
 
 abbrev Inv-loop : tie.InvT-loop
 Inv-loop c s x₀ i₀ x i = (i ≤ length s) × (crcOn x (drop i s) ≡ crcOn c s)
@@ -19,34 +16,24 @@ Inv-loop c s x₀ i₀ x i = (i ≤ length s) × (crcOn x (drop i s) ≡ crcOn c
 abbrev μ-loop : tie.MeasureT-loop
 μ-loop c s x₀ i₀ x i = length s - i
 
--- src/lib.rt:37:5
 loop-holds : tie.Need-loop-holds Inv-loop μ-loop
 loop-holds c = (omega arith, refl)
 
--- src/lib.rt:38:25
 shared-slice-read-crc-byte : tie.Need-shared-slice-read-crc-byte Inv-loop μ-loop
 shared-slice-read-crc-byte c = omega arith
 
--- src/lib.rt:38:9
-crc-byte-requires : tie.Need-crc-byte-requires Inv-loop μ-loop
-crc-byte-requires c κs = search needs
-
--- src/lib.rt:39:9
 add-i : tie.Need-add-i Inv-loop μ-loop
 add-i c = omega arith
 
--- src/lib.rt:37:5
 loop-less : tie.Need-loop-less Inv-loop μ-loop
 loop-less c = omega arith
 
--- src/lib.rt:37:5
 loop-again : tie.Need-loop-again Inv-loop μ-loop
 loop-again c =
     let l = c .before .before .before in
     let s = l .before .before .args .s .now in
     (omega arith, ap (λ (x : ℕ). crcOn x (drop (l .loop .i + 1) s)) (c .crc-byte .ensures) ∙ crcOn-next (l .loop .x) s (l .loop .i) (omega arith) ∙ l .loop .inv .1)
 
--- src/lib.rt:32:1
 returns : tie.Need-returns Inv-loop μ-loop
 returns c =
     let l = c .before in
@@ -60,7 +47,7 @@ crc-on-spec =
     μ-loop
     loop-holds
     shared-slice-read-crc-byte
-    crc-byte-requires
+    (λ c κs. search needs)
     add-i
     loop-less
     loop-again

@@ -12,4 +12,8 @@ unfolding checkedOf
 returns-2 c = simp (c .if1 .left)
 
 pub setup-of-spec : {M : Type 1} → statement M
-setup-of-spec = tie.close (tie.spec returns returns-2)
+setup-of-spec =
+    tie.close
+    (tie.spec
+    returns
+    returns-2)

@@ -12,4 +12,8 @@ unfolding groups
 returns-2 c = simp (le-ltb _ _ (c .if1 .left))
 
 pub groups-spec : {M : Type 1} → statement M
-groups-spec = tie.close (tie.spec returns returns-2)
+groups-spec =
+    tie.close
+    (tie.spec
+    returns
+    returns-2)

@@ -4,9 +4,6 @@ use Rattle.events.specs.Setup.{inputs}
 use Rattle.events.proofs.Setup.inputs.Statement.{statement}
 use Rattle.events.proofs.Setup.inputs.Tie as tie
 
-mul-result : tie.Need-mul-result
-mul-result c = search needs
-
 returns : tie.Need-returns
 unfolding inputs
 returns c = simp (lt-ltb _ _ (c .before .if1 .taken))
@@ -16,4 +13,9 @@ unfolding inputs
 returns-2 c = simp (le-ltb _ _ (c .if1 .left))
 
 pub inputs-spec : {M : Type 1} → statement M
-inputs-spec = tie.close (tie.spec mul-result returns returns-2)
+inputs-spec =
+    tie.close
+    (tie.spec
+    (λ c. search needs)
+    returns
+    returns-2)

@@ -1,0 +1,6 @@
+pub mod Streak
+pub mod Fault
+pub mod Rule
+pub mod Sag
+pub mod Judged
+pub mod Tables

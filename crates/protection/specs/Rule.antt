@@ -1,0 +1,126 @@
+-- Document 01, "Judging": the rule of a fault as the settings now have it, the verdict of a scan or tick, and the runs. Assumes nothing.
+use mathlib.Core.Bool.{Bool, true, false, _&&_, cond}
+use mathlib.Core.List.{List, [], _∷_}
+use Prim.Native.Nat.{ℕ, _+_, _*_, _/_, _%_, max}
+use lib.ListN.{getD}
+use lib.Dec.{leb}
+use lib.IntN.{ℤ, pos, negℤ}
+use lib.Signed.{ltZ}
+use Rattle.events.specs.Event.{Event, Por, Boot, Pin, Xready, Scan, Temp, Count, Sense, Load, OnBus}
+use Rattle.events.specs.Fault.{Fault, Ov, Uv, Scd, Ocd}
+use Rattle.settings.specs.declared.Settings.{Settings}
+use Rattle.settings.specs.Bit.{bit}
+use Rattle.scan.specs.Scan.{someAbove, someBetween}
+use Rattle.protection.specs.Streak.{bumps}
+use Rattle.protection.specs.declared.Runs.{Runs}
+use Rattle.protection.specs.Fault.{runOf, runsOf}
+
+-- ── delays: scans needed for OV and UV, ticks for SCD and OCD, and the longest of each, where a run stops ──
+abbrev pub delayTable : Fault → List ℕ
+delayTable Ov = 4 ∷ 8 ∷ 16 ∷ 32 ∷ []
+delayTable Uv = 4 ∷ 16 ∷ 32 ∷ 64 ∷ []
+delayTable Scd = 3 ∷ 4 ∷ 7 ∷ 13 ∷ []
+delayTable Ocd = 256 ∷ 640 ∷ 1280 ∷ 2560 ∷ 5120 ∷ 10240 ∷ 20480 ∷ 40960 ∷ []
+
+abbrev pub longest : List ℕ → ℕ
+longest [] = 0
+longest (x ∷ xs) = max x (longest xs)
+
+abbrev pub cap : Fault → ℕ
+cap k = longest (delayTable k)
+
+-- UV delay 7:6 and OV delay 5:4 of 0x08, SCD delay 4:3 of 0x06, OCD delay 6:4 of 0x07
+abbrev pub delayCode : Fault → Settings → ℕ
+delayCode Ov s = s .protect3 / 16 % 4
+delayCode Uv s = s .protect3 / 64 % 4
+delayCode Scd s = s .protect1 / 8 % 4
+delayCode Ocd s = s .protect2 / 16 % 8
+
+-- with DELAY_DIS, for OV and UV only, one scan
+abbrev pub short : Fault → Settings → Bool
+short Ov s = s .hasty
+short Uv s = s .hasty
+short Scd s = false
+short Ocd s = false
+
+-- ── thresholds in µV, RSNS 0 then 1, code 0 first ──
+abbrev pub scdLimit : Bool → List ℕ
+scdLimit false = 18500 ∷ 29000 ∷ 39000 ∷ 49000 ∷ 59000 ∷ 69500 ∷ 79500 ∷ 91000 ∷ []
+scdLimit true = 37000 ∷ 59000 ∷ 78500 ∷ 98000 ∷ 119000 ∷ 139000 ∷ 159000 ∷ 181500 ∷ []
+
+abbrev pub ocdLimit : Bool → List ℕ
+ocdLimit false = 9500 ∷ 11500 ∷ 14500 ∷ 17500 ∷ 19500 ∷ 22500 ∷ 25000 ∷ 28000 ∷ 31500 ∷ 33000 ∷ 36500 ∷ 40500 ∷ 42000 ∷ 44500 ∷ 46000 ∷ 48000 ∷ []
+ocdLimit true = 18500 ∷ 22500 ∷ 28500 ∷ 34500 ∷ 38500 ∷ 44500 ∷ 49500 ∷ 56500 ∷ 62500 ∷ 65000 ∷ 72500 ∷ 80500 ∷ 83500 ∷ 88500 ∷ 90500 ∷ 94000 ∷ []
+
+abbrev pub limitOf : Fault → Settings → ℕ
+limitOf Ov s = 8200 + 16 * s .overtrip
+limitOf Uv s = 4096 + 16 * s .undertrip
+limitOf Scd s = getD (scdLimit (bit (s .protect1) 128)) (s .protect1 % 8) 0
+limitOf Ocd s = getD (ocdLimit (bit (s .protect1) 128)) (s .protect2 % 16) 0
+
+-- ── the rule: whether it is measured (ADC_EN is the cells' alone), its limit in counts or µV, and the scans or ticks that it takes ──
+pub record Rule : Type 0 where
+  pub on : Bool
+  pub limit : ℕ
+  pub need : ℕ
+
+abbrev pub measuredBy : Fault → Settings → Bool
+measuredBy Ov s = s .adc
+measuredBy Uv s = s .adc
+measuredBy Scd s = true
+measuredBy Ocd s = true
+
+unfoldable pub rule : Fault → Settings → Rule
+rule k s = record { on = measuredBy k s; limit = limitOf k s; need = cond (short k s) 1 (getD (delayTable k) (delayCode k s) 0) }
+
+-- ── verdicts ──
+-- over: some count above the line
+unfoldable pub over : Rule → List ℕ → Bool
+over r xs = r .on && someAbove (r .limit) xs
+
+-- under: some count not below the floor and below the line
+unfoldable pub under : ℕ → Rule → List ℕ → Bool
+under floor r xs = r .on && someBetween floor (r .limit) xs
+
+-- over, of a tick: minus the value exceeds the threshold
+unfoldable pub beyond : Rule → ℤ → Bool
+beyond r v = r .on && ltZ (pos (r .limit)) (negℤ v)
+
+-- what a scan, a tick, an event says of fault k under its rule: one verdict where it judges k, none where it does not
+abbrev pub ofScan : Fault → ℕ → Rule → List ℕ → List Bool
+ofScan Ov floor r xs = over r xs ∷ []
+ofScan Uv floor r xs = under floor r xs ∷ []
+ofScan Scd floor r xs = []
+ofScan Ocd floor r xs = []
+
+abbrev pub ofSense : Fault → Rule → ℤ → List Bool
+ofSense Ov r v = []
+ofSense Uv r v = []
+ofSense Scd r v = beyond r v ∷ []
+ofSense Ocd r v = beyond r v ∷ []
+
+abbrev pub opinion : Fault → ℕ → Rule → Event → List Bool
+opinion k floor r Por = []
+opinion k floor r Boot = []
+opinion k floor r Pin = []
+opinion k floor r Xready = []
+opinion k floor r (Scan xs) = ofScan k floor r xs
+opinion k floor r (Temp xs) = []
+opinion k floor r (Count n) = []
+opinion k floor r (Sense v) = ofSense k r v
+opinion k floor r (Load l) = []
+opinion k floor r (OnBus b) = []
+
+-- ── the runs, and what rises ──
+abbrev pub any : List Bool → Bool
+any [] = false
+any (b ∷ l) = true
+
+abbrev pub runAfter : ℕ → Settings → Runs → Event → Fault → ℕ
+runAfter floor s n e k = bumps (cap k) (opinion k floor (rule k s) e) (runOf k n)
+
+abbrev pub counted : ℕ → Settings → Runs → Event → Runs
+counted floor s n e = runsOf (runAfter floor s n e)
+
+abbrev pub risen : ℕ → Settings → Runs → Event → Fault → Bool
+risen floor s n e k = any (opinion k floor (rule k s) e) && leb (rule k s .need) (runAfter floor s n e k)

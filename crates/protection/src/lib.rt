@@ -1,0 +1,225 @@
+// Limits and delays by register code, the verdict of a tick, and the four runs.
+ghost use mathlib.Core.Path.{_≡_};
+ghost use Prim.Native.Nat.{_%_};
+ghost use lib.ListN.{getD};
+ghost use Rattle.events.specs.Fault.{Ov, Uv, Scd, Ocd};
+ghost use Rattle.settings.specs.Bit.{bit};
+ghost use Rattle.protection.specs.Streak.{bump};
+ghost use Rattle.protection.specs.Fault.{noRuns};
+ghost use Rattle.protection.specs.Rule.{scdLimit, ocdLimit, rule, beyond};
+ghost use Rattle.protection.specs.Judged.{scanJudged, tickJudged};
+ghost use Rattle.protection.specs.Sag.{sag};
+use events::Faults;
+use settings::Settings;
+
+// In µV: RSNS 0 then 1, code 0 first.
+const SCD_LOW: [u32; 8] = [18500, 29000, 39000, 49000, 59000, 69500, 79500, 91000];
+
+const SCD_HIGH: [u32; 8] = [37000, 59000, 78500, 98000, 119000, 139000, 159000, 181500];
+
+const OCD_LOW: [u32; 16] = [
+    9500,
+    11500,
+    14500,
+    17500,
+    19500,
+    22500,
+    25000,
+    28000,
+    31500,
+    33000,
+    36500,
+    40500,
+    42000,
+    44500,
+    46000,
+    48000,
+];
+
+const OCD_HIGH: [u32; 16] = [
+    18500,
+    22500,
+    28500,
+    34500,
+    38500,
+    44500,
+    49500,
+    56500,
+    62500,
+    65000,
+    72500,
+    80500,
+    83500,
+    88500,
+    90500,
+    94000,
+];
+
+// In scans, then in ticks.
+const OV_SCANS: [u16; 4] = [4, 8, 16, 32];
+
+const UV_SCANS: [u16; 4] = [4, 16, 32, 64];
+
+const SCD_TICKS: [u16; 4] = [3, 4, 7, 13];
+
+const OCD_TICKS: [u16; 8] = [256, 640, 1280, 2560, 5120, 10240, 20480, 40960];
+
+// How many scans or ticks in a row were over or under; each stops at its longest delay.
+pub struct Runs {
+    pub ov: u16,
+    pub uv: u16,
+    pub scd: u16,
+    pub ocd: u16,
+}
+
+// The next runs, and the faults that rise.
+pub struct Judged {
+    pub runs: Runs,
+    pub risen: Faults,
+}
+
+// The runs on entering SHIP.
+pub fn no_runs() -> Runs
+    ensures { λ r. ⌜ r ≡ noRuns ⌝ }
+{
+    Runs {
+        ov: 0,
+        uv: 0,
+        scd: 0,
+        ocd: 0,
+    }
+}
+
+// A count above this is over.
+pub fn over_line(s: Settings) -> u16
+    ensures { λ r. ⌜ r ≡ rule Ov s .limit ⌝ }
+{
+    8200 + 16 * s.overtrip as u16
+}
+
+// A count below this, and not below the floor, is under.
+pub fn under_line(s: Settings) -> u16
+    ensures { λ r. ⌜ r ≡ rule Uv s .limit ⌝ }
+{
+    4096 + 16 * s.undertrip as u16
+}
+
+fn scd_limit(protect1: u8) -> u32
+    ensures { λ r. ⌜ r ≡ getD (scdLimit (bit protect1 128)) (protect1 % 8) 0 ⌝ }
+{
+    let code = (protect1 % 8) as usize;
+    if settings::bit(protect1, 128) {
+        SCD_HIGH[code]
+    } else {
+        SCD_LOW[code]
+    }
+}
+
+fn ocd_limit(protect1: u8, protect2: u8) -> u32
+    ensures { λ r. ⌜ r ≡ getD (ocdLimit (bit protect1 128)) (protect2 % 16) 0 ⌝ }
+{
+    let code = (protect2 % 16) as usize;
+    if settings::bit(protect1, 128) {
+        OCD_HIGH[code]
+    } else {
+        OCD_LOW[code]
+    }
+}
+
+fn ov_scans(s: Settings) -> u16
+    ensures { λ r. ⌜ r ≡ rule Ov s .need ⌝ }
+{
+    if s.hasty {
+        return 1;
+    }
+    OV_SCANS[(s.protect3 / 16 % 4) as usize]
+}
+
+fn uv_scans(s: Settings) -> u16
+    ensures { λ r. ⌜ r ≡ rule Uv s .need ⌝ }
+{
+    if s.hasty {
+        return 1;
+    }
+    UV_SCANS[(s.protect3 / 64 % 4) as usize]
+}
+
+fn scd_ticks(s: Settings) -> u16
+    ensures { λ r. ⌜ r ≡ rule Scd s .need ⌝ }
+{
+    SCD_TICKS[(s.protect1 / 8 % 4) as usize]
+}
+
+fn ocd_ticks(s: Settings) -> u16
+    ensures { λ r. ⌜ r ≡ rule Ocd s .need ⌝ }
+{
+    OCD_TICKS[(s.protect2 / 16 % 8) as usize]
+}
+
+// How far a tick's value lies below 0; the least i32 too.
+fn sag_of(value: i32) -> u32
+    ensures { λ r. ⌜ r ≡ sag value ⌝ }
+{
+    if value < 0 {
+        (0 - value as i64) as u32
+    } else {
+        0
+    }
+}
+
+fn beyond_scd(s: Settings, value: i32) -> bool
+    ensures { λ r. ⌜ r ≡ beyond (rule Scd s) value ⌝ }
+{
+    scd_limit(s.protect1) < sag_of(value)
+}
+
+fn beyond_ocd(s: Settings, value: i32) -> bool
+    ensures { λ r. ⌜ r ≡ beyond (rule Ocd s) value ⌝ }
+{
+    ocd_limit(s.protect1, s.protect2) < sag_of(value)
+}
+
+// A run after one more verdict: one longer, up to the longest delay, or ended.
+fn bumped(longest: u16, verdict: bool, run: u16) -> u16
+    ensures { λ r. ⌜ r ≡ bump longest verdict run ⌝ }
+{
+    if verdict {
+        if run < longest { run + 1 } else { longest }
+    } else {
+        0
+    }
+}
+
+impl Runs {
+    // SCAN: whether some count was above the line, and some between the floor and its line.
+    pub fn scanned(self, s: Settings, above: bool, between: bool) -> Judged
+        ensures { λ r. ⌜ r ≡ scanJudged s above between self ⌝ }
+    {
+        let ov = bumped(32, s.adc & above, self.ov);
+        let uv = bumped(64, s.adc & between, self.uv);
+        let risen = Faults {
+            ov: ov_scans(s) <= ov,
+            uv: uv_scans(s) <= uv,
+            scd: false,
+            ocd: false,
+        };
+        let runs = Runs { ov, uv, ..self };
+        Judged { runs, risen }
+    }
+
+    // SENSE: one tick of any value.
+    pub fn sensed(self, s: Settings, value: i32) -> Judged
+        ensures { λ r. ⌜ r ≡ tickJudged s value self ⌝ }
+    {
+        let scd = bumped(13, beyond_scd(s, value), self.scd);
+        let ocd = bumped(40960, beyond_ocd(s, value), self.ocd);
+        let risen = Faults {
+            ov: false,
+            uv: false,
+            scd: scd_ticks(s) <= scd,
+            ocd: ocd_ticks(s) <= ocd,
+        };
+        let runs = Runs { scd, ocd, ..self };
+        Judged { runs, risen }
+    }
+}

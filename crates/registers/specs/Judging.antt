@@ -1,0 +1,56 @@
+-- Document 01, "Judging": what the events of a chip in NORMAL leave in the registers. Assumes nothing.
+use mathlib.Core.Bool.{Bool, _||_, cond}
+use mathlib.Core.List.{List}
+use Prim.Native.Nat.{ℕ, _/_, _%_}
+use Rattle.scan.specs.Scan.{total, padded, cellPlaces, tsPlaces}
+use Rattle.registers.specs.declared.Measured.{Measured}
+use Rattle.registers.specs.declared.Registers.{Registers}
+use Rattle.registers.specs.State.{noBalance, withShown, withBalance, withMeasured, alert}
+use Rattle.registers.specs.Fault.{overridden, readied, counting}
+
+-- ── SCAN with ADC_EN 1: store counts, BAT = sum of counts divided by 4, rounded down ──
+-- BAT is a word of 16 bits: counts up to 16,383 never fill it, and the sum of larger ones is cut to it
+abbrev pub batOf : ℕ → ℕ
+batOf sum = sum / 4 % 65536
+
+abbrev pub cellsKept : List ℕ → ℕ → Measured → Measured
+cellsKept cells sum m = record { cells = cells; bat = batOf sum; ts = m .ts; cc = m .cc }
+
+abbrev pub cellsOf : List ℕ → Measured → Measured
+cellsOf xs m = cellsKept (padded cellPlaces xs) (total xs) m
+
+abbrev pub scanKept : List ℕ → ℕ → Registers → Registers
+scanKept cells sum r = withMeasured (cond (r .settings .adc) (cellsKept cells sum (r .measured)) (r .measured)) r
+
+abbrev pub scanned : List ℕ → Registers → Registers
+scanned xs r = withMeasured (cond (r .settings .adc) (cellsOf xs (r .measured)) (r .measured)) r
+
+-- ── TEMP stores with ADC_EN 1 ──
+abbrev pub tsKept : List ℕ → Measured → Measured
+tsKept ts m = record { cells = m .cells; bat = m .bat; ts = ts; cc = m .cc }
+
+abbrev pub tsOf : List ℕ → Measured → Measured
+tsOf xs m = tsKept (padded tsPlaces xs) m
+
+abbrev pub tempKept : List ℕ → Registers → Registers
+tempKept ts r = withMeasured (cond (r .settings .adc) (tsKept ts (r .measured)) (r .measured)) r
+
+abbrev pub warmed : List ℕ → Registers → Registers
+warmed xs r = withMeasured (cond (r .settings .adc) (tsOf xs (r .measured)) (r .measured)) r
+
+-- ── COUNT with CC_EN or CC_ONESHOT 1 stores CC, raises CC_READY, drops CC_ONESHOT; else nothing ──
+abbrev pub ccOf : ℕ → Measured → Measured
+ccOf n m = record { cells = m .cells; bat = m .bat; ts = m .ts; cc = n }
+
+abbrev pub coulombs : ℕ → Registers → Registers
+coulombs n r =
+    let on : Bool = r .settings .counter || r .shown .oneshot in
+    withShown (cond on (counting (r .shown)) (r .shown)) (withMeasured (cond on (ccOf n (r .measured)) (r .measured)) r)
+
+-- ── PIN raises OVRD_ALERT, only with SYS_STAT 0 ──
+abbrev pub pulled : Registers → Registers
+pulled r = withShown (cond (alert (r .shown .status)) (r .shown) (overridden (r .shown))) r
+
+-- ── XREADY its own bit, and clears all of CELLBAL ──
+abbrev pub unready : Registers → Registers
+unready r = withBalance noBalance (withShown (readied (r .shown)) r)

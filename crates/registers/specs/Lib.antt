@@ -1,0 +1,5 @@
+pub mod State
+pub mod Write
+pub mod Read
+pub mod Fault
+pub mod Judging

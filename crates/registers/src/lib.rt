@@ -1,0 +1,349 @@
+// The registers as a value: what an address reads, what an accepted write does, and what events leave.
+ghost use mathlib.Core.Path.{_≡_};
+ghost use Rattle.events.specs.Fault.{among};
+ghost use Rattle.registers.specs.State.{withStatus, withShown, withLoad, alert as alertSpec, reset as resetSpec};
+ghost use Rattle.registers.specs.Write.{statusOf, without, driven, shownWith, balanceWith, written};
+ghost use Rattle.registers.specs.Fault.{raised as raisedSpec, overridden as overriddenSpec, readied as readiedSpec, counting as countingSpec};
+ghost use Rattle.registers.specs.Judging.{scanKept, tempKept, coulombs as coulombsSpec, pulled as pulledSpec, unready as unreadySpec};
+use events::Faults;
+use events::Setup;
+use settings::Settings;
+
+mod read;
+
+// SYS_STAT, named from bit 7 down.
+pub struct Status {
+    pub ready: bool,
+    pub xready: bool,
+    pub ovrd: bool,
+    pub uv: bool,
+    pub ov: bool,
+    pub scd: bool,
+    pub ocd: bool,
+}
+
+// What faults move too: SYS_STAT, CC_ONESHOT, DSG_ON and CHG_ON.
+pub struct Shown {
+    pub status: Status,
+    pub oneshot: bool,
+    pub dsg: bool,
+    pub chg: bool,
+}
+
+pub struct Balance {
+    pub one: u8,
+    pub two: u8,
+    pub three: u8,
+}
+
+pub struct Measured {
+    pub cells: [u16; 15],
+    pub bat: u16,
+    pub ts: [u16; 3],
+    pub cc: u16,
+}
+
+pub struct Registers {
+    pub settings: Settings,
+    pub shown: Shown,
+    pub balance: Balance,
+    pub measured: Measured,
+    pub load: bool,
+}
+
+impl Status {
+    // ALERT.
+    pub fn alert(self) -> bool
+        ensures { λ r. ⌜ r ≡ alertSpec self ⌝ }
+    {
+        self.ready | self.xready | self.ovrd | self.uv | self.ov | self.scd | self.ocd
+    }
+
+    fn less(self, v: u8) -> Self
+        ensures { λ r. ⌜ r ≡ without (statusOf v) self ⌝ }
+    {
+        Status {
+            ready: self.ready & !settings::bit(v, 128),
+            xready: self.xready & !settings::bit(v, 32),
+            ovrd: self.ovrd & !settings::bit(v, 16),
+            uv: self.uv & !settings::bit(v, 8),
+            ov: self.ov & !settings::bit(v, 4),
+            scd: self.scd & !settings::bit(v, 2),
+            ocd: self.ocd & !settings::bit(v, 1),
+        }
+    }
+}
+
+impl Shown {
+    fn cleared(self, v: u8) -> Self
+        ensures { λ r. ⌜ r ≡ withStatus (without (statusOf v) (self .status)) self ⌝ }
+    {
+        let status = self.status;
+        let status = status.less(v);
+        Shown { status, ..self }
+    }
+
+    fn driven(self, v: u8) -> Self
+        ensures { λ r. ⌜ r ≡ driven v self ⌝ }
+    {
+        let s = self.status;
+        let dsg = settings::bit(v, 2) & !(s.uv | s.ocd | s.scd | s.ovrd | s.xready);
+        let chg = settings::bit(v, 1) & !(s.ov | s.ovrd | s.xready);
+        let oneshot = settings::bit(v, 32) & !settings::bit(v, 64) & !s.ready;
+        Shown {
+            oneshot,
+            dsg,
+            chg,
+            ..self
+        }
+    }
+
+    pub fn write(self, a: u8, v: u8) -> Self
+        ensures { λ r. ⌜ r ≡ shownWith a v self ⌝ }
+    {
+        if a == 0x00 {
+            return self.cleared(v);
+        }
+        if a == 0x05 {
+            return self.driven(v);
+        }
+        self
+    }
+
+    // Each fault that rises puts off its drive.
+    pub fn raised(self, rise: Faults) -> Self
+        ensures { λ r. ⌜ r ≡ raisedSpec (among rise) self ⌝ }
+    {
+        let s = self.status;
+        let status = Status {
+            uv: rise.uv | s.uv,
+            ov: rise.ov | s.ov,
+            scd: rise.scd | s.scd,
+            ocd: rise.ocd | s.ocd,
+            ..s
+        };
+        let dsg = !(rise.uv | rise.scd | rise.ocd) & self.dsg;
+        let chg = !rise.ov & self.chg;
+        Shown {
+            status,
+            dsg,
+            chg,
+            ..self
+        }
+    }
+
+    fn overridden(self) -> Self
+        ensures { λ r. ⌜ r ≡ overriddenSpec self ⌝ }
+    {
+        let s = self.status;
+        let status = Status { ovrd: true, ..s };
+        Shown {
+            status,
+            dsg: false,
+            chg: false,
+            ..self
+        }
+    }
+
+    fn readied(self) -> Self
+        ensures { λ r. ⌜ r ≡ readiedSpec self ⌝ }
+    {
+        let s = self.status;
+        let status = Status { xready: true, ..s };
+        Shown {
+            status,
+            dsg: false,
+            chg: false,
+            ..self
+        }
+    }
+
+    fn counting(self) -> Self
+        ensures { λ r. ⌜ r ≡ countingSpec self ⌝ }
+    {
+        let s = self.status;
+        let status = Status { ready: true, ..s };
+        Shown {
+            status,
+            oneshot: false,
+            ..self
+        }
+    }
+}
+
+impl Balance {
+    pub fn write(self, setup: Setup, a: u8, v: u8) -> Self
+        ensures { λ r. ⌜ r ≡ balanceWith setup a v self ⌝ }
+    {
+        let groups = setup.groups();
+        if (a == 0x01) & (1 <= groups) {
+            return Balance {
+                one: v % 32,
+                ..self
+            };
+        }
+        if (a == 0x02) & (2 <= groups) {
+            return Balance {
+                two: v % 32,
+                ..self
+            };
+        }
+        if (a == 0x03) & (3 <= groups) {
+            return Balance {
+                three: v % 32,
+                ..self
+            };
+        }
+        self
+    }
+}
+
+// The registers on entering SHIP.
+pub fn reset() -> Registers
+    ensures { λ r. ⌜ r ≡ resetSpec ⌝ }
+{
+    let settings = settings::reset();
+    let status = Status {
+        ready: false,
+        xready: false,
+        ovrd: false,
+        uv: false,
+        ov: false,
+        scd: false,
+        ocd: false,
+    };
+    let shown = Shown {
+        status,
+        oneshot: false,
+        dsg: false,
+        chg: false,
+    };
+    let cells = [0; 15];
+    let ts = [0; 3];
+    let measured = Measured {
+        cells,
+        bat: 0,
+        ts,
+        cc: 0,
+    };
+    Registers {
+        settings,
+        shown,
+        balance: Balance {
+            one: 0,
+            two: 0,
+            three: 0,
+        },
+        measured,
+        load: false,
+    }
+}
+
+impl Registers {
+    // The accepted write of `v` at `a`; whether it ships, the settings say before.
+    pub fn write(self, setup: Setup, a: u8, v: u8) -> Self
+        ensures { λ r. ⌜ r ≡ written setup a v self ⌝ }
+    {
+        let settings = self.settings;
+        let settings = settings.write(a, v);
+        let shown = self.shown;
+        let shown = shown.write(a, v);
+        let balance = self.balance;
+        let balance = balance.write(setup, a, v);
+        Registers {
+            settings,
+            shown,
+            balance,
+            ..self
+        }
+    }
+
+    pub fn raised(self, rise: Faults) -> Self
+        ensures { λ r. ⌜ r ≡ withShown (raisedSpec (among rise) (self .shown)) self ⌝ }
+    {
+        let shown = self.shown;
+        let shown = shown.raised(rise);
+        Registers { shown, ..self }
+    }
+
+    // SCAN: the counts in their places, and their sum.
+    pub fn scanned(self, cells: [u16; 15], sum: u32) -> Self
+        ensures { λ r. ⌜ r ≡ scanKept cells sum self ⌝ }
+    {
+        if self.settings.adc {
+            let m = self.measured;
+            let bat = (sum / 4 % 65536) as u16;
+            let measured = Measured { cells, bat, ..m };
+            return Registers { measured, ..self };
+        }
+        self
+    }
+
+    // TEMP: the counts in their places.
+    pub fn warmed(self, ts: [u16; 3]) -> Self
+        ensures { λ r. ⌜ r ≡ tempKept ts self ⌝ }
+    {
+        if self.settings.adc {
+            let m = self.measured;
+            let measured = Measured { ts, ..m };
+            return Registers { measured, ..self };
+        }
+        self
+    }
+
+    // COUNT.
+    pub fn coulombs(self, cc: u16) -> Self
+        ensures { λ r. ⌜ r ≡ coulombsSpec cc self ⌝ }
+    {
+        if self.settings.counter | self.shown.oneshot {
+            let m = self.measured;
+            let measured = Measured { cc, ..m };
+            let shown = self.shown;
+            let shown = shown.counting();
+            return Registers {
+                shown,
+                measured,
+                ..self
+            };
+        }
+        self
+    }
+
+    // PIN.
+    pub fn pulled(self) -> Self
+        ensures { λ r. ⌜ r ≡ pulledSpec self ⌝ }
+    {
+        let shown = self.shown;
+        let status = shown.status;
+        if status.alert() {
+            return self;
+        }
+        let shown = shown.overridden();
+        Registers { shown, ..self }
+    }
+
+    // XREADY.
+    pub fn unready(self) -> Self
+        ensures { λ r. ⌜ r ≡ unreadySpec self ⌝ }
+    {
+        let shown = self.shown;
+        let shown = shown.readied();
+        let balance = Balance {
+            one: 0,
+            two: 0,
+            three: 0,
+        };
+        Registers {
+            shown,
+            balance,
+            ..self
+        }
+    }
+
+    // LOAD.
+    pub fn loaded(self, load: bool) -> Self
+        ensures { λ r. ⌜ r ≡ withLoad load self ⌝ }
+    {
+        Registers { load, ..self }
+    }
+}

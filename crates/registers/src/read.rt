@@ -1,0 +1,162 @@
+// What an address reads.
+ghost use mathlib.Core.Path.{_≡_};
+ghost use Prim.Native.Nat.{_≤_, _<_};
+ghost use Rattle.registers.specs.Read.{statusByte, balanceByte, ctrl1Byte, ctrl2Byte, lowByte, half, cellAt, tsAt, wordAt, fixedByte, readAt};
+use crate::Balance;
+use crate::Measured;
+use crate::Registers;
+use crate::Status;
+use events::Setup;
+
+impl Status {
+    pub fn byte(self) -> u8
+        ensures { λ r. ⌜ r ≡ statusByte self ⌝ }
+    {
+        settings::weigh(self.ready, 128)
+            + settings::weigh(self.xready, 32)
+            + settings::weigh(self.ovrd, 16)
+            + settings::weigh(self.uv, 8)
+            + settings::weigh(self.ov, 4)
+            + settings::weigh(self.scd, 2)
+            + settings::weigh(self.ocd, 1)
+    }
+}
+
+impl Balance {
+    fn byte(self, setup: Setup, a: u8) -> u8
+        ensures { λ r. ⌜ r ≡ balanceByte setup self a ⌝ }
+    {
+        let groups = setup.groups();
+        if (a == 0x01) & (1 <= groups) {
+            return self.one;
+        }
+        if (a == 0x02) & (2 <= groups) {
+            return self.two;
+        }
+        if (a == 0x03) & (3 <= groups) {
+            return self.three;
+        }
+        0
+    }
+}
+
+// The high byte of a word at an even address, the low byte at an odd one.
+fn half_of(a: u8, word: u16) -> u8
+    ensures { λ r. ⌜ r ≡ half a word ⌝ }
+{
+    if a % 2 == 0 {
+        (word / 256) as u8
+    } else {
+        (word % 256) as u8
+    }
+}
+
+impl Measured {
+    fn cell(self, setup: Setup, at: u8) -> u16
+        requires { ⌜ at < 15 ⌝ }
+        ensures { λ r. ⌜ r ≡ cellAt setup self at ⌝ }
+    {
+        if at < setup.inputs() {
+            return self.cells[at as usize];
+        }
+        0
+    }
+
+    fn thermistor(self, setup: Setup, at: u8) -> u16
+        requires { ⌜ at < 3 ⌝ }
+        ensures { λ r. ⌜ r ≡ tsAt setup self at ⌝ }
+    {
+        if at < setup.groups() {
+            return self.ts[at as usize];
+        }
+        0
+    }
+
+    // The word that stands at `a` and its neighbour.
+    fn word(self, setup: Setup, a: u8) -> u16
+        requires { ⌜ 12 ≤ a ⌝ }
+        ensures { λ r. ⌜ r ≡ wordAt setup self a ⌝ }
+    {
+        if a < 0x2A {
+            return self.cell(setup, (a - 0x0C) / 2);
+        }
+        if a < 0x2C {
+            return self.bat;
+        }
+        if a < 0x32 {
+            return self.thermistor(setup, (a - 0x2C) / 2);
+        }
+        self.cc
+    }
+}
+
+fn fixed_byte(setup: Setup, a: u8) -> u8
+    ensures { λ r. ⌜ r ≡ fixedByte setup a ⌝ }
+{
+    match a {
+        0x50 => setup.gain / 8 % 4 * 4,
+        0x51 => setup.offset,
+        0x59 => setup.gain % 8 * 32,
+        _ => 0,
+    }
+}
+
+impl Registers {
+    fn ctrl1(self) -> u8
+        ensures { λ r. ⌜ r ≡ ctrl1Byte self ⌝ }
+    {
+        let s = self.settings;
+        settings::weigh(self.load & !self.shown.chg, 128)
+            + settings::weigh(s.adc, 16)
+            + settings::weigh(s.temp, 8)
+            + settings::weigh(s.held, 1)
+    }
+
+    fn ctrl2(self) -> u8
+        ensures { λ r. ⌜ r ≡ ctrl2Byte self ⌝ }
+    {
+        let s = self.settings;
+        let shown = self.shown;
+        settings::weigh(s.hasty, 128)
+            + settings::weigh(s.counter, 64)
+            + settings::weigh(shown.oneshot, 32)
+            + settings::weigh(shown.dsg, 2)
+            + settings::weigh(shown.chg, 1)
+    }
+
+    fn low_byte(self, setup: Setup, a: u8) -> u8
+        ensures { λ r. ⌜ r ≡ lowByte setup self a ⌝ }
+    {
+        if a == 0x00 {
+            let shown = self.shown;
+            let status = shown.status;
+            return status.byte();
+        }
+        if a == 0x04 {
+            return self.ctrl1();
+        }
+        if a == 0x05 {
+            return self.ctrl2();
+        }
+        if a < 0x04 {
+            let balance = self.balance;
+            return balance.byte(setup, a);
+        }
+        let settings = self.settings;
+        settings.byte(a)
+    }
+
+    // What the host reads at any address.
+    pub fn read(self, setup: Setup, a: u8) -> u8
+        ensures { λ r. ⌜ r ≡ readAt setup self a ⌝ }
+    {
+        if a < 0x0C {
+            return self.low_byte(setup, a);
+        }
+        if a < 0x34 {
+            let measured = self.measured;
+            return half_of(a, measured.word(setup, a));
+        }
+        fixed_byte(setup, a)
+    }
+}

@@ -1,0 +1,15 @@
+-- `Settings::ships` meets its contract, by what `bit` gives.
+use borrow.Author.Needs.{needs}
+use Rattle.settings.proofs.Settings.ships.Statement.{statement}
+use Rattle.settings.proofs.Settings.ships.Tie as tie
+
+returns : tie.Need-returns
+returns c = cc
+
+pub ships-spec : {M : Type 1} → statement M
+ships-spec =
+    tie.close
+    (tie.spec
+    (λ c κs. search needs)
+    (λ c κs. search needs)
+    returns)

@@ -1,0 +1,4 @@
+pub mod Bit
+pub mod State
+pub mod Write
+pub mod Read

@@ -1,0 +1,52 @@
+-- Document 01, "Registers" and "Modes": what an accepted write of v at a leaves of the settings, and whether it ships. Assumes nothing.
+use mathlib.Core.Bool.{Bool, not, _&&_, cond}
+use Prim.Native.Nat.{ℕ, _+_, _*_, _/_, _%_}
+use lib.Dec.{eqb}
+use Rattle.settings.specs.declared.Settings.{Settings}
+use Rattle.settings.specs.Bit.{bit}
+use Rattle.settings.specs.State.{withCtrl1, withCtrl2, withProtect1, withProtect2, withProtect3, withOvTrip, withUvTrip, withCcCfg}
+
+-- ── the pair of SYS_CTRL1: SHUT_A bit 1, SHUT_B bit 0 ──
+abbrev pub shutA : ℕ → Bool
+shutA v = bit v 2
+
+abbrev pub shutB : ℕ → Bool
+shutB v = bit v 1
+
+-- pair (0,1) while (0,0) is held is kept, every other pair leaves (0,0)
+abbrev pub keepsPair : ℕ → Settings → Bool
+keepsPair v s = not (s .held) && not (shutA v) && shutB v
+
+-- pair (1,0) while (0,1) is held enters SHIP
+abbrev pub ships : ℕ → ℕ → Settings → Bool
+ships a v s = eqb a 0x04 && s .held && shutA v && not (shutB v)
+
+-- ── the bits that a register has ──
+-- 0x06: RSNS 7, SCD delay 4:3, SCD threshold 2:0
+abbrev pub protect1Of : ℕ → ℕ
+protect1Of v = v / 128 * 128 + v % 32
+
+-- 0x07: OCD delay 6:4, threshold 3:0
+abbrev pub protect2Of : ℕ → ℕ
+protect2Of v = v % 128
+
+-- 0x08: UV delay 7:6, OV delay 5:4
+abbrev pub protect3Of : ℕ → ℕ
+protect3Of v = v / 16 * 16
+
+-- 0x0B: the low six bits
+abbrev pub cfgOf : ℕ → ℕ
+cfgOf v = v % 64
+
+-- ── the write: every other address leaves them ──
+unfoldable pub settingsWith : ℕ → ℕ → Settings → Settings
+settingsWith a v s =
+    cond (eqb a 0x04) (withCtrl1 (bit v 16) (bit v 8) (keepsPair v s) s)
+    (cond (eqb a 0x05) (withCtrl2 (bit v 128) (bit v 64) s)
+    (cond (eqb a 0x06) (withProtect1 (protect1Of v) s)
+    (cond (eqb a 0x07) (withProtect2 (protect2Of v) s)
+    (cond (eqb a 0x08) (withProtect3 (protect3Of v) s)
+    (cond (eqb a 0x09) (withOvTrip v s)
+    (cond (eqb a 0x0A) (withUvTrip v s)
+    (cond (eqb a 0x0B) (withCcCfg (cfgOf v) s)
+    s)))))))

@@ -1,0 +1,128 @@
+// The settings as a value: what accepted writes alone move.
+ghost use mathlib.Core.Path.{_≡_};
+ghost use Prim.Native.Nat.{_≤_};
+ghost use Rattle.settings.specs.Bit.{bit as bitSpec, weighed};
+ghost use Rattle.settings.specs.State.{resetSettings};
+ghost use Rattle.settings.specs.Write.{ships as shipsSpec, settingsWith};
+ghost use Rattle.settings.specs.Read.{settingsByte};
+
+pub struct Settings {
+    // ADC_EN, TEMP_SEL and whether the pair (0,1) is held.
+    pub adc: bool,
+    pub temp: bool,
+    pub held: bool,
+    // DELAY_DIS and CC_EN.
+    pub hasty: bool,
+    pub counter: bool,
+    pub protect1: u8,
+    pub protect2: u8,
+    pub protect3: u8,
+    // OV_TRIP, UV_TRIP and CC_CFG.
+    pub overtrip: u8,
+    pub undertrip: u8,
+    pub cfg: u8,
+}
+
+// The bit of weight 1, 2, 4, .. of a byte; no byte has a bit of weight 0.
+pub fn bit(v: u8, w: u8) -> bool
+    ensures { λ r. ⌜ r ≡ bitSpec v w ⌝ }
+{
+    if w == 0 {
+        return false;
+    }
+    v / w % 2 == 1
+}
+
+// What a bit of weight `w` adds to its byte.
+pub fn weigh(up: bool, w: u8) -> u8
+    ensures { λ r. ⌜ (r ≡ weighed up w) × (r ≤ w) ⌝ }
+{
+    if up { w } else { 0 }
+}
+
+// The settings on entering SHIP.
+pub fn reset() -> Settings
+    ensures { λ r. ⌜ r ≡ resetSettings ⌝ }
+{
+    Settings {
+        adc: true,
+        temp: false,
+        held: false,
+        hasty: false,
+        counter: false,
+        protect1: 0,
+        protect2: 0,
+        protect3: 0,
+        overtrip: 0xAC,
+        undertrip: 0x97,
+        cfg: 0x17,
+    }
+}
+
+impl Settings {
+    // Whether the accepted write of `v` at `a` ends the shipping sequence.
+    pub fn ships(self, a: u8, v: u8) -> bool
+        ensures { λ r. ⌜ r ≡ shipsSpec a v self ⌝ }
+    {
+        (a == 0x04) & self.held & bit(v, 2) & !bit(v, 1)
+    }
+
+    pub fn write(mut self, a: u8, v: u8) -> Self
+        ensures { λ r. ⌜ r ≡ settingsWith a v self ⌝ }
+    {
+        match a {
+            0x04 => {
+                let held = !self.held & !bit(v, 2) & bit(v, 1);
+                self.adc = bit(v, 16);
+                self.temp = bit(v, 8);
+                self.held = held;
+                self
+            }
+            0x05 => {
+                self.hasty = bit(v, 128);
+                self.counter = bit(v, 64);
+                self
+            }
+            0x06 => Settings {
+                protect1: v / 128 * 128 + v % 32,
+                ..self
+            },
+            0x07 => Settings {
+                protect2: v % 128,
+                ..self
+            },
+            0x08 => Settings {
+                protect3: v / 16 * 16,
+                ..self
+            },
+            0x09 => Settings {
+                overtrip: v,
+                ..self
+            },
+            0x0A => Settings {
+                undertrip: v,
+                ..self
+            },
+            0x0B => Settings {
+                cfg: v % 64,
+                ..self
+            },
+            _ => self,
+        }
+    }
+
+    // The byte of a register that is settings alone, 0x06 to 0x0B.
+    pub fn byte(self, a: u8) -> u8
+        ensures { λ r. ⌜ r ≡ settingsByte self a ⌝ }
+    {
+        match a {
+            0x06 => self.protect1,
+            0x07 => self.protect2,
+            0x08 => self.protect3,
+            0x09 => self.overtrip,
+            0x0A => self.undertrip,
+            0x0B => self.cfg,
+            _ => 0,
+        }
+    }
+}
