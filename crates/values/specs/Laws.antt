@@ -15,7 +15,7 @@ use Rattle.values.specs.Forecast.{fold, lesser, greater, voltages, first
 
 -- ---- signed numbers in order
 
-pick : (t : Bool) (P : ℤ → Type 0) (x y : ℤ) → (T t → P x) → (T (not t) → P y) → P (cond t x y)
+pub pick : (t : Bool) (P : ℤ → Type 0) (x y : ℤ) → (T t → P x) → (T (not t) → P y) → P (cond t x y)
 pick true P x y f g = f tt
 pick false P x y f g = g tt
 

@@ -4,4 +4,5 @@ pub mod Double
 pub mod Forecast
 pub mod Same
 pub mod Laws
+pub mod Rounding
 pub mod Worked

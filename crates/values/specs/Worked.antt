@@ -2,7 +2,7 @@
 use Prim.Native.Nat.{ℕ}
 use mathlib.Core.Path.{_≡_, refl}
 use mathlib.Core.List.{List, [], _∷_, map}
-use lib.IntN.{ℤ, pos, negsuc}
+use lib.IntN.{ℤ, pos, negℤ}
 use Rattle.values.specs.Values.{Said, gives, refuses, cellSaid, ccHundredths, ohmsSaid, overSaid, underSaid, thresholdSaid}
 use Rattle.crc8.specs.Crc.{crc}
 
@@ -30,7 +30,7 @@ answer (under code offset wanted) = whole (underSaid code offset wanted)
 
 -- −n, of an n above 0
 abbrev minus : ℕ → ℤ
-minus n = lib.IntN.negℤ (pos n)
+minus n = negℤ (pos n)
 
 pub record Worked : Type 0 where
   pub ask : Ask

@@ -1,6 +1,8 @@
 // Vectors that are run and compared: each line is held against crates/vectors/stdout, which tests/vectors writes from other sources.
+mod conversions;
 mod crc;
 
 fn main() {
     crc::run();
+    conversions::run();
 }

@@ -15,13 +15,16 @@ returns-2 : tie.Need-returns-2
 unfolding cellSaid
 returns-2 c = simp (le-ltb _ _ (c .before .if1 .left), lt-ltb _ _ (c .if2 .taken))
 
-cell-requires : tie.Need-cell-requires
-cell-requires c κs = search needs
-
 returns-3 : tie.Need-returns-3
 unfolding cellSaid
 returns-3 c =
     simp (le-ltb _ _ (c .before .before .if1 .left), le-ltb _ _ (c .before .if2 .left)) (ap gives (result (c .cell .ok) (c .cell .ensures)))
 
 pub cell-voltage-spec : {M : Type 1} → statement M
-cell-voltage-spec = tie.close (tie.spec returns returns-2 cell-requires returns-3)
+cell-voltage-spec =
+    tie.close
+    (tie.spec
+    returns
+    returns-2
+    (λ c κs. search needs)
+    returns-3)

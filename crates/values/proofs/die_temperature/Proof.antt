@@ -16,9 +16,6 @@ returns : tie.Need-returns
 unfolding dieSaid
 returns c = simp (lt-ltb _ _ (c .if1 .taken))
 
-cast-t5 : tie.Need-cast-t5
-cast-t5 c = search needs
-
 part : (c : tie.Else1) → Within (177 * 16383) (pos 177 *ℤ toZ w64 (c .before .args .count .0)) (pos (177 * c .before .args .count .0))
 part c = times (lit 177) (nat (c .before .args .count .0) 16383 (omega arith) tt)
 
@@ -33,4 +30,11 @@ unfolding dieSaid
 returns-2 c = simp (le-ltb _ _ (c .if1 .left)) (ap gives (back tt (minus (lit 680000) (back tt (part c))) .is))
 
 pub die-temperature-spec : {M : Type 1} → statement M
-die-temperature-spec = tie.close (tie.spec returns cast-t5 mul-t6 sub-t7 returns-2)
+die-temperature-spec =
+    tie.close
+    (tie.spec
+    returns
+    (λ c. search needs)
+    mul-t6
+    sub-t7
+    returns-2)

@@ -15,4 +15,8 @@ returns : tie.Need-returns
 returns c = exact (toZ-ofZ {w = w64} (c .before .fits .v)) (c .before .pre)
 
 pub doubled-spec : {M : Type 1} → statement M
-doubled-spec = tie.close (tie.spec int-to-float-result returns)
+doubled-spec =
+    tie.close
+    (tie.spec
+    int-to-float-result
+    returns)

@@ -23,15 +23,6 @@ Inv-loop code offset many cc counts n least₀ greatest₀ total₀ i₀ least g
 abbrev μ-loop : tie.MeasureT-loop
 μ-loop code offset many cc counts n least₀ greatest₀ total₀ i₀ least greatest total i = n - i
 
-places-requires : tie.Need-places-requires Inv-loop μ-loop
-places-requires c κs = search needs
-
-array-read-cell : tie.Need-array-read-cell Inv-loop μ-loop
-array-read-cell c = search needs
-
-cell-requires : tie.Need-cell-requires Inv-loop μ-loop
-cell-requires c κs = search needs
-
 loop-holds : tie.Need-loop-holds Inv-loop μ-loop
 loop-holds c =
     let start = c .before .before in
@@ -43,15 +34,6 @@ mul-cell c = omega (arith, c .before .before .before .places .ensures)
 
 array-read-cell-2 : tie.Need-array-read-cell-2 Inv-loop μ-loop
 array-read-cell-2 c = omega (arith, c .before .before .before .places .ensures)
-
-cell-requires-2 : tie.Need-cell-requires-2 Inv-loop μ-loop
-cell-requires-2 c κs = search needs
-
-lesser-of-requires : tie.Need-lesser-of-requires Inv-loop μ-loop
-lesser-of-requires c κs = search needs
-
-greater-of-requires : tie.Need-greater-of-requires Inv-loop μ-loop
-greater-of-requires c κs = search needs
 
 -- a turn, at its last call
 module _ (c : tie.After-greater-of Inv-loop μ-loop) where
@@ -102,9 +84,6 @@ doubled-requires-2 c κs = omega arith
 doubled-requires-3 : tie.Need-doubled-requires-3 Inv-loop μ-loop
 doubled-requires-3 c κs = omega (arith, c .before .before .before .before .before .places .ensures)
 
-cc-hundredths-requires : tie.Need-cc-hundredths-requires Inv-loop μ-loop
-cc-hundredths-requires c κs = search needs
-
 hundredths : (c : tie.After-cc-hundredths Inv-loop μ-loop) → Within (32768 * 844) (c .cc-hundredths .result) (ccHundredths (c .before .before .before .before .before .before .before .before .args .cc))
 hundredths c = record { is = c .cc-hundredths .ensures; size = times (signed (c .before .before .before .before .before .before .before .before .fits .cc) refl) (lit 844) .size }
 
@@ -124,6 +103,25 @@ returns c =
 pub forecast-spec : {M : Type 1} → statement M
 forecast-spec =
     tie.close
-    (tie.spec Inv-loop μ-loop places-requires array-read-cell cell-requires loop-holds mul-cell array-read-cell-2 cell-requires-2
-    lesser-of-requires greater-of-requires add-total add-i loop-less loop-again
-    doubled-requires doubled-requires-2 doubled-requires-3 cc-hundredths-requires doubled-requires-4 returns)
+    (tie.spec
+    Inv-loop
+    μ-loop
+    (λ c κs. search needs)
+    (λ c. search needs)
+    (λ c κs. search needs)
+    loop-holds
+    mul-cell
+    array-read-cell-2
+    (λ c κs. search needs)
+    (λ c κs. search needs)
+    (λ c κs. search needs)
+    add-total
+    add-i
+    loop-less
+    loop-again
+    doubled-requires
+    doubled-requires-2
+    doubled-requires-3
+    (λ c κs. search needs)
+    doubled-requires-4
+    returns)

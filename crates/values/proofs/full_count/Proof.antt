@@ -21,9 +21,6 @@ module _ (c : tie.After-signed-byte) where
   above : 0 < up (c .before .args .wanted -ℤ pos 1000 *ℤ signed8 (c .before .args .offset))
   above = omega (arith, less-by (c .before .args .wanted) (pos 1000 *ℤ signed8 (c .before .args .offset)) .1, offset-size (c .before .fits .offset))
 
-signed-byte-requires : tie.Need-signed-byte-requires
-signed-byte-requires c κs = search needs
-
 mul-result : tie.Need-mul-result
 mul-result c = fits tt (offset c)
 
@@ -33,14 +30,17 @@ sub-result c = fits tt (without c)
 cast-result : tie.Need-cast-result
 cast-result c = unsigned (back tt (without c)) (above c) tt
 
-add-result : tie.Need-add-result
-add-result c = search needs
-
-div-result : tie.Need-div-result
-div-result c = search needs
-
 returns : tie.Need-returns
 returns c = divided (back tt (without c)) (above c) (gain (c .before .args .code))
 
 pub full-count-spec : {M : Type 1} → statement M
-full-count-spec = tie.close (tie.spec signed-byte-requires mul-result sub-result cast-result add-result div-result returns)
+full-count-spec =
+    tie.close
+    (tie.spec
+    (λ c κs. search needs)
+    mul-result
+    sub-result
+    cast-result
+    (λ c. search needs)
+    (λ c. search needs)
+    returns)

@@ -12,4 +12,8 @@ returns-2 : tie.Need-returns-2
 returns-2 c = simp (test (c .before .fits .a) (c .before .fits .b) (c .if1 .left)) (toZ-ofZ {w = w64} (c .before .fits .a))
 
 pub greater-of-spec : {M : Type 1} → statement M
-greater-of-spec = tie.close (tie.spec returns returns-2)
+greater-of-spec =
+    tie.close
+    (tie.spec
+    returns
+    returns-2)

@@ -4,12 +4,6 @@ use Rattle.values.proofs.Within.{fits, back, low, high}
 use Rattle.values.proofs.signed_byte.Statement.{statement}
 use Rattle.values.proofs.signed_byte.Tie as tie
 
-cast-result : tie.Need-cast-result
-cast-result c = search needs
-
-cast-result-2 : tie.Need-cast-result-2
-cast-result-2 c = search needs
-
 sub-result : tie.Need-sub-result
 sub-result c = fits tt (high (c .before .fits .b) tt (c .if1 .left))
 
@@ -20,4 +14,11 @@ returns-2 : tie.Need-returns-2
 returns-2 c = back tt (high (c .before .fits .b) tt (c .if1 .left)) .is
 
 pub signed-byte-spec : {M : Type 1} → statement M
-signed-byte-spec = tie.close (tie.spec cast-result cast-result-2 sub-result returns returns-2)
+signed-byte-spec =
+    tie.close
+    (tie.spec
+    (λ c. search needs)
+    (λ c. search needs)
+    sub-result
+    returns
+    returns-2)

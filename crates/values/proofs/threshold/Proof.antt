@@ -53,9 +53,6 @@ unfolding thresholdSaid
 returns-5 c =
     simp (le-ltb _ _ (c .before .before .before .before .before .if1 .left)) (sym (over _ _ _ (c .before .if4 .left) (c .if5 .taken)) ∙ ap (inWindow _ _) (counted (c .before .before)))
 
-cast-t15 : tie.Need-cast-t15
-cast-t15 c = search needs
-
 returns-6 : tie.Need-returns-6
 unfolding thresholdSaid
 returns-6 c =
@@ -63,4 +60,13 @@ returns-6 c =
 
 pub threshold-spec : {M : Type 1} → statement M
 threshold-spec =
-    tie.close (tie.spec returns returns-2 returns-3 full-count-requires returns-4 returns-5 cast-t15 returns-6)
+    tie.close
+    (tie.spec
+    returns
+    returns-2
+    returns-3
+    full-count-requires
+    returns-4
+    returns-5
+    (λ c. search needs)
+    returns-6)

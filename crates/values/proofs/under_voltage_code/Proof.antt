@@ -6,11 +6,12 @@ use Rattle.values.proofs.Within.{result}
 use Rattle.values.proofs.under_voltage_code.Statement.{statement}
 use Rattle.values.proofs.under_voltage_code.Tie as tie
 
-threshold-requires : tie.Need-threshold-requires
-threshold-requires c κs = search needs
-
 returns : tie.Need-returns
 returns c = c .threshold .ensures ∙ ap (underSaid (c .before .before .args .code) (c .before .before .args .offset)) (result (c .before .struct-told .given .0 .1) refl)
 
 pub under-voltage-code-spec : {M : Type 1} → statement M
-under-voltage-code-spec = tie.close (tie.spec threshold-requires returns)
+under-voltage-code-spec =
+    tie.close
+    (tie.spec
+    (λ c κs. search needs)
+    returns)
