@@ -1,10 +1,14 @@
 -- An event by the mode that the chip is in: what a method shows of its answer in NORMAL, or in SHIP, is what the event does. Assumes nothing.
-use mathlib.Core.Path.{_≡_, refl, sym, _∙_}
+use mathlib.Core.Path.{_≡_, refl, sym, ap, _∙_}
 use mathlib.Core.Bool.{Bool, true, false, cond}
-use Rattle.events.specs.Event.{Event, Por}
+use mathlib.Core.List.{List}
+use Prim.Native.Nat.{ℕ}
+use Rattle.events.specs.declared.BusEvent.{BusEvent}
+use Rattle.events.specs.declared.Event.{Event as Coded}
+use Rattle.events.specs.Event.{Event, Por, OnBus}
 use Rattle.chip.specs.declared.Chip.{Chip}
 use Rattle.chip.specs.declared.Stepped.{Stepped}
-use Rattle.chip.specs.Chip.{quiet, inShip, normally, asleep, happened}
+use Rattle.chip.specs.Chip.{quiet, inShip, normally, asleep, happened, happenedBy}
 
 pub in-normal : {s : Stepped} (e : Event) (c : Chip) → c .awake ≡ true → s ≡ normally e c → s ≡ happened e c
 unfolding happened
@@ -30,3 +34,10 @@ in-either c h = h ∙ sym (by (c .awake))
     by : (b : Bool) → cond b (normally Por c) (asleep Por c) ≡ quiet 0 (inShip (c .setup))
     by true = refl
     by false = refl
+
+-- what follows for an event from what follows for the one it was found to be
+pub as-bus : {s : Stepped} {b b′ : BusEvent} (c : Chip) → b ≡ b′ → s ≡ happened (OnBus b′) c → s ≡ happened (OnBus b) c
+as-bus c q h = h ∙ ap (λ (b : BusEvent). happened (OnBus b) c) (sym q)
+
+pub as-event : {s : Stepped} {e e′ : Coded} (xs : List ℕ) (c : Chip) → e ≡ e′ → s ≡ happenedBy e′ xs c → s ≡ happenedBy e xs c
+as-event xs c q h = h ∙ ap (λ (e : Coded). happenedBy e xs c) (sym q)

@@ -4,16 +4,20 @@ ghost use lib.ListN.{take};
 ghost use Rattle.events.specs.Setup.{groups, inputs};
 ghost use Rattle.events.specs.Event.{Por, Boot, Pin, Xready, Scan, Temp, Count, Sense, Load, OnBus};
 ghost use Rattle.events.specs.declared.BusEvent.the-variants.{Start, Out, In, Stop};
-ghost use Rattle.chip.specs.Chip.{quiet as quietSpec, answered as answeredSpec, inShip as inShipSpec, moved as movedSpec, accepted as acceptedSpec, stored as storedSpec, storedAt, nacked as nackedSpec, given as fetchedSpec, happened};
+ghost use Rattle.chip.specs.Chip.{quiet as quietSpec, answered as answeredSpec, inShip as inShipSpec, moved as movedSpec, accepted as acceptedSpec, stored as storedSpec, storedAt, nacked as nackedSpec, given as fetchedSpec, happened, happenedBy};
 ghost use Rattle.bus.specs.Bus.{wanted};
 use bus::Bus;
 use bus::Line;
 use bus::Store;
 use bus::Taken;
 use bus::Want;
+use events::BusEvent;
+use events::Event;
 use events::Setup;
 use protection::Runs;
 use registers::Registers;
+
+mod outward;
 
 pub struct Chip {
     pub setup: Setup,
@@ -319,6 +323,38 @@ impl Chip {
                 bus.take(setup, here, low, nack)
             }
             Want::Nothing => bus.take(setup, 0, 0, nack),
+        }
+    }
+}
+
+// An event of any kind whose values are in range, with the counts beside it. SETUP is none for a chip that stands.
+impl Chip {
+    fn on_bus(self, event: BusEvent) -> Stepped
+        ensures { λ r. ⌜ r ≡ happened (OnBus event) self ⌝ }
+    {
+        match event {
+            BusEvent::Start => self.start(),
+            BusEvent::Out(byte) => self.out(byte),
+            BusEvent::In(nack) => self.take(nack),
+            BusEvent::Stop => self.stop(),
+        }
+    }
+
+    pub fn happen(self, event: Event, counts: [u16; 15]) -> Stepped
+        ensures { λ r. ⌜ r ≡ happenedBy event counts self ⌝ }
+    {
+        match event {
+            Event::Setup(_) => quiet(2, self),
+            Event::Por => self.por(),
+            Event::Boot => self.boot(),
+            Event::Scan => self.scan(counts),
+            Event::Temp => self.temp(counts),
+            Event::Count(cc) => self.count(cc),
+            Event::Sense(value) => self.sense(value),
+            Event::Pin => self.pin(),
+            Event::Load(level) => self.load(level),
+            Event::Xready => self.xready(),
+            Event::OnBus(bus) => self.on_bus(bus),
         }
     }
 }

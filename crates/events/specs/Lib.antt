@@ -1,3 +1,4 @@
 pub mod Setup
 pub mod Event
 pub mod Fault
+pub mod Few

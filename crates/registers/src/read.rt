@@ -52,8 +52,8 @@ fn half_of(a: u8, word: u16) -> u8
 }
 
 impl Measured {
-    fn cell(self, setup: Setup, at: u8) -> u16
-        requires { ⌜ at < 15 ⌝ }
+    // The count of the input after `at` others.
+    pub fn cell(self, setup: Setup, at: u8) -> u16
         ensures { λ r. ⌜ r ≡ cellAt setup self at ⌝ }
     {
         if at < setup.inputs() {

@@ -1,9 +1,13 @@
--- `Measured::cell` meets its contract, by which side of the part's inputs the place is.
+-- `Measured::cell` meets its contract, by which side of the part's inputs the place is; no part has more than fifteen.
 use borrow.Author.Tests.{lt-ltb, le-ltb}
-use mathlib.Core.Path.{_≡_}
+use native.Mathlib.Omega.{arith}
+use Rattle.events.specs.Few.{few-inputs}
 use borrow.Author.Needs.{needs}
 use Rattle.registers.proofs.Measured.cell.Statement.{statement}
 use Rattle.registers.proofs.Measured.cell.Tie as tie
+
+element-copy-out-result : tie.Need-element-copy-out-result
+element-copy-out-result c = omega (arith, c .if1 .taken, c .before .inputs .ensures, few-inputs (c .before .before .args .setup))
 
 returns : tie.Need-returns
 returns c = simp (lt-ltb _ _ (rw (c .before .before .inputs .ensures) at (c .before .if1 .taken)))
@@ -17,6 +21,6 @@ cell-spec =
     (tie.spec
     (λ c κs. search needs)
     (λ c. search needs)
-    (λ c. search needs)
+    element-copy-out-result
     returns
     returns-2)

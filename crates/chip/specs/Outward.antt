@@ -1,0 +1,44 @@
+-- What leaves the chip: the pins, a cell's voltage and forecasting's reading. Document 01, "Numbers given back" (4 and 6) and "Values on
+-- the way out": registers hold bare counts, and the offset enters here and nowhere else. Assumes nothing.
+use mathlib.Core.Path.{_≡_}
+use mathlib.Core.Bool.{Bool, true, false, _&&_, cond}
+use Prim.Native.Nat.{ℕ, _+_, _-_}
+use lib.Dec.{leb}
+use lib.IntN.{ℤ}
+use lib.ListN.{getD}
+use Rattle.events.specs.Setup.{inputs}
+use Rattle.settings.specs.Bit.{weighed}
+use Rattle.registers.specs.State.{alert}
+use Rattle.registers.specs.Read.{cellAt}
+use Rattle.values.specs.Values.{Said, gives, refuses, cellMicrovolts}
+use Rattle.values.specs.Forecast.{IsReading}
+use Rattle.chip.specs.declared.Chip.{Chip}
+use Rattle.chip.specs.declared.outward.CellAnswer.{CellAnswer}
+use Rattle.chip.specs.declared.outward.CellAnswer.the-variants as Cell
+use Rattle.chip.specs.declared.outward.ForecastAnswer.{ForecastAnswer}
+use Rattle.chip.specs.declared.outward.ForecastAnswer.the-variants as Forecast
+
+-- ALERT 4, CHG 2, DSG 1
+abbrev pub pinsOf : Chip → ℕ
+pinsOf c = weighed (alert (c .registers .shown .status)) 4 + weighed (c .registers .shown .chg) 2 + weighed (c .registers .shown .dsg) 1
+
+-- voltages: 4, then 6
+unfoldable pub voltageSaid : ℕ → Chip → Said ℤ
+voltageSaid n c =
+    cond (c .awake)
+    (cond (leb 1 n && leb n (inputs (c .setup)))
+    (gives (cellMicrovolts (c .setup .gain) (c .setup .offset) (cellAt (c .setup) (c .registers .measured) (n - 1))))
+    (refuses 6))
+    (refuses 4)
+
+-- the number and value of each answer
+abbrev pub saidCell : CellAnswer → Said ℤ
+saidCell (Cell.Is v) = gives (v .0)
+saidCell Cell.Asleep = refuses 4
+saidCell Cell.NoCell = refuses 6
+
+-- least, greatest and total cell µV, and CC in hundredths, of the registers; 4 asleep
+abbrev pub Forecasts : Chip → ForecastAnswer → Type 0
+Forecasts c (Forecast.Is r) =
+    (c .awake ≡ true) × IsReading (c .setup .gain) (c .setup .offset) (inputs (c .setup)) (c .registers .measured .cells) (c .registers .measured .cc) r
+Forecasts c Forecast.Asleep = c .awake ≡ false

@@ -1,0 +1,86 @@
+// What leaves the chip: pins, SYS_STAT and, with the offset added once, voltages.
+ghost use mathlib.Core.Path.{_≡_};
+ghost use Rattle.registers.specs.Read.{statusByte};
+ghost use Rattle.chip.specs.Outward.{pinsOf, saidCell, voltageSaid, Forecasts};
+use crate::Chip;
+use values::Microvolts;
+use values::Reading;
+
+pub enum CellAnswer {
+    Is(Microvolts),
+    // Number 4.
+    Asleep,
+    // Number 6.
+    NoCell,
+}
+
+pub enum ForecastAnswer {
+    Is(Reading),
+    // Number 4.
+    Asleep,
+}
+
+impl Chip {
+    // SYS_STAT.
+    pub fn status(self) -> u8
+        ensures { λ r. ⌜ r ≡ statusByte (self .registers .shown .status) ⌝ }
+    {
+        let registers = self.registers;
+        let shown = registers.shown;
+        let status = shown.status;
+        status.byte()
+    }
+
+    // ALERT 4, CHG 2, DSG 1.
+    pub fn pins(self) -> u8
+        ensures { λ r. ⌜ r ≡ pinsOf self ⌝ }
+    {
+        let registers = self.registers;
+        let shown = registers.shown;
+        let status = shown.status;
+        settings::weigh(status.alert(), 4)
+            + settings::weigh(shown.chg, 2)
+            + settings::weigh(shown.dsg, 1)
+    }
+
+    // The voltage of a cell, 1 to as many as the part has inputs.
+    pub fn voltage(self, cell: u8) -> CellAnswer
+        ensures { λ r. ⌜ saidCell r ≡ voltageSaid cell self ⌝ }
+    {
+        if !self.awake {
+            return CellAnswer::Asleep;
+        }
+        let setup = self.setup;
+        let inputs = setup.inputs();
+        if cell < 1 {
+            return CellAnswer::NoCell;
+        }
+        if inputs < cell {
+            return CellAnswer::NoCell;
+        }
+        let registers = self.registers;
+        let measured = registers.measured;
+        let count = measured.cell(setup, cell - 1);
+        CellAnswer::Is(values::cell_microvolts(setup.gain, setup.offset, count))
+    }
+
+    // Forecasting's reading.
+    pub fn forecast(self) -> ForecastAnswer
+        ensures { λ r. ⌜ Forecasts self r ⌝ }
+    {
+        if !self.awake {
+            return ForecastAnswer::Asleep;
+        }
+        let setup = self.setup;
+        let registers = self.registers;
+        let measured = registers.measured;
+        let cells = measured.cells;
+        ForecastAnswer::Is(values::forecast(
+            setup.gain,
+            setup.offset,
+            setup.inputs(),
+            cells,
+            measured.cc,
+        ))
+    }
+}
