@@ -1,6 +1,5 @@
 -- `Measured::cell` meets its contract, by which side of the part's inputs the place is.
 use borrow.Author.Tests.{lt-ltb, le-ltb}
-use mathlib.Core.Path.{_≡_}
 use borrow.Author.Needs.{needs}
 use Rattle.registers.proofs.Measured.cell.Statement.{statement}
 use Rattle.registers.proofs.Measured.cell.Tie as tie
