@@ -6,7 +6,6 @@ use mathlib.Core.List.{List}
 use Prim.Native.Nat.{ℕ}
 use lib.Dec.{leb}
 use lib.IntN.{ℤ}
-use Rattle.events.specs.declared.Faults.{Faults}
 use Rattle.events.specs.Event.{Event, Scan, Sense}
 use Rattle.events.specs.Fault.{Fault, Ov, Uv, Scd, Ocd, faultsOf}
 use Rattle.settings.specs.declared.Settings.{Settings}

@@ -1,5 +1,5 @@
 -- How far a tick's value lies below 0, and that it lies further than a threshold where minus the value exceeds it. Assumes nothing.
-use mathlib.Core.Path.{_≡_, refl, sym}
+use mathlib.Core.Path.{_≡_, refl}
 use Prim.Native.Nat.{ℕ, zero, suc}
 use native.Mathlib.Omega.{arith}
 use lib.Dec.{ltb}

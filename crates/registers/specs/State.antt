@@ -1,6 +1,5 @@
 -- Document 01, "Registers": what they hold, by who may move it. Assumes nothing.
-use mathlib.Core.Bool.{Bool, true, false, _||_}
-use Prim.Native.Nat.{ℕ}
+use mathlib.Core.Bool.{Bool, false, _||_}
 use lib.ListN.{replicate}
 use Rattle.settings.specs.declared.Settings.{Settings}
 use Rattle.settings.specs.State.{resetSettings}

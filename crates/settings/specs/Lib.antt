@@ -2,3 +2,4 @@ pub mod Bit
 pub mod State
 pub mod Write
 pub mod Read
+pub mod Laws

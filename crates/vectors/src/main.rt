@@ -1,8 +1,10 @@
 // Vectors that are run and compared: each line is held against crates/vectors/stdout, which tests/vectors writes from other sources.
 mod conversions;
 mod crc;
+mod rooms;
 
 fn main() {
     crc::run();
     conversions::run();
+    rooms::run();
 }

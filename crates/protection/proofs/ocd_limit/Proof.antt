@@ -1,5 +1,5 @@
 -- `ocd_limit` meets its contract, by RSNS.
-use mathlib.Core.Path.{_≡_, sym, _∙_}
+use mathlib.Core.Path.{sym, _∙_}
 use borrow.Author.Needs.{needs}
 use Rattle.protection.proofs.ocd_limit.Statement.{statement}
 use Rattle.protection.proofs.ocd_limit.Tie as tie

@@ -1,5 +1,5 @@
 -- `scd_limit` meets its contract, by RSNS.
-use mathlib.Core.Path.{_≡_, sym, _∙_}
+use mathlib.Core.Path.{sym, _∙_}
 use borrow.Author.Needs.{needs}
 use Rattle.protection.proofs.scd_limit.Statement.{statement}
 use Rattle.protection.proofs.scd_limit.Tie as tie

@@ -1,6 +1,6 @@
 -- `look` meets its contract: each turn takes one count more into the places, the sum and both verdicts.
 use Prim.Native.Nat.{ℕ, _≤_, _<_, _-_, _*_, min}
-use mathlib.Core.Path.{_≡_, refl, sym, ap, _∙_}
+use mathlib.Core.Path.{_≡_, refl, ap, _∙_}
 use mathlib.Core.Bool.{Bool}
 use mathlib.Core.List.{List}
 use native.Mathlib.Omega.{arith}

@@ -1,6 +1,5 @@
 -- `Measured::thermistor` meets its contract, by which side of the part's groups the place is.
 use borrow.Author.Tests.{lt-ltb, le-ltb}
-use mathlib.Core.Path.{_≡_}
 use borrow.Author.Needs.{needs}
 use Rattle.registers.proofs.Measured.thermistor.Statement.{statement}
 use Rattle.registers.proofs.Measured.thermistor.Tie as tie

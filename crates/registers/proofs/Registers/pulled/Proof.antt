@@ -1,5 +1,5 @@
 -- `Registers::pulled` meets its contract, by whether ALERT is up.
-use mathlib.Core.Path.{_≡_, sym, _∙_}
+use mathlib.Core.Path.{sym, _∙_}
 use borrow.Author.Needs.{needs}
 use Rattle.registers.proofs.Registers.pulled.Statement.{statement}
 use Rattle.registers.proofs.Registers.pulled.Tie as tie

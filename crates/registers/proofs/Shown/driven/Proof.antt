@@ -4,7 +4,7 @@ use Rattle.registers.proofs.Shown.driven.Statement.{statement}
 use Rattle.registers.proofs.Shown.driven.Tie as tie
 
 returns : tie.Need-returns
-returns c = cc
+returns c = simp (c .before .before .bit4 .ensures, c .before .before .before .bit3 .ensures, c .before .before .before .before .before .before .bit2 .ensures, c .before .before .before .before .before .before .before .before .before .before .before .bit .ensures)
 
 pub driven-spec : {M : Type 1} → statement M
 driven-spec =

@@ -4,7 +4,7 @@ use Rattle.settings.proofs.Settings.ships.Statement.{statement}
 use Rattle.settings.proofs.Settings.ships.Tie as tie
 
 returns : tie.Need-returns
-returns c = cc
+returns c = simp (c .bit2 .ensures, c .before .bit .ensures)
 
 pub ships-spec : {M : Type 1} → statement M
 ships-spec =

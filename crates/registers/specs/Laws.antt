@@ -1,0 +1,109 @@
+-- Document 01, "Registers": laws of reading and writing, for every value of the registers. Assumes nothing.
+use mathlib.Core.Path.{_≡_, refl}
+use mathlib.Core.Bool.{Bool, true, false, not, _&&_, cond}
+use Prim.Native.Nat.{ℕ, _+_, _*_, _-_, _/_, _%_, _<_, _≤_}
+use native.Mathlib.Omega.{arith}
+use lib.Dec.{eqb, leb}
+use borrow.Author.Tests.{eqb-true, ne-eqb, lt-ltb, le-ltb, le-leb, lt-leb}
+use Rattle.events.specs.declared.Setup.{Setup}
+use Rattle.events.specs.Setup.{groups, inputs}
+use Rattle.settings.specs.Write.{protect1Of, protect2Of, protect3Of, cfgOf, settingsWith}
+use Rattle.settings.specs.Read.{settingsByte}
+use Rattle.registers.specs.declared.Balance.{Balance}
+use Rattle.registers.specs.declared.Registers.{Registers}
+use Rattle.registers.specs.Write.{statusOf, without, fiveOf, shownWith, balanceWith, written}
+use Rattle.registers.specs.Read.{statusByte, balanceByte, lowByte, half, wordAt, fixedByte, readAt}
+
+-- ── writes to unnamed and read-only addresses change nothing ──
+pub read-only : (u : Setup) (a v : ℕ) (r : Registers) → 0x0B < a → written u a v r ≡ r
+unfolding settingsWith shownWith balanceWith
+read-only u a v r h =
+    simp (differs 0x00 (omega arith), differs 0x01 (omega arith), differs 0x02 (omega arith), differs 0x03 (omega arith), differs 0x04 (omega arith), differs 0x05 (omega arith), differs 0x06 (omega arith), differs 0x07 (omega arith), differs 0x08 (omega arith), differs 0x09 (omega arith), differs 0x0A (omega arith), differs 0x0B (omega arith))
+  where
+    differs : (n : ℕ) → n ≤ 0x0B → eqb a n ≡ false
+    differs n k = ne-eqb a n (λ e. omega arith)
+
+-- ── a part lacks the CELLBAL registers past its groups: they keep nothing and read 0 ──
+and-lacks : (a n g : ℕ) → g < a → (eqb a n && leb n g) ≡ false
+and-lacks a n g h = by (eqb a n) refl
+  where
+    by : (t : Bool) → eqb a n ≡ t → (t && leb n g) ≡ false
+    by true e = lt-leb n g (omega (arith, eqb-true a n e))
+    by false e = refl
+
+pub lacks-balance : (u : Setup) (a v : ℕ) (b : Balance) → groups u < a → balanceWith u a v b ≡ b
+unfolding balanceWith
+lacks-balance u a v b h = simp (and-lacks a 0x01 (groups u) h, and-lacks a 0x02 (groups u) h, and-lacks a 0x03 (groups u) h)
+
+pub lacks-balance-byte : (u : Setup) (b : Balance) (a : ℕ) → groups u < a → balanceByte u b a ≡ 0
+unfolding balanceByte
+lacks-balance-byte u b a h = simp (and-lacks a 0x01 (groups u) h, and-lacks a 0x02 (groups u) h, and-lacks a 0x03 (groups u) h)
+
+-- ── what the part lacks, and what has no name, reads 0, whatever the registers hold ──
+half-none : (a : ℕ) → half a 0 ≡ 0
+unfolding half
+half-none a = by (eqb (a % 2) 0)
+  where
+    by : (t : Bool) → _≡_ {A = ℕ} (cond t 0 0) 0
+    by true = refl
+    by false = refl
+
+pub lacks-five : (u : Setup) (r : Registers) (a : ℕ) → groups u < a → a < 0x04 → readAt u r a ≡ 0
+unfolding readAt lowByte
+lacks-five u r a h k =
+    simp (lt-ltb a 0x0C (omega arith), ne-eqb a 0x00 (λ e. omega arith), ne-eqb a 0x04 (λ e. omega arith), ne-eqb a 0x05 (λ e. omega arith), lt-ltb a 0x04 k, lacks-balance-byte u (r .balance) a h)
+
+pub lacks-cell : (u : Setup) (r : Registers) (a : ℕ) → 0x0C + 2 * inputs u ≤ a → a < 0x2A → readAt u r a ≡ 0
+unfolding readAt wordAt
+lacks-cell u r a h k =
+    simp (le-ltb a 0x0C (omega arith), lt-ltb a 0x34 (omega arith), lt-ltb a 0x2A k, le-ltb ((a - 0x0C) / 2) (inputs u) (omega arith), half-none)
+
+pub lacks-thermistor : (u : Setup) (r : Registers) (a : ℕ) → 0x2C + 2 * groups u ≤ a → a < 0x32 → readAt u r a ≡ 0
+unfolding readAt wordAt
+lacks-thermistor u r a h k =
+    simp (le-ltb a 0x0C (omega arith), lt-ltb a 0x34 (omega arith), le-ltb a 0x2A (omega arith), le-ltb a 0x2C (omega arith), lt-ltb a 0x32 k, le-ltb ((a - 0x2C) / 2) (groups u) (omega arith), half-none)
+
+pub unnamed : (u : Setup) (r : Registers) (a : ℕ) → 0x34 ≤ a → (a ≡ 0x50 → ⊥) → (a ≡ 0x51 → ⊥) → (a ≡ 0x59 → ⊥) → readAt u r a ≡ 0
+unfolding readAt fixedByte
+unnamed u r a h p q s = simp (le-ltb a 0x0C (omega arith), le-ltb a 0x34 h, ne-eqb a 0x50 p, ne-eqb a 0x51 q, ne-eqb a 0x59 s)
+
+-- ── no read depends on the offset, but 0x51 itself ──
+abbrev pub withOffset : ℕ → Setup → Setup
+withOffset o u = record { part = u .part; crc = u .crc; address = u .address; gain = u .gain; offset = o; floor = u .floor }
+
+pub offset-alone : (o : ℕ) (u : Setup) (r : Registers) (a : ℕ) → (a ≡ 0x51 → ⊥) → readAt (withOffset o u) r a ≡ readAt u r a
+unfolding readAt lowByte balanceByte wordAt fixedByte groups inputs
+offset-alone o u r a h = simp (ne-eqb a 0x51 h)
+
+pub offset-shows : (u : Setup) (r : Registers) → readAt u r 0x51 ≡ u .offset
+unfolding readAt fixedByte
+offset-shows u r = refl
+
+-- ── read back: a plain register holds the bits that it has of the byte written ──
+pub data Plain (u : Setup) : ℕ → (ℕ → ℕ) → Type 0 where
+  cellbal1 : 1 ≤ groups u → Plain u 0x01 fiveOf
+  cellbal2 : 2 ≤ groups u → Plain u 0x02 fiveOf
+  cellbal3 : 3 ≤ groups u → Plain u 0x03 fiveOf
+  protect1 : Plain u 0x06 protect1Of
+  protect2 : Plain u 0x07 protect2Of
+  protect3 : Plain u 0x08 protect3Of
+  ovTrip : Plain u 0x09 (λ v. v)
+  uvTrip : Plain u 0x0A (λ v. v)
+  ccCfg : Plain u 0x0B cfgOf
+
+pub plain-back : {u : Setup} {a : ℕ} {bits : ℕ → ℕ} → Plain u a bits → (v : ℕ) (r : Registers) → readAt u (written u a v r) a ≡ bits v
+unfolding readAt lowByte balanceByte balanceWith settingsByte settingsWith
+plain-back {u} (cellbal1 h) v r = simp (le-leb 1 (groups u) h)
+plain-back {u} (cellbal2 h) v r = simp (le-leb 2 (groups u) h)
+plain-back {u} (cellbal3 h) v r = simp (le-leb 3 (groups u) h)
+plain-back protect1 v r = refl
+plain-back protect2 v r = refl
+plain-back protect3 v r = refl
+plain-back ovTrip v r = refl
+plain-back uvTrip v r = refl
+plain-back ccCfg v r = refl
+
+-- and SYS_STAT holds what the ones written did not clear
+pub status-back : (u : Setup) (v : ℕ) (r : Registers) → readAt u (written u 0x00 v r) 0x00 ≡ statusByte (without (statusOf v) (r .shown .status))
+unfolding readAt lowByte shownWith
+status-back u v r = refl
