@@ -1019,6 +1019,13 @@ fn damage(rng: &mut Rng, bytes: &mut [u8]) {
     }
 }
 
+/// Bytes whose CRC is asked, and what it goes on from; the length is the number.
+pub fn message(seed: u64, number: u64) -> (u8, Vec<u8>) {
+    let mut rng = Rng::new(!seed, number);
+    let start = if rng.once_in(2) { 0 } else { rng.byte() };
+    (start, (0..number).map(|_| rng.byte()).collect())
+}
+
 /// How many streams go by before the kinds of streams begin again.
 const ROUND: u64 = 80;
 

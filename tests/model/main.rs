@@ -99,6 +99,13 @@ fn generate(options: &Options) -> std::io::Result<()> {
         to.write_all(&[asked.number])?;
         to.write_all(&asked.value.to_le_bytes())?;
     }
+    for number in 0..300 {
+        let (start, bytes) = generate::message(options.seed, number);
+        to.write_all(&[b'K', start])?;
+        to.write_all(&(bytes.len() as u64).to_le_bytes())?;
+        to.write_all(&bytes)?;
+        to.write_all(&[values::crc(start, &bytes)])?;
+    }
     to.write_all(b"E")?;
     to.flush()
 }
