@@ -622,11 +622,14 @@ impl Chip {
         if !self.awake {
             return 0xFF;
         }
-        let Bus::Read { before, low, owed } = self.bus.clone() else {
-            if !acknowledged && self.planted(Plant::InOutsideReadIdles) {
-                self.bus = Bus::Idle;
+        let (before, low, owed) = match self.bus.clone() {
+            Bus::Read { before, low, owed } => (before, low, owed),
+            _ => {
+                if !acknowledged && self.planted(Plant::InOutsideReadIdles) {
+                    self.bus = Bus::Idle;
+                }
+                return 0xFF;
             }
-            return 0xFF;
         };
         let given;
         if let Some((sum, at)) = owed {

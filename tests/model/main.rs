@@ -22,7 +22,7 @@ struct Options {
 fn options(words: &[String]) -> Result<Options, String> {
     let mut options = Options { seed: 1, streams: 320, first: 0 };
     for two in words.chunks(2) {
-        let [name, value] = two else { return Err(USAGE.to_string()) };
+        let (name, value) = (&two[0], two.get(1).ok_or(USAGE)?);
         let value = value.parse().map_err(|_| format!("model: {name} wants a number, not {value}"))?;
         match name.as_str() {
             "--seed" => options.seed = value,
@@ -129,7 +129,7 @@ fn play(words: &[String]) -> Result<String, String> {
 }
 
 fn run(words: &[String]) -> Result<(), String> {
-    let Some((mode, rest)) = words.split_first() else { return Err(USAGE.to_string()) };
+    let (mode, rest) = words.split_first().ok_or(USAGE)?;
     match mode.as_str() {
         "cases" => println!("model: {} cases of document 01 hold", cases::check()),
         "plants" => println!("{}", plants(&options(rest)?)?),

@@ -92,7 +92,7 @@ impl Session {
             Some(_) => 4 + usize::from(word(rest, 0)) <= rest.len(),
             None => false,
         };
-        let unknown = kind.is_some_and(|kind| kind != 0 && length_of(kind, 1).is_none());
+        let unknown = kind.map_or(false, |kind| kind != 0 && length_of(kind, 1).is_none());
         if !whole && !(self.plant == Plant::CutAfterKind && unknown) {
             self.ended = true;
             let blank = self.plant == Plant::CutEntryBlank;
@@ -134,7 +134,7 @@ impl Session {
             self.chip = Some(Chip::new(setup, plant));
             return Ok(None);
         }
-        let Some(chip) = self.chip.as_mut() else { return Err(2) };
+        let chip = self.chip.as_mut().ok_or(2)?;
         let wants_waking = (3..=9).contains(&kind);
         if !chip.awake && wants_waking && plant == Plant::AsleepBeforeLength {
             return Err(4);
