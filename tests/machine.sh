@@ -27,6 +27,7 @@ want() {
         give_up 1 "$thing is missing: run 'apt-get install $*' as root"
     fi
     printf '%s: installs %s\n' "${0##*/}" "$*" >&2
+    export DEBIAN_FRONTEND=noninteractive
     if ! { apt-get install -y --no-install-recommends "$@" || { apt-get update && apt-get install -y --no-install-recommends "$@"; }; } \
         >&2 </dev/null; then
         give_up 1 "apt-get cannot install $*"
@@ -41,8 +42,9 @@ want_runner() {
     runner=()
     if ! native; then
         want qemu-x86_64 qemu-user
-        want /usr/x86_64-linux-gnu/lib/libc.so.6 libc6-amd64-cross
-        runner=(qemu-x86_64 -L /usr/x86_64-linux-gnu)
+        local libraries=/usr/x86_64-linux-gnu/lib
+        want "$libraries/libc.so.6" libc6-amd64-cross
+        runner=(qemu-x86_64 "$libraries/ld-linux-x86-64.so.2" --library-path "$libraries")
     fi
 }
 

@@ -198,42 +198,46 @@ impl Chip {
 
     /// An accepted write; true where it ships.
     fn write(&mut self, at: u8, value: u8, allowed: u8) -> bool {
-        let place = usize::from(at);
         if at != 0x04 && self.planted(Plant::OtherWriteDropsPair) {
             self.page[4] &= !3;
         }
-        let mask = match at {
-            0x00 => {
-                self.clear_status(value);
-                return false;
-            }
+        match at {
+            0x00 => self.clear_status(value),
             0x04 => return self.write_control_1(value),
-            0x05 => {
-                let mut mask = allowed;
-                if value & CC_EN != 0 && !self.planted(Plant::OneshotDespiteEnable) {
-                    mask &= !CC_ONESHOT;
-                }
-                let waiting = if self.planted(Plant::WaitingOneshotKept) { self.page[5] & CC_ONESHOT } else { 0 };
-                self.page[5] = value & mask | waiting;
-                return false;
-            }
-            0x01..=0x03 if at <= self.setup.part || self.planted(Plant::BalanceOfLackingInputs) => {
-                if self.planted(Plant::BalanceAllBits) { 0xFF } else { 0x1F }
-            }
-            0x06..=0x08 if self.planted(Plant::ProtectAllBits) => 0xFF,
-            0x06 => 0x9F,
-            0x07 => 0x7F,
-            0x08 => 0xF0,
-            0x09 | 0x0A => 0xFF,
-            0x0B => if self.planted(Plant::CcCfgAllBits) { 0xFF } else { 0x3F },
-            0x0C..=0x33 if self.planted(Plant::CellsWritable) => 0xFF,
-            0x51 if self.planted(Plant::OffsetWritable) => 0xFF,
-            _ => return false,
-        };
+            0x05 => self.write_control_2(value, allowed),
+            _ => self.write_plain(at, value),
+        }
+        false
+    }
+
+    /// The bits that a write stores in a register with no rule of its own.
+    fn stored_bits(&self, at: u8) -> u8 {
+        match (at, self.plant) {
+            (0x01..=0x03, Plant::BalanceAllBits) if at <= self.setup.part => 0xFF,
+            (0x01..=0x03, Plant::BalanceOfLackingInputs) => 0x1F,
+            (0x01..=0x03, _) if at <= self.setup.part => 0x1F,
+            (0x06..=0x08, Plant::ProtectAllBits) => 0xFF,
+            (0x06, _) => 0x9F,
+            (0x07, _) => 0x7F,
+            (0x08, _) => 0xF0,
+            (0x09 | 0x0A, _) => 0xFF,
+            (0x0B, Plant::CcCfgAllBits) => 0xFF,
+            (0x0B, _) => 0x3F,
+            (0x0C..=0x33, Plant::CellsWritable) => 0xFF,
+            (0x51, Plant::OffsetWritable) => 0xFF,
+            _ => 0,
+        }
+    }
+
+    fn write_plain(&mut self, at: u8, value: u8) {
+        let bits = self.stored_bits(at);
+        if bits == 0 {
+            return;
+        }
         if at == 0x09 {
             self.old_ov_trip = self.page[0x09];
         }
-        self.page[place] = value & mask;
+        self.page[usize::from(at)] = value & bits;
         if (0x06..=0x0A).contains(&at) && self.planted(Plant::ThresholdWriteEndsRuns) {
             self.verdicts = Default::default();
         }
@@ -241,7 +245,6 @@ impl Chip {
             self.raise_where_run_is_full(Fault::Ov);
             self.raise_where_run_is_full(Fault::Uv);
         }
-        false
     }
 
     fn clear_status(&mut self, ones: u8) {
@@ -277,6 +280,15 @@ impl Chip {
             self.verdicts[1].clear();
         }
         false
+    }
+
+    fn write_control_2(&mut self, value: u8, allowed: u8) {
+        let mut bits = allowed;
+        if value & CC_EN != 0 && !self.planted(Plant::OneshotDespiteEnable) {
+            bits &= !CC_ONESHOT;
+        }
+        let waiting = if self.planted(Plant::WaitingOneshotKept) { self.page[5] & CC_ONESHOT } else { 0 };
+        self.page[5] = value & bits | waiting;
     }
 
     fn put_pair(&mut self, at: usize, value: u16) {
@@ -393,47 +405,62 @@ impl Chip {
     }
 
     pub fn scan(&mut self, counts: &[u16]) {
-        let silent = self.page[4] & ADC_EN == 0;
-        if !silent || self.planted(Plant::SilentScanStores) {
-            for (input, count) in counts.iter().enumerate() {
-                self.put_pair(0x0C + 2 * input, *count);
-            }
-            let summed = if self.planted(Plant::BatOfFirstFive) { &counts[..5] } else { counts };
-            let sum: u32 = summed.iter().map(|count| u32::from(*count)).sum();
-            let up = if self.planted(Plant::BatRoundedUp) { 3 } else { 0 };
-            self.put_pair(0x2A, ((sum + up) / 4) as u16);
-        }
-        if silent {
-            if !self.planted(Plant::SilentScanKeepsRuns) {
-                self.verdicts[Fault::Ov as usize].push(false);
-                self.verdicts[Fault::Uv as usize].push(false);
-            }
-            if self.planted(Plant::SilentScanEndsCurrentRuns) {
-                self.verdicts[Fault::Scd as usize].push(false);
-                self.verdicts[Fault::Ocd as usize].push(false);
-            }
+        if self.page[4] & ADC_EN == 0 {
+            self.silent_scan(counts);
             return;
         }
+        self.store_scan(counts);
         let judged = match self.plant {
             Plant::OnlyFirstInputJudged => &counts[..1],
             Plant::LastInputNotJudged => &counts[..counts.len() - 1],
             _ => counts,
         };
-        let (high, low, floor) = (self.ov_line(), self.uv_line(), self.setup.floor);
-        let over = judged.iter().any(|c| *c > high || *c == high && self.planted(Plant::OverAtLine));
-        let is_low = |c: &u16| *c < low || *c == low && self.planted(Plant::UnderAtLine);
+        let (over, under) = (self.is_over(judged), self.is_under(judged));
+        self.judge(Fault::Ov, over);
+        self.judge(Fault::Uv, under);
+    }
+
+    fn silent_scan(&mut self, counts: &[u16]) {
+        if self.planted(Plant::SilentScanStores) {
+            self.store_scan(counts);
+        }
+        if !self.planted(Plant::SilentScanKeepsRuns) {
+            self.verdicts[Fault::Ov as usize].push(false);
+            self.verdicts[Fault::Uv as usize].push(false);
+        }
+        if self.planted(Plant::SilentScanEndsCurrentRuns) {
+            self.verdicts[Fault::Scd as usize].push(false);
+            self.verdicts[Fault::Ocd as usize].push(false);
+        }
+    }
+
+    fn store_scan(&mut self, counts: &[u16]) {
+        for (input, count) in counts.iter().enumerate() {
+            self.put_pair(0x0C + 2 * input, *count);
+        }
+        let summed = if self.planted(Plant::BatOfFirstFive) { &counts[..5] } else { counts };
+        let sum: u32 = summed.iter().map(|count| u32::from(*count)).sum();
+        let up = if self.planted(Plant::BatRoundedUp) { 3 } else { 0 };
+        self.put_pair(0x2A, ((sum + up) / 4) as u16);
+    }
+
+    fn is_over(&self, counts: &[u16]) -> bool {
+        let line = self.ov_line();
+        counts.iter().any(|c| *c > line || *c == line && self.planted(Plant::OverAtLine))
+    }
+
+    fn is_under(&self, counts: &[u16]) -> bool {
+        let (line, floor) = (self.uv_line(), self.setup.floor);
+        let is_low = |c: &u16| *c < line || *c == line && self.planted(Plant::UnderAtLine);
         let is_cell = |c: &u16| match self.plant {
             Plant::FloorItselfLeftOut => *c > floor,
             Plant::UnderIgnoresFloor => true,
             _ => *c >= floor,
         };
-        let under = if self.planted(Plant::UnderByTwoCells) {
-            judged.iter().any(is_cell) && judged.iter().any(is_low)
-        } else {
-            judged.iter().any(|c| is_cell(c) && is_low(c))
-        };
-        self.judge(Fault::Ov, over);
-        self.judge(Fault::Uv, under);
+        if self.planted(Plant::UnderByTwoCells) {
+            return counts.iter().any(is_cell) && counts.iter().any(is_low);
+        }
+        counts.iter().any(|c| is_cell(c) && is_low(c))
     }
 
     pub fn sense(&mut self, value: i32) {
@@ -622,8 +649,9 @@ impl Chip {
         if !self.awake {
             return 0xFF;
         }
-        let (before, low, owed) = match self.bus.clone() {
-            Bus::Read { before, low, owed } => (before, low, owed),
+        let given = match self.bus.clone() {
+            Bus::Read { before, low, owed: Some((sum, at)) } => self.give_sum(before, low, sum, at),
+            Bus::Read { before, low, owed: None } => self.give_data(before, low, acknowledged),
             _ => {
                 if !acknowledged && self.planted(Plant::InOutsideReadIdles) {
                     self.bus = Bus::Idle;
@@ -631,37 +659,40 @@ impl Chip {
                 return 0xFF;
             }
         };
-        let given;
-        if let Some((sum, at)) = owed {
-            given = if self.planted(Plant::OwedCrcOfByteNow) {
-                let mut covered = before.clone();
-                covered.push(self.read(at));
-                values::crc(0, &covered)
-            } else {
-                sum
-            };
-            let before = if self.planted(Plant::AddressInEveryReadCrc) { before } else { Vec::new() };
-            self.bus = Bus::Read { before, low, owed: None };
-        } else {
-            let at = self.pointer;
-            given = match low {
-                Some(kept) if !self.planted(Plant::LowByteReadAgain) => kept,
-                _ => self.read(at),
-            };
-            let pairs = if self.planted(Plant::LowByteKeptBelowPairs) { 0x00..=0x32 } else { 0x0C..=0x32 };
-            let keeps = low.is_none() && at % 2 == 0 && pairs.contains(&at);
-            let low = if keeps { Some(self.read(at + 1)) } else { None };
-            if acknowledged || !self.planted(Plant::RefusedByteDoesNotGrow) {
-                self.grow();
-            }
-            let mut covered = before.clone();
-            covered.push(given);
-            let owed = if self.setup.crc { Some((values::crc(0, &covered), at)) } else { None };
-            self.bus = Bus::Read { before, low, owed };
-        }
         if !acknowledged && !self.planted(Plant::UnackedKeepsReading) {
             self.bus = Bus::Idle;
         }
+        given
+    }
+
+    fn give_sum(&mut self, before: Vec<u8>, low: Option<u8>, sum: u8, at: u8) -> u8 {
+        let mut given = sum;
+        if self.planted(Plant::OwedCrcOfByteNow) {
+            let mut covered = before.clone();
+            covered.push(self.read(at));
+            given = values::crc(0, &covered);
+        }
+        let before = if self.planted(Plant::AddressInEveryReadCrc) { before } else { Vec::new() };
+        self.bus = Bus::Read { before, low, owed: None };
+        given
+    }
+
+    fn give_data(&mut self, before: Vec<u8>, low: Option<u8>, acknowledged: bool) -> u8 {
+        let at = self.pointer;
+        let given = match low {
+            Some(kept) if !self.planted(Plant::LowByteReadAgain) => kept,
+            _ => self.read(at),
+        };
+        let pairs = if self.planted(Plant::LowByteKeptBelowPairs) { 0x00..=0x32 } else { 0x0C..=0x32 };
+        let keeps = low.is_none() && at % 2 == 0 && pairs.contains(&at);
+        let low = if keeps { Some(self.read(at + 1)) } else { None };
+        if acknowledged || !self.planted(Plant::RefusedByteDoesNotGrow) {
+            self.grow();
+        }
+        let mut covered = before.clone();
+        covered.push(given);
+        let owed = if self.setup.crc { Some((values::crc(0, &covered), at)) } else { None };
+        self.bus = Bus::Read { before, low, owed };
         given
     }
 

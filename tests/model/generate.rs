@@ -94,7 +94,8 @@ impl Maker {
         let address = if self.rng.once_in(3) { self.rng.pick(&[0x08, 0x77]) } else { self.rng.between(8, 0x77) as u8 };
         let gain_code = self.rng.below(32) as u8;
         let offset = if self.rng.once_in(2) { self.rng.byte() } else { self.rng.pick(&[0, 30, 0x7F, 0x80, 0xFF]) };
-        let floor = if self.rng.once_in(3) { self.rng.pick(&[0, 1, 1_000, 4_095]) } else { self.rng.below(4_096) as u16 };
+        let floor =
+            if self.rng.once_in(3) { self.rng.pick(&[0, 1, 1_000, 4_095]) } else { self.rng.below(4_096) as u16 };
         let mut payload = vec![part, u8::from(crc_on), address, gain_code, offset];
         payload.extend(floor.to_le_bytes());
         self.push(0, &payload);
@@ -220,58 +221,13 @@ impl Maker {
             let value = self.value_for(at);
             self.data(&mut covered, value);
         }
+        let value = self.value_for(at);
         if covered.is_empty() && self.rng.once_in(4) {
             // the CRC of a later byte with the address in it
-            let value = self.value_for(at);
             self.out(value);
             self.out(crc(0, &[self.chip().setup.address * 2, at, value]));
         }
-        let value = self.value_for(at);
-        match self.rng.below(9) {
-            0 | 1 => {
-                self.out(value);
-                let wrong = self.rng.byte();
-                self.out(wrong);
-            }
-            2 => {
-                // the right CRC of the data byte alone
-                self.out(value);
-                self.out(crc(0, &[value]));
-            }
-            3 => {
-                self.out(value);
-                self.push(STOP, &[]);
-                covered.push(value);
-                self.out(crc(0, &covered));
-            }
-            4 => {
-                self.out(value);
-                self.push(START, &[]);
-                covered.push(value);
-                self.out(crc(0, &covered));
-            }
-            5 | 6 => {
-                self.out(value);
-                for _ in 0..self.rng.between(1, 3) {
-                    self.event();
-                }
-                covered.push(value);
-                self.out(crc(0, &covered));
-            }
-            7 => {
-                let answer = self.rng.below(2) as u8;
-                self.take(answer);
-                self.data(&mut covered, value);
-            }
-            _ => {
-                self.out(value);
-                let answer = self.rng.below(2) as u8;
-                self.take(answer);
-                covered.push(value);
-                let flipped = 1 << self.rng.below(8);
-                self.out(crc(0, &covered) ^ flipped);
-            }
-        }
+        self.spoil(covered, value);
         for _ in 0..self.rng.below(3) {
             let byte = self.rng.byte();
             self.out(byte);
@@ -283,32 +239,54 @@ impl Maker {
         self.read(at, many, false);
     }
 
-    fn strange_frame(&mut self) {
-        let address = self.chip().setup.address;
-        match self.rng.below(7) {
-            0 => {
-                self.push(START, &[]);
-                let other = self.rng.pick(&[address.wrapping_add(1), address - 1, address ^ 0x40, 0]);
-                self.out(other << 1);
-                self.out(address * 2);
-                self.take(0);
+    /// A data byte, and a CRC that is wrong, comes late or comes to nothing.
+    fn spoil(&mut self, mut covered: Vec<u8>, value: u8) {
+        self.out(value);
+        covered.push(value);
+        let mut sum = crc(0, &covered);
+        match self.rng.below(9) {
+            0 | 1 => sum = self.rng.byte(),
+            2 => sum = crc(0, &[value]),
+            3 => self.push(STOP, &[]),
+            4 => self.push(START, &[]),
+            5 | 6 => {
+                for _ in 0..self.rng.between(1, 3) {
+                    self.event();
+                }
             }
+            7 => self.take_either(),
+            _ => {
+                self.take_either();
+                sum ^= 1 << self.rng.below(8);
+            }
+        }
+        self.out(sum);
+    }
+
+    /// An IN that the host acknowledges or not.
+    fn take_either(&mut self) {
+        let answer = self.rng.below(2) as u8;
+        self.take(answer);
+    }
+
+    fn strange_frame(&mut self) {
+        let address = self.chip().setup.address * 2;
+        match self.rng.below(7) {
+            0 => self.unmatched_frame(address),
             1 => {
                 self.open_read();
                 self.take(0);
-                let byte = self.rng.pick(&[0, address * 2, 0xFF]);
+                let byte = self.rng.pick(&[0, address, 0xFF]);
                 self.out(byte);
                 self.take(0);
             }
             2 => {
                 self.push(STOP, &[]);
-                let byte = self.rng.pick(&[0, address * 2, address * 2 + 1]);
+                let byte = self.rng.pick(&[0, address, address + 1]);
                 self.out(byte);
-                let answer = self.rng.below(2) as u8;
-                self.take(answer);
+                self.take_either();
             }
             3 => {
-                // a byte that is not acknowledged, then more of the same read
                 self.open_read();
                 self.take(0);
                 self.take(1);
@@ -320,29 +298,40 @@ impl Maker {
                 self.write(0xFE, &[1, 2, 0, 4]);
                 self.read_where_pointer_stands();
             }
-            5 => {
-                // an IN in each place of a write
-                self.push(START, &[]);
-                self.take(1);
-                self.out(address * 2);
-                self.take(1);
-                self.out(0x09);
-                self.take(1);
-                let value = self.rng.byte();
-                let mut covered = vec![address * 2, 0x09];
-                self.data(&mut covered, value);
-                self.read(0x09, 1, false);
-            }
-            _ => {
-                for _ in 0..self.rng.between(1, 8) {
-                    let byte = self.rng.pick(&[0, address * 2, address * 2 + 1, 0x04, 0x05, 0x55]);
-                    match self.rng.below(5) {
-                        0 => self.push(START, &[]),
-                        1 => self.push(STOP, &[]),
-                        2 => self.take(byte & 1),
-                        _ => self.out(byte),
-                    }
-                }
+            5 => self.takes_in_a_write(address),
+            _ => self.any_frame(address),
+        }
+    }
+
+    fn unmatched_frame(&mut self, address: u8) {
+        self.push(START, &[]);
+        let other = self.rng.pick(&[address + 2, address - 2, address ^ 0x80, 0]);
+        self.out(other);
+        self.out(address);
+        self.take(0);
+    }
+
+    /// An IN in each place of a write.
+    fn takes_in_a_write(&mut self, address: u8) {
+        self.push(START, &[]);
+        self.take(1);
+        self.out(address);
+        self.take(1);
+        self.out(0x09);
+        self.take(1);
+        let value = self.rng.byte();
+        self.data(&mut vec![address, 0x09], value);
+        self.read(0x09, 1, false);
+    }
+
+    fn any_frame(&mut self, address: u8) {
+        for _ in 0..self.rng.between(1, 8) {
+            let byte = self.rng.pick(&[0, address, address + 1, 0x04, 0x05, 0x55]);
+            match self.rng.below(5) {
+                0 => self.push(START, &[]),
+                1 => self.push(STOP, &[]),
+                2 => self.take(byte & 1),
+                _ => self.out(byte),
             }
         }
     }
@@ -350,14 +339,22 @@ impl Maker {
     // ---- registers
 
     fn some_register(&mut self) -> u8 {
-        if self.rng.once_in(8) { self.rng.byte() } else { self.rng.below(12) as u8 }
+        if self.rng.once_in(8) {
+            self.rng.byte()
+        } else {
+            self.rng.below(12) as u8
+        }
     }
 
     /// A value for a register; the delays of current faults stay short, and the chip mostly awake.
     fn value_for(&mut self, at: u8) -> u8 {
         let value = self.rng.byte();
         match at {
-            0x04 => value & 0x1C | if self.rng.once_in(6) { value & 3 } else { 0 } | if self.rng.once_in(3) { 0 } else { 0x10 },
+            0x04 => {
+                value & 0x1C
+                    | if self.rng.once_in(6) { value & 3 } else { 0 }
+                    | if self.rng.once_in(3) { 0 } else { 0x10 }
+            }
             0x05 => value & 0x7F | if self.rng.once_in(3) { 0x80 } else { 0 },
             0x07 => value & 0x8F,
             _ => value,
@@ -401,7 +398,8 @@ impl Maker {
         }
         let mut place = if self.rng.once_in(2) { self.rng.pick(&[0, inputs - 1]) } else { self.rng.below(inputs) };
         if matches!(kind, Kind::Over | Kind::Both) {
-            counts[place] = if self.rng.once_in(3) { self.rng.between(usize::from(high) + 1, 16_383) as u16 } else { high + 1 };
+            counts[place] =
+                if self.rng.once_in(3) { self.rng.between(usize::from(high) + 1, 16_383) as u16 } else { high + 1 };
             place = (place + 1 + self.rng.below(inputs - 1)) % inputs;
         }
         if matches!(kind, Kind::Under | Kind::Both) {
@@ -496,57 +494,60 @@ impl Maker {
 
     /// A record that is refused.
     fn hostile(&mut self) {
-        let part = self.chip().setup.part;
         match self.rng.below(13) {
-            11 => {
+            0..=3 => self.wrong_kind_or_length(),
+            4 => {
+                let part = self.chip().setup.part;
+                self.setup(part, true);
+            }
+            5 => self.push(0, &[9, 9, 9, 99, 9, 99, 99]),
+            6 | 7 => {
+                let kind = self.rng.pick(&[Kind::Over, Kind::Under, Kind::Quiet]);
+                let counts = self.counts(kind);
+                self.too_high(SCAN, counts);
+            }
+            8 => {
+                let counts = vec![16_383; usize::from(self.chip().setup.part)];
+                self.too_high(TEMP, counts);
+            }
+            9 | 10 => {
+                let value = self.rng.pick(&[500_001, -500_001, i64::from(i32::MIN), i64::from(i32::MAX)]);
+                self.sense(value);
+            }
+            _ => {
+                let (kind, value) = (self.rng.pick(&[LOAD, IN]), self.rng.between(2, 255) as u8);
+                self.push(kind, &[value]);
+            }
+        }
+    }
+
+    fn wrong_kind_or_length(&mut self) {
+        let long: Vec<u8> = (0..self.rng.below(32)).map(|_| self.rng.below(2) as u8).collect();
+        match self.rng.below(4) {
+            0 => {
+                let kind = self.rng.pick(&[0x0A, 0x0D, 0x0F, 0x14, 0x15, 0x16, 0x100, 0x1100, 0xFFFF, 0x0301]);
+                self.push(kind, &long);
+            }
+            1 => {
                 let kind = self.rng.between(0x0A, 0x0F) as u16;
                 let payload = self.rng.pick(&[&[][..], &[0], &[1]]);
                 self.push(kind, payload);
             }
-            0 => {
-                let kind = self.rng.pick(&[0x0A, 0x0B, 0x0C, 0x0D, 0x0F, 0x14, 0x15, 0x16, 0x100, 0x1100, 0xFFFF, 0x0301]);
-                let many = self.rng.below(20);
-                let payload: Vec<u8> = (0..many).map(|_| self.rng.byte()).collect();
-                self.push(kind, &payload);
-            }
-            1 => {
+            2 => {
                 let kind = self.rng.below(0x14) as u16;
-                let many = self.rng.below(32);
-                let payload: Vec<u8> = (0..many).map(|_| self.rng.below(2) as u8).collect();
-                self.push(kind, &payload);
-            }
-            2 => self.setup(part, true),
-            3 => self.push(0, &[9, 9, 9, 99, 9, 99, 99]),
-            4 | 5 => {
-                let kind = self.rng.pick(&[Kind::Over, Kind::Under, Kind::Quiet]);
-                let mut counts = self.counts(kind);
-                let place = self.rng.below(counts.len());
-                counts[place] = self.rng.pick(&[16_384, 16_384, 65_535, 32_768]);
-                self.push_words(SCAN, &counts);
-            }
-            6 => {
-                let mut counts = vec![16_383; usize::from(part)];
-                let place = self.rng.below(counts.len());
-                counts[place] = self.rng.pick(&[16_384, 65_535]);
-                self.push_words(TEMP, &counts);
-            }
-            7 | 8 => {
-                let value = self.rng.pick(&[500_001, -500_001, i64::from(i32::MIN), i64::from(i32::MAX)]);
-                self.sense(value);
-            }
-            9 => {
-                let value = self.rng.between(2, 255) as u8;
-                self.push(LOAD, &[value]);
-            }
-            10 => {
-                let value = self.rng.between(2, 255) as u8;
-                self.push(IN, &[value]);
+                self.push(kind, &long);
             }
             _ => {
                 let kind = self.rng.pick(&[POR, BOOT, PIN, XREADY, START, STOP, OUT, IN, LOAD, COUNT]);
                 self.push(kind, &[0, 1, 0]);
             }
         }
+    }
+
+    fn too_high(&mut self, kind: u16, mut counts: Vec<u16>) {
+        let place = self.rng.below(counts.len());
+        counts[place] = self.rng.pick(&[16_384, 16_384, 65_535, 32_768]);
+        self.push_words(kind, &counts);
     }
 
     // ---- episodes

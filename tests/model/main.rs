@@ -11,7 +11,9 @@ use plant::Plant;
 use std::io::{BufWriter, Read, Write};
 use std::process::ExitCode;
 
-const USAGE: &str = "usage: model cases | plants [--seed S] [--streams N] | generate [--seed S] [--streams N] [--first K] | play [FILE]";
+const USAGE: &str =
+    "usage: model cases | plants [--seed S] [--streams N] | generate [--seed S] [--streams N] [--first K]
+    | stream [--seed S] [--first K] | play [FILE]";
 
 struct Options {
     seed: u64,
@@ -62,7 +64,12 @@ fn plants(options: &Options) -> Result<String, String> {
         }
     }
     if missed.is_empty() {
-        Ok(format!("model: all {} planted errors are shown by {} streams of seed {}", plants.len(), streams.len(), options.seed))
+        Ok(format!(
+            "model: all {} planted errors are shown by {} streams of seed {}",
+            plants.len(),
+            streams.len(),
+            options.seed
+        ))
     } else {
         Err(format!("model: {} of {} planted errors are not shown: {}", missed.len(), plants.len(), missed.join(", ")))
     }
@@ -134,6 +141,11 @@ fn run(words: &[String]) -> Result<(), String> {
         "cases" => println!("model: {} cases of document 01 hold", cases::check()),
         "plants" => println!("{}", plants(&options(rest)?)?),
         "generate" => generate(&options(rest)?).map_err(|e| format!("model: {e}"))?,
+        "stream" => {
+            let options = options(rest)?;
+            let bytes = generate::stream(options.seed, options.first);
+            std::io::stdout().write_all(&bytes).map_err(|e| format!("model: {e}"))?;
+        }
         "play" => print!("{}", play(rest)?),
         _ => return Err(USAGE.to_string()),
     }

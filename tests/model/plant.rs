@@ -155,6 +155,7 @@ pub enum Plant {
 
 use Plant::*;
 
+#[rustfmt::skip]
 const PLAIN: &[Plant] = &[
     WriteBeforeCrc, AddressInEveryWriteCrc, AddressInEveryReadCrc, LowByteReadAgain,
     OverAtLine, UnderAtLine, FloorItselfLeftOut, UnderIgnoresFloor, UnderByTwoCells, OnlyFirstInputJudged,

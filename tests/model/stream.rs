@@ -74,6 +74,51 @@ fn sensed(payload: &[u8]) -> i32 {
     i32::from_le_bytes([payload[0], payload[1], payload[2], payload[3]])
 }
 
+/// The number for a record that follows SETUP: 2, then 3, then 4; or 0.
+fn refusal(chip: &Chip, kind: u16, payload: &[u8], plant: Plant) -> u8 {
+    let wants_waking = (3..=9).contains(&kind);
+    let asleep = !chip.awake && wants_waking;
+    if asleep && plant == Plant::AsleepBeforeLength {
+        return 4;
+    }
+    if length_of(kind, usize::from(chip.setup.part)) != Some(payload.len()) {
+        return 2;
+    }
+    if asleep && plant == Plant::AsleepBeforeRange {
+        return 4;
+    }
+    if !in_range(kind, payload, plant) {
+        return 3;
+    }
+    if asleep || !chip.awake && kind >= 0x10 && plant == Plant::BusRefusedAsleep {
+        return 4;
+    }
+    if chip.awake && kind == 2 && plant == Plant::BootRefusedAwake {
+        return 2;
+    }
+    0
+}
+
+/// Gives the event to the chip; the bus's answer where it has one.
+fn act(chip: &mut Chip, kind: u16, payload: &[u8]) -> Option<u8> {
+    match kind {
+        0x0001 => chip.por(),
+        0x0002 => chip.boot(),
+        0x0003 => chip.scan(&words(payload)),
+        0x0004 => chip.temp(&words(payload)),
+        0x0005 => chip.count(word(payload, 0)),
+        0x0006 => chip.sense(sensed(payload)),
+        0x0007 => chip.pin(),
+        0x0008 => chip.load(payload[0] == 1),
+        0x0009 => chip.xready(),
+        0x0010 => chip.start(),
+        0x0011 => return Some(if chip.out(payload[0]) { 0 } else { 1 }),
+        0x0012 => return Some(chip.take(payload[0] == 0)),
+        _ => chip.stop(),
+    }
+    None
+}
+
 impl Session {
     pub fn new(plant: Plant) -> Session {
         Session { plant, chip: None, ended: false }
@@ -135,40 +180,14 @@ impl Session {
             return Ok(None);
         }
         let chip = self.chip.as_mut().ok_or(2)?;
-        let wants_waking = (3..=9).contains(&kind);
-        if !chip.awake && wants_waking && plant == Plant::AsleepBeforeLength {
-            return Err(4);
-        }
-        if length_of(kind, usize::from(chip.setup.part)) != Some(payload.len()) {
-            return Err(2);
-        }
-        if !chip.awake && wants_waking && plant == Plant::AsleepBeforeRange {
-            return Err(4);
-        }
-        if !in_range(kind, payload, plant) {
+        let number = refusal(chip, kind, payload, plant);
+        if number == 3 {
             chip.refused(kind);
-            return Err(3);
         }
-        if !chip.awake && (wants_waking || kind >= 0x10 && plant == Plant::BusRefusedAsleep) {
-            return Err(4);
+        if number != 0 {
+            return Err(number);
         }
-        match kind {
-            0x0001 => chip.por(),
-            0x0002 if chip.awake && plant == Plant::BootRefusedAwake => return Err(2),
-            0x0002 => chip.boot(),
-            0x0003 => chip.scan(&words(payload)),
-            0x0004 => chip.temp(&words(payload)),
-            0x0005 => chip.count(word(payload, 0)),
-            0x0006 => chip.sense(sensed(payload)),
-            0x0007 => chip.pin(),
-            0x0008 => chip.load(payload[0] == 1),
-            0x0009 => chip.xready(),
-            0x0010 => chip.start(),
-            0x0011 => return Ok(Some(if chip.out(payload[0]) { 0 } else { 1 })),
-            0x0012 => return Ok(Some(chip.take(payload[0] == 0))),
-            _ => chip.stop(),
-        }
-        Ok(None)
+        Ok(act(chip, kind, payload))
     }
 }
 
