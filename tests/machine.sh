@@ -1,11 +1,11 @@
 # shellcheck shell=bash
 # Sourced by ./play and tests/run. What the proved crates are built into is for x86-64 Linux: elsewhere it is compiled for
 # with Debian's cross compiler and run under qemu-user.
-# shellcheck disable=SC2034  # runner and compiler are read by who sources this
+# shellcheck disable=SC2034,SC2154  # me is set, runner and compiler are read by the script that sources this
 
-# Says one line and ends with a status.
+# Says one line under the name `me` of the script that sources this, and ends with a status.
 give_up() {
-    printf '%s: %s\n' "${0##*/}" "$2" >&2
+    printf '%s: %s\n' "$me" "$2" >&2
     exit "$1"
 }
 
@@ -26,7 +26,7 @@ want() {
     if [[ $(id -u) != 0 ]]; then
         give_up 1 "$thing is missing: run 'apt-get install $*' as root"
     fi
-    printf '%s: installs %s\n' "${0##*/}" "$*" >&2
+    printf '%s: installs %s\n' "$me" "$*" >&2
     export DEBIAN_FRONTEND=noninteractive
     if ! { apt-get install -y --no-install-recommends "$@" || { apt-get update && apt-get install -y --no-install-recommends "$@"; }; } \
         >&2 </dev/null; then

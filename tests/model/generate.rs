@@ -523,7 +523,12 @@ impl Maker {
 
     fn wrong_kind_or_length(&mut self) {
         let long: Vec<u8> = (0..self.rng.below(32)).map(|_| self.rng.below(2) as u8).collect();
-        match self.rng.below(4) {
+        match self.rng.below(5) {
+            4 => {
+                let kind = self.rng.pick(&[POR, PIN, XREADY, START, STOP]);
+                let upper = self.rng.between(1, 255) as u16;
+                self.push(kind + 256 * upper, &[]);
+            }
             0 => {
                 let kind = self.rng.pick(&[0x0A, 0x0D, 0x0F, 0x14, 0x15, 0x16, 0x100, 0x1100, 0xFFFF, 0x0301]);
                 self.push(kind, &long);
@@ -1056,6 +1061,12 @@ pub fn stream(seed: u64, stream: u64) -> Vec<u8> {
         16..=23 => damage(&mut rng, &mut bytes),
         24..=31 => cut(&mut rng, &mut bytes),
         32..=35 if ends_open => bytes.extend([0, 0, POR as u8, 0]),
+        36 => {
+            // the longest record there is, of a kind that is not
+            bytes.extend([0xFF, 0xFF, 0x14, 0x00]);
+            bytes.extend((0..0xFFFF).map(|_| rng.byte()));
+            bytes.extend([0, 0, XREADY as u8, 0]);
+        }
         _ => {}
     }
     bytes

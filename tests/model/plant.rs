@@ -139,11 +139,14 @@ pub enum Plant {
     RefusedFirstGoesOn,
     FlagOnRefused,
     CutEntryBlank,
+    KindLowByteOnly,
+    LengthLowByteOnly,
     // readings and conversions
     ReadingOffsetUnsigned,
     ReadingCcUnsigned,
     ReadingAllInputs,
     ReadingAsleepGiven,
+    ReadingRefusedWhereCut,
     GainFrom343,
     ThermistorLimit,
     ThermistorNearest,
@@ -177,7 +180,8 @@ const PLAIN: &[Plant] = &[
     LowByteKeptBelowPairs, OwedCrcOfByteNow, ConditionsAtDataByte, CrcBytePassesForData,
     SecondSetupTaken, UnknownKindEndsStream, KindsDecimal, AsleepBeforeRange, AsleepBeforeLength, BusRefusedAsleep,
     BootRefusedAwake, SenseEndsLeftOut, RangeNotChecked, CutAfterKind, RefusedFirstGoesOn, FlagOnRefused, CutEntryBlank,
-    ReadingOffsetUnsigned, ReadingCcUnsigned, ReadingAllInputs, ReadingAsleepGiven,
+    KindLowByteOnly, LengthLowByteOnly,
+    ReadingOffsetUnsigned, ReadingCcUnsigned, ReadingAllInputs, ReadingAsleepGiven, ReadingRefusedWhereCut,
     GainFrom343, ThermistorLimit, ThermistorNearest, DieLimit, OvWindowWider, UvWindowNarrower, CodeOffsetAdded,
 ];
 

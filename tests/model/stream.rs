@@ -129,39 +129,60 @@ impl Session {
         [number, u8::from(bus.is_some()), bus.unwrap_or(0), stat, pins]
     }
 
+    /// A header's payload length and kind, where all four bytes stand there.
+    fn header(&self, rest: &[u8]) -> Option<(usize, u16)> {
+        if rest.len() < 4 {
+            return None;
+        }
+        let (mut length, mut kind) = (usize::from(word(rest, 0)), word(rest, 2));
+        match self.plant {
+            Plant::LengthLowByteOnly => length %= 256,
+            Plant::KindLowByteOnly => kind %= 256,
+            _ => {}
+        }
+        Some((length, kind))
+    }
+
     /// Plays the record at a place before the end of the bytes.
     pub fn record(&mut self, bytes: &[u8], at: usize) -> Played {
         let rest = &bytes[at..];
-        let kind = if rest.len() >= 4 { Some(word(rest, 2)) } else { None };
-        let whole = match kind {
-            Some(_) => 4 + usize::from(word(rest, 0)) <= rest.len(),
-            None => false,
-        };
-        let unknown = kind.map_or(false, |kind| kind != 0 && length_of(kind, 1).is_none());
-        if !whole && !(self.plant == Plant::CutAfterKind && unknown) {
-            self.ended = true;
-            let blank = self.plant == Plant::CutEntryBlank;
-            let entry = if blank { [9, 0, 0, 0, 0] } else { self.entry(9, None) };
-            return Played { kind, entry, next: bytes.len() };
+        match self.header(rest) {
+            Some((length, kind)) if 4 + length <= rest.len() => {
+                let entry = self.whole(kind, &rest[4..4 + length]);
+                Played { kind: Some(kind), entry, next: at + 4 + length }
+            }
+            header => {
+                let kind = header.map(|(_, kind)| kind);
+                Played { kind, entry: self.cut(kind), next: bytes.len() }
+            }
         }
-        let kind_number = word(rest, 2);
-        let next = (at + 4 + usize::from(word(rest, 0))).min(bytes.len());
-        let payload = if whole { &rest[4..4 + usize::from(word(rest, 0))] } else { &rest[..0] };
-        let (number, bus) = match self.done(kind_number, payload) {
+    }
+
+    fn cut(&mut self, kind: Option<u16>) -> Entry {
+        self.ended = true;
+        match (self.plant, kind) {
+            (Plant::CutEntryBlank, _) => [9, 0, 0, 0, 0],
+            (Plant::CutAfterKind, Some(kind)) if kind != 0 && length_of(kind, 1).is_none() => self.entry(2, None),
+            _ => self.entry(9, None),
+        }
+    }
+
+    fn whole(&mut self, kind: u16, payload: &[u8]) -> Entry {
+        let (number, bus) = match self.done(kind, payload) {
             Ok(bus) => (0, bus),
             Err(number) => (number, None),
         };
         if self.chip.is_none() && self.plant != Plant::RefusedFirstGoesOn {
             self.ended = true;
         }
-        if number == 2 && unknown && self.plant == Plant::UnknownKindEndsStream {
+        if self.plant == Plant::UnknownKindEndsStream && kind != 0 && length_of(kind, 1).is_none() {
             self.ended = true;
         }
         let mut entry = self.entry(number, bus);
-        if number != 0 && self.plant == Plant::FlagOnRefused && matches!(kind_number, 0x11 | 0x12) {
+        if number != 0 && self.plant == Plant::FlagOnRefused && matches!(kind, 0x11 | 0x12) {
             entry[1] = 1;
         }
-        Played { kind, entry, next }
+        entry
     }
 
     /// Does a whole record: the bus's answer where it has one, or the number that refuses it.
@@ -208,7 +229,9 @@ pub fn play(bytes: &[u8], plant: Plant) -> Outcome {
         entries.push(played.entry);
         at = played.next;
     }
+    let cut = entries.last().map_or(false, |entry| entry[0] == 9);
     let reading = match &session.chip {
+        Some(_) if cut && plant == Plant::ReadingRefusedWhereCut => Err(9),
         Some(chip) => chip.reading(),
         None => Err(entries.first().map_or(9, |entry| entry[0])),
     };
