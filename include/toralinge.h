@@ -1,0 +1,143 @@
+/*
+ * toralinge.h - a software stand-in for the battery monitors MS9920T, MS9930T and MS9940T.
+ *
+ * Link with libstream.a (x86-64 Linux; `rt staticlib stream` writes target/staticlib/libstream.a).
+ * "Document 01" is the paper that gives the rules. Every call here answers for every value of its
+ * arguments, and is proved to answer exactly as that paper says.
+ *
+ * What every call asks of its caller:
+ *   - no pointer is NULL, also where its length or room is 0;
+ *   - a length counts the bytes (a room of doubles: the doubles) that stand behind its pointer;
+ *   - what a call may write overlaps nothing else that the same call is lent.
+ * No call keeps a pointer, allocates, or has a state of its own: two threads may call at once.
+ */
+#ifndef TORALINGE_H
+#define TORALINGE_H
+
+#include <stddef.h>
+#include <stdint.h>
+
+#ifdef __cplusplus
+extern "C" {
+#endif
+
+/* The numbers of document 01: 0 for done, or why a record or a call is refused. */
+enum toralinge_number {
+    TORALINGE_DONE = 0,
+    TORALINGE_BAD_SETUP = 1,    /* a value of SETUP, or a gain code, is out of range */
+    TORALINGE_BAD_KIND = 2,     /* kind unknown, SETUP not first, first not SETUP, or wrong length */
+    TORALINGE_BAD_VALUE = 3,    /* a payload value, or a count, is out of range */
+    TORALINGE_ASLEEP = 4,       /* the chip is in SHIP */
+    TORALINGE_NO_ROOM = 5,      /* the output buffer is too short */
+    TORALINGE_NO_CELL = 6,      /* no such cell; no call of this header answers it */
+    TORALINGE_OPEN_SENSOR = 7,  /* thermistor count 9,323 or more */
+    TORALINGE_NO_CODE = 8,      /* the wanted threshold lies outside its window */
+    TORALINGE_CUT = 9           /* a record is cut short, or there is none */
+};
+
+/* An entry of toralinge_play: five bytes, in this order. */
+enum toralinge_entry {
+    TORALINGE_ENTRY_NUMBER = 0,   /* 0, or the number that refuses the record */
+    TORALINGE_ENTRY_BUS_FLAG = 1, /* 1 for an OUT or IN that was done, else 0 */
+    TORALINGE_ENTRY_BUS_BYTE = 2, /* OUT: 0 acknowledged, 1 not; IN: the byte given; else 0 */
+    TORALINGE_ENTRY_SYS_STAT = 3, /* register 0x00 after the record; 0 where no chip stands */
+    TORALINGE_ENTRY_PINS = 4,     /* the three pins below; 0 where no chip stands */
+    TORALINGE_ENTRY_SIZE = 5
+};
+
+enum toralinge_pins {
+    TORALINGE_PIN_DSG = 1,
+    TORALINGE_PIN_CHG = 2,
+    TORALINGE_PIN_ALERT = 4
+};
+
+/* The four doubles of toralinge_reading, in this order. */
+enum toralinge_reading_place {
+    TORALINGE_READING_LEAST = 0,      /* least cell voltage, microvolts */
+    TORALINGE_READING_GREATEST = 1,   /* greatest cell voltage, microvolts */
+    TORALINGE_READING_TOTAL = 2,      /* sum of the cell voltages, microvolts */
+    TORALINGE_READING_CC = 3,         /* coulomb counter, hundredths of a microvolt */
+    TORALINGE_READING_SIZE = 4
+};
+
+/*
+ * Plays a whole stream of records on a new chip and writes one entry of five bytes for each record.
+ *
+ * stream, length   the records: payload length (2 bytes), kind (2 bytes), payload, little-endian
+ * entries, room    where the entries go, and how many bytes may stand there
+ *
+ * Returns how many entries there are. They stand one after the other from entries[0]; every later
+ * byte of the buffer keeps its value. A refused first record, or a record that is cut short
+ * (number 9), is the last entry; an empty stream has none.
+ *
+ * Returns -5, and writes no byte, where five bytes for each of the entries do not fit into room.
+ * One entry for every four bytes of the stream, and one more, is always enough.
+ */
+int64_t toralinge_play(const uint8_t *stream, size_t length, uint8_t *entries, size_t room);
+
+/*
+ * Plays a whole stream on a new chip and gives forecasting's reading of the chip as it then stands.
+ *
+ * reading, room   where the four doubles go, and how many doubles may stand there
+ *
+ * Returns 0 and writes reading[0] to reading[3]: least, greatest and total voltage of the part's cell
+ * inputs in microvolts, and the coulomb counter in hundredths of a microvolt. Each is a whole number,
+ * held exactly. Later doubles keep their values.
+ *
+ * Otherwise writes nothing and returns, looked at in this order:
+ *   9         the stream is empty
+ *   1, 2, 9   the number that refuses the first record, so that no chip stands
+ *   4         the chip is in SHIP at the end of the stream
+ *   5         room is below 4
+ */
+uint8_t toralinge_reading(const uint8_t *stream, size_t length, double *reading, size_t room);
+
+/*
+ * Cell voltage in microvolts: (344 + gain_code) x count + 1,000 x offset, offset as a signed byte.
+ * Exact; may be negative.
+ *
+ * Returns 0 and writes *microvolts, or leaves it alone and returns 1 (gain code above 31), then
+ * 3 (count above 16,383).
+ */
+uint8_t toralinge_cell_microvolts(uint8_t gain_code, uint8_t offset, uint16_t count, int64_t *microvolts);
+
+/*
+ * Thermistor resistance in ohms: 10,000 x V / (3,300,000 - V) with V = 354 x count, rounded down.
+ *
+ * Returns 0 and writes *ohms, or leaves it alone and returns 7 (count 9,323 or more).
+ */
+uint8_t toralinge_thermistor_ohms(uint16_t count, uint64_t *ohms);
+
+/*
+ * Die temperature in half thousandths of a degree C (2,000 for each degree): 680,000 - 177 x count.
+ *
+ * Returns 0 and writes *half_thousandths, or leaves it alone and returns 3 (count above 16,383).
+ */
+uint8_t toralinge_die_temperature(uint16_t count, int64_t *half_thousandths);
+
+/*
+ * The OV_TRIP or UV_TRIP code for a wanted threshold in microvolts:
+ * full = (wanted - 1,000 x offset) / (344 + gain_code), offset as a signed byte, rounded down;
+ * code = (full - start of the window) / 16, rounded down.
+ * The window of full is 8,192 to 12,287 for over-voltage and 4,096 to 8,191 for under-voltage.
+ *
+ * Returns 0 and writes *code, or leaves it alone and returns 1 (gain code above 31), then 8 (full
+ * outside the window, however far: wanted may be any number).
+ */
+uint8_t toralinge_over_voltage_code(uint8_t gain_code, uint8_t offset, int64_t wanted, uint8_t *code);
+uint8_t toralinge_under_voltage_code(uint8_t gain_code, uint8_t offset, int64_t wanted, uint8_t *code);
+
+/* The coulomb counter in hundredths of a microvolt: reading, as a signed 16-bit number, x 844. */
+int64_t toralinge_cc_hundredths(uint16_t reading);
+
+/*
+ * The bus's CRC-8 (x^8 + x^2 + x + 1, high bit first, nothing inverted) of length bytes, going on
+ * from start: 0 to begin, or the CRC of what came before.
+ */
+uint8_t toralinge_crc8(uint8_t start, const uint8_t *bytes, size_t length);
+
+#ifdef __cplusplus
+}
+#endif
+
+#endif

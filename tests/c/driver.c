@@ -1,0 +1,285 @@
+/*
+ * Holds the library to what the model expects: reads the blocks of `model generate` from standard input,
+ * runs the library on the same streams and numbers, and prints each difference with its seed.
+ */
+#include "guard.h"
+#include "toralinge.h"
+
+#define MOST_SHOWN 20
+
+static unsigned long streams, records, conversions, differences;
+
+static void get(void *to, size_t size)
+{
+    if (fread(to, 1, size, stdin) != size) {
+        fprintf(stderr, "driver: its input ends in the middle of a block\n");
+        exit(2);
+    }
+}
+
+static uint64_t get_number(size_t bytes)
+{
+    uint8_t read[8];
+    uint64_t number = 0;
+    get(read, bytes);
+    while (bytes > 0) {
+        bytes--;
+        number = number << 8 | read[bytes];
+    }
+    return number;
+}
+
+static uint8_t *get_bytes(size_t size)
+{
+    uint8_t *bytes = malloc(size + 1);
+    if (bytes == NULL) {
+        fprintf(stderr, "driver: out of memory\n");
+        exit(2);
+    }
+    get(bytes, size);
+    return bytes;
+}
+
+struct expected {
+    uint64_t seed, number;
+    uint8_t *stream;
+    size_t length;
+    uint8_t *entries;
+    size_t count;
+    uint8_t reading_number;
+    uint64_t reading[TORALINGE_READING_SIZE];
+};
+
+static int differs(const struct expected *want, const char *what)
+{
+    differences++;
+    if (differences <= MOST_SHOWN) {
+        printf("DIFFERENCE seed %llu stream %llu: %s\n", (unsigned long long)want->seed,
+               (unsigned long long)want->number, what);
+    }
+    return differences <= MOST_SHOWN;
+}
+
+static void print_entry(const char *whose, const uint8_t *entry)
+{
+    printf("  %s: number %u flag %u byte %02X SYS_STAT %02X pins %u\n", whose, entry[0], entry[1], entry[2], entry[3],
+           entry[4]);
+}
+
+/* The bytes of a record, the first forty of them. */
+static void print_record(const struct expected *want, size_t record)
+{
+    size_t at = 0, end, shown;
+    while (record > 0 && want->length - at >= 4) {
+        at += 4 + want->stream[at] + 256 * (size_t)want->stream[at + 1];
+        record--;
+    }
+    end = want->length;
+    if (want->length - at >= 4) {
+        size_t whole = 4 + want->stream[at] + 256 * (size_t)want->stream[at + 1];
+        end = whole < want->length - at ? at + whole : want->length;
+    }
+    printf("  record:");
+    for (shown = at; shown < end && shown < at + 40; shown++) {
+        printf(" %02X", want->stream[shown]);
+    }
+    printf("%s\n", shown < end ? " .." : "");
+}
+
+static void compare_entries(const struct expected *want, const uint8_t *entries)
+{
+    size_t record;
+    for (record = 0; record < want->count; record++) {
+        const uint8_t *wanted = want->entries + TORALINGE_ENTRY_SIZE * record;
+        const uint8_t *given = entries + TORALINGE_ENTRY_SIZE * record;
+        if (memcmp(wanted, given, TORALINGE_ENTRY_SIZE) != 0) {
+            char what[64];
+            snprintf(what, sizeof what, "entry of record %lu", (unsigned long)record);
+            if (differs(want, what)) {
+                print_record(want, record);
+                print_entry("model  ", wanted);
+                print_entry("library", given);
+            }
+            return;
+        }
+    }
+}
+
+/* Plays into a room of some size: all entries where they fit, else -5 and no byte. */
+static void play_into(const struct expected *want, size_t room)
+{
+    size_t full = TORALINGE_ENTRY_SIZE * want->count;
+    int fits = room >= full;
+    int64_t wanted = fits ? (int64_t)want->count : -5;
+    struct guarded buffer = guarded_new(room);
+    int64_t given = toralinge_play(want->stream, want->length, buffer.room, room);
+    if (given != wanted) {
+        if (differs(want, "count of entries")) {
+            printf("  room %lu: model %lld, library %lld\n", (unsigned long)room, (long long)wanted, (long long)given);
+        }
+    }
+    if (!guarded_kept(&buffer, fits ? full : 0)) {
+        if (differs(want, "a byte is written that is not an entry's")) {
+            printf("  room %lu of %lu\n", (unsigned long)room, (unsigned long)full);
+        }
+    }
+    if (room == full) {
+        compare_entries(want, buffer.room);
+    } else if (fits && given == wanted) {
+        struct guarded exact = guarded_new(full);
+        toralinge_play(want->stream, want->length, exact.room, full);
+        if (memcmp(exact.room, buffer.room, full) != 0) {
+            differs(want, "entries are others where there is more room");
+        }
+        guarded_free(&exact);
+    }
+    guarded_free(&buffer);
+}
+
+static void read_into(const struct expected *want, size_t room)
+{
+    uint8_t wanted = want->reading_number;
+    uint8_t given;
+    size_t written;
+    struct guarded buffer = guarded_new(sizeof(double) * room);
+    if (wanted == TORALINGE_DONE && room < TORALINGE_READING_SIZE) {
+        wanted = TORALINGE_NO_ROOM;
+    }
+    written = wanted == TORALINGE_DONE ? TORALINGE_READING_SIZE * sizeof(double) : 0;
+    given = toralinge_reading(want->stream, want->length, (double *)(void *)buffer.room, room);
+    if (given != wanted && differs(want, "number of the reading")) {
+        printf("  room %lu: model %u, library %u\n", (unsigned long)room, wanted, given);
+    }
+    if (!guarded_kept(&buffer, written)) {
+        differs(want, "a byte is written that is not the reading's");
+    }
+    if (written != 0 && memcmp(buffer.room, want->reading, written) != 0 && differs(want, "reading")) {
+        int place;
+        for (place = 0; place < TORALINGE_READING_SIZE; place++) {
+            double of_model, of_library;
+            memcpy(&of_model, &want->reading[place], sizeof of_model);
+            memcpy(&of_library, buffer.room + sizeof(double) * (size_t)place, sizeof of_library);
+            printf("  place %d: model %.17g, library %.17g\n", place, of_model, of_library);
+        }
+    }
+    guarded_free(&buffer);
+}
+
+static void stream_block(void)
+{
+    struct expected want;
+    size_t full, place;
+    uint8_t *lent;
+    want.seed = get_number(8);
+    want.number = get_number(8);
+    want.length = (size_t)get_number(8);
+    want.stream = get_bytes(want.length);
+    want.count = (size_t)get_number(8);
+    want.entries = get_bytes(TORALINGE_ENTRY_SIZE * want.count);
+    want.reading_number = (uint8_t)get_number(1);
+    for (place = 0; place < TORALINGE_READING_SIZE; place++) {
+        want.reading[place] = get_number(8);
+    }
+    full = TORALINGE_ENTRY_SIZE * want.count;
+    lent = malloc(want.length + 1);
+    if (lent == NULL) {
+        fprintf(stderr, "driver: out of memory\n");
+        exit(2);
+    }
+    memcpy(lent, want.stream, want.length);
+    play_into(&want, full);
+    play_into(&want, full + 1 + (size_t)(want.number % 90));
+    if (full > 0) {
+        play_into(&want, full - 1);
+        play_into(&want, full - TORALINGE_ENTRY_SIZE);
+    }
+    read_into(&want, TORALINGE_READING_SIZE + (size_t)(want.number % 2));
+    read_into(&want, (size_t)(want.number % TORALINGE_READING_SIZE));
+    if (memcmp(lent, want.stream, want.length) != 0) {
+        differs(&want, "the stream itself is changed");
+    }
+    free(lent);
+    streams++;
+    records += (unsigned long)want.count;
+    free(want.stream);
+    free(want.entries);
+}
+
+/* One conversion; the value lent is 8 bytes wide, of which a call may write its own type's. */
+static void conversion_block(void)
+{
+    uint8_t call = (uint8_t)get_number(1);
+    uint8_t gain_code = (uint8_t)get_number(1);
+    uint8_t offset = (uint8_t)get_number(1);
+    uint16_t count = (uint16_t)get_number(2);
+    int64_t wanted = (int64_t)get_number(8);
+    uint8_t number = (uint8_t)get_number(1);
+    int64_t value = (int64_t)get_number(8);
+    struct guarded lent = guarded_new(8);
+    int64_t *wide = (int64_t *)(void *)lent.room;
+    size_t width = call == 'o' || call == 'u' ? 1 : 8;
+    uint8_t given = 0;
+    int64_t found = 0;
+    switch (call) {
+    case 'm': given = toralinge_cell_microvolts(gain_code, offset, count, wide); break;
+    case 't': given = toralinge_thermistor_ohms(count, (uint64_t *)(void *)lent.room); break;
+    case 'd': given = toralinge_die_temperature(count, wide); break;
+    case 'o': given = toralinge_over_voltage_code(gain_code, offset, wanted, lent.room); break;
+    case 'u': given = toralinge_under_voltage_code(gain_code, offset, wanted, lent.room); break;
+    default: *wide = toralinge_cc_hundredths(count); break;
+    }
+    if (given == 0) {
+        found = width == 1 ? (int64_t)lent.room[0] : *wide;
+    }
+    conversions++;
+    if (given != number || found != value || !guarded_kept(&lent, number == 0 ? width : 0)) {
+        differences++;
+        if (differences <= MOST_SHOWN) {
+            printf("DIFFERENCE conversion %c gain code %u offset %u count %u wanted %lld\n", call, gain_code, offset, count,
+                   (long long)wanted);
+            printf("  model: number %u value %lld; library: number %u value %lld; guards %s\n", number, (long long)value,
+                   given, (long long)found, guarded_kept(&lent, number == 0 ? width : 0) ? "kept" : "BROKEN");
+        }
+    }
+    guarded_free(&lent);
+}
+
+static void crc_block(void)
+{
+    uint8_t start = (uint8_t)get_number(1);
+    size_t length = (size_t)get_number(8);
+    uint8_t *bytes = get_bytes(length);
+    uint8_t wanted = (uint8_t)get_number(1);
+    uint8_t given = toralinge_crc8(start, bytes, length);
+    conversions++;
+    if (given != wanted) {
+        differences++;
+        if (differences <= MOST_SHOWN) {
+            printf("DIFFERENCE CRC of %lu bytes from %02X: model %02X, library %02X\n", (unsigned long)length, start, wanted,
+                   given);
+        }
+    }
+    free(bytes);
+}
+
+int main(void)
+{
+    for (;;) {
+        int block = getchar();
+        if (block == 'S') {
+            stream_block();
+        } else if (block == 'V') {
+            conversion_block();
+        } else if (block == 'K') {
+            crc_block();
+        } else if (block == 'E') {
+            break;
+        } else {
+            fprintf(stderr, "driver: its input has no such block\n");
+            return 2;
+        }
+    }
+    printf("driver: %lu streams, %lu records and %lu conversions compared, %lu differences\n", streams, records, conversions,
+           differences);
+    return differences == 0 ? 0 : 1;
+}

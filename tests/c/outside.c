@@ -1,0 +1,515 @@
+/*
+ * The library as a C program sees it: document 01's examples, both sides of its lines and its refusals, through
+ * include/toralinge.h alone, with guard bytes round every buffer that is lent.
+ */
+#include "guard.h"
+#include "toralinge.h"
+
+static unsigned long checks;
+
+#define CHECK(what)                                                                                                    \
+    do {                                                                                                               \
+        checks++;                                                                                                      \
+        if (!(what)) {                                                                                                 \
+            fprintf(stderr, "%s:%d: does not hold: %s\n", __FILE__, __LINE__, #what);                                  \
+            exit(1);                                                                                                   \
+        }                                                                                                              \
+    } while (0)
+
+enum kind { SETUP = 0x00, POR, BOOT, SCAN, TEMP, COUNT, SENSE, PIN, LOAD, XREADY, START = 0x10, OUT, IN, STOP };
+
+/* ---- streams */
+
+struct stream {
+    uint8_t bytes[4096];
+    size_t length;
+};
+
+static void add(struct stream *to, unsigned kind, const uint8_t *payload, size_t size)
+{
+    uint8_t *at = to->bytes + to->length;
+    at[0] = (uint8_t)(size & 0xFF);
+    at[1] = (uint8_t)(size >> 8);
+    at[2] = (uint8_t)(kind & 0xFF);
+    at[3] = (uint8_t)(kind >> 8);
+    if (size > 0) {
+        memcpy(at + 4, payload, size);
+    }
+    to->length += 4 + size;
+}
+
+static void add_bare(struct stream *to, unsigned kind)
+{
+    add(to, kind, NULL, 0);
+}
+
+static void add_byte(struct stream *to, unsigned kind, uint8_t byte)
+{
+    add(to, kind, &byte, 1);
+}
+
+/* SETUP of the paper's example: part 1, address 0x08, gain code 10, offset 30, floor 1,000. */
+static void add_setup(struct stream *to, uint8_t crc)
+{
+    uint8_t payload[7] = {1, 0, 0x08, 0x0A, 0x1E, 0xE8, 0x03};
+    payload[1] = crc;
+    add(to, SETUP, payload, sizeof payload);
+}
+
+static struct stream awake(uint8_t crc)
+{
+    struct stream made;
+    made.length = 0;
+    add_setup(&made, crc);
+    add_bare(&made, BOOT);
+    return made;
+}
+
+/* A scan of five inputs: four quiet ones at 8,200 and the last as given. */
+static void add_scan(struct stream *to, uint16_t last)
+{
+    uint8_t payload[10];
+    int input;
+    for (input = 0; input < 5; input++) {
+        uint16_t count = input < 4 ? 8200 : last;
+        payload[2 * input] = (uint8_t)(count & 0xFF);
+        payload[2 * input + 1] = (uint8_t)(count >> 8);
+    }
+    add(to, SCAN, payload, sizeof payload);
+}
+
+static void add_sense(struct stream *to, int32_t microvolts)
+{
+    uint32_t bits = (uint32_t)microvolts;
+    uint8_t payload[4];
+    int place;
+    for (place = 0; place < 4; place++) {
+        payload[place] = (uint8_t)(bits >> (8 * place));
+    }
+    add(to, SENSE, payload, sizeof payload);
+}
+
+static void add_write(struct stream *to, uint8_t pointer, uint8_t value)
+{
+    add_bare(to, START);
+    add_byte(to, OUT, 0x10);
+    add_byte(to, OUT, pointer);
+    add_byte(to, OUT, value);
+    add_bare(to, STOP);
+}
+
+/* ---- playing */
+
+static uint8_t played[4096 * TORALINGE_ENTRY_SIZE];
+
+/* Plays with just enough room, more room and too little; leaves the entries in `played`. */
+static int64_t play(const struct stream *from)
+{
+    struct guarded lent = guarded_new(from->length);
+    struct guarded most = guarded_new(sizeof played);
+    int64_t count;
+    size_t full, room;
+    memcpy(lent.room, from->bytes, from->length);
+    count = toralinge_play(lent.room, lent.size, most.room, most.size);
+    CHECK(count >= 0 && count <= 4096);
+    full = TORALINGE_ENTRY_SIZE * (size_t)count;
+    CHECK(guarded_kept(&most, full));
+    memcpy(played, most.room, full);
+    guarded_free(&most);
+    for (room = full > 12 ? full - 12 : 0; room <= full + 2; room++) {
+        struct guarded entries = guarded_new(room);
+        int64_t given = toralinge_play(lent.room, lent.size, entries.room, entries.size);
+        if (room < full) {
+            CHECK(given == -5);
+            CHECK(guarded_kept(&entries, 0));
+        } else {
+            CHECK(given == count);
+            CHECK(guarded_kept(&entries, full));
+            CHECK(memcmp(entries.room, played, full) == 0);
+        }
+        guarded_free(&entries);
+    }
+    CHECK(memcmp(lent.room, from->bytes, from->length) == 0);
+    CHECK(guarded_kept(&lent, lent.size));
+    guarded_free(&lent);
+    return count;
+}
+
+static int entry_is(int64_t record, uint8_t number, uint8_t flag, uint8_t byte, uint8_t stat, uint8_t pins)
+{
+    const uint8_t *entry = played + TORALINGE_ENTRY_SIZE * (size_t)record;
+    return entry[TORALINGE_ENTRY_NUMBER] == number && entry[TORALINGE_ENTRY_BUS_FLAG] == flag &&
+           entry[TORALINGE_ENTRY_BUS_BYTE] == byte && entry[TORALINGE_ENTRY_SYS_STAT] == stat &&
+           entry[TORALINGE_ENTRY_PINS] == pins;
+}
+
+static uint8_t last_status(const struct stream *from)
+{
+    int64_t count = play(from);
+    CHECK(count > 0);
+    return played[TORALINGE_ENTRY_SIZE * (size_t)(count - 1) + TORALINGE_ENTRY_SYS_STAT];
+}
+
+static void the_example(void)
+{
+    struct stream example = awake(0);
+    add_bare(&example, START);
+    add_byte(&example, OUT, 0x10);
+    add_byte(&example, OUT, 0x05);
+    add_byte(&example, OUT, 0x03);
+    add_bare(&example, STOP);
+    add_bare(&example, XREADY);
+    CHECK(play(&example) == 8);
+    CHECK(entry_is(0, 0, 0, 0, 0x00, 0));
+    CHECK(entry_is(1, 0, 0, 0, 0x00, 0));
+    CHECK(entry_is(2, 0, 0, 0, 0x00, 0));
+    CHECK(entry_is(3, 0, 1, 0, 0x00, 0));
+    CHECK(entry_is(4, 0, 1, 0, 0x00, 0));
+    CHECK(entry_is(5, 0, 1, 0, 0x00, TORALINGE_PIN_CHG | TORALINGE_PIN_DSG));
+    CHECK(entry_is(6, 0, 0, 0, 0x00, TORALINGE_PIN_CHG | TORALINGE_PIN_DSG));
+    CHECK(entry_is(7, 0, 0, 0, 0x20, TORALINGE_PIN_ALERT));
+}
+
+static void crc_frames(void)
+{
+    struct stream good = awake(1), bad = awake(1);
+    add_bare(&good, START);
+    add_byte(&good, OUT, 0x10);
+    add_byte(&good, OUT, 0x05);
+    add_byte(&good, OUT, 0x03);
+    add_byte(&good, OUT, 0xEA);
+    add_byte(&good, OUT, 0x03); /* to 0x06: threshold code 3 */
+    add_byte(&good, OUT, 0x09);
+    add_bare(&good, START);
+    add_byte(&good, OUT, 0x10);
+    add_byte(&good, OUT, 0x00);
+    add_bare(&good, START);
+    add_byte(&good, OUT, 0x11);
+    add_byte(&good, IN, 0);
+    add_byte(&good, IN, 1);
+    CHECK(play(&good) == 16);
+    CHECK(entry_is(5, 0, 1, 0, 0x00, 0)); /* the data byte waits for its CRC */
+    CHECK(entry_is(6, 0, 1, 0, 0x00, 3));
+    CHECK(entry_is(8, 0, 1, 0, 0x00, 3));
+    CHECK(entry_is(14, 0, 1, 0x00, 0x00, 3));
+    CHECK(entry_is(15, 0, 1, 0x42, 0x00, 3));
+    add_bare(&bad, START);
+    add_byte(&bad, OUT, 0x10);
+    add_byte(&bad, OUT, 0x05);
+    add_byte(&bad, OUT, 0x03);
+    add_byte(&bad, OUT, 0xEB);
+    add_byte(&bad, OUT, 0x03);
+    CHECK(play(&bad) == 8);
+    CHECK(entry_is(5, 0, 1, 0, 0x00, 0));
+    CHECK(entry_is(6, 0, 1, 1, 0x00, 0)); /* wrong: not acknowledged, and nothing is stored */
+    CHECK(entry_is(7, 0, 1, 1, 0x00, 0)); /* the bus is idle */
+}
+
+static void refused_first_records(void)
+{
+    static const struct {
+        uint8_t bytes[11];
+        size_t length;
+        uint8_t number;
+    } first[] = {
+        {{7, 0, 0, 0, 0, 0, 0x08, 10, 30, 0xE8, 0x03}, 11, 1},  /* part 0 */
+        {{7, 0, 0, 0, 4, 0, 0x08, 10, 30, 0xE8, 0x03}, 11, 1},  /* part 4 */
+        {{7, 0, 0, 0, 1, 2, 0x08, 10, 30, 0xE8, 0x03}, 11, 1},  /* CRC 2 */
+        {{7, 0, 0, 0, 1, 0, 0x07, 10, 30, 0xE8, 0x03}, 11, 1},  /* address 0x07 */
+        {{7, 0, 0, 0, 1, 0, 0x78, 10, 30, 0xE8, 0x03}, 11, 1},  /* address 0x78 */
+        {{7, 0, 0, 0, 1, 0, 0x08, 32, 30, 0xE8, 0x03}, 11, 1},  /* gain code 32 */
+        {{7, 0, 0, 0, 1, 0, 0x08, 10, 30, 0x00, 0x10}, 11, 1},  /* floor 4,096 */
+        {{6, 0, 0, 0, 1, 0, 0x08, 10, 30, 0xE8}, 10, 2},        /* six bytes */
+        {{0, 0, 2, 0}, 4, 2},                                   /* BOOT */
+        {{0, 0, 0x0A, 0}, 4, 2},                                /* no such kind */
+        {{7, 0, 0}, 3, 9},                                      /* a cut header */
+        {{1, 0, 0x0A, 0}, 4, 9},                                /* a cut payload, though the kind is unknown */
+        {{7, 0, 0, 0, 1, 0, 0x08, 10, 30, 0xE8}, 10, 9},        /* SETUP without its last byte */
+    };
+    size_t at;
+    for (at = 0; at < sizeof first / sizeof first[0]; at++) {
+        struct stream made;
+        struct guarded reading = guarded_new(TORALINGE_READING_SIZE * sizeof(double));
+        made.length = first[at].length;
+        memcpy(made.bytes, first[at].bytes, made.length);
+        if (first[at].number != 9) {
+            add_bare(&made, BOOT); /* never reached */
+        }
+        CHECK(play(&made) == 1);
+        CHECK(entry_is(0, first[at].number, 0, 0, 0, 0));
+        CHECK(toralinge_reading(made.bytes, made.length, (double *)(void *)reading.room, 4) == first[at].number);
+        CHECK(toralinge_reading(made.bytes, made.length, (double *)(void *)reading.room, 0) == first[at].number);
+        CHECK(guarded_kept(&reading, 0));
+        guarded_free(&reading);
+    }
+}
+
+static void refused_later_records(void)
+{
+    struct stream made;
+    made.length = 0;
+    CHECK(play(&made) == 0);
+    add_setup(&made, 0);
+    add_scan(&made, 8200);      /* 1: asleep, 4 */
+    add_scan(&made, 16384);     /* 2: out of range before asleep, 3 */
+    add_byte(&made, SCAN, 0);   /* 3: wrong length, 2 */
+    add_byte(&made, OUT, 0x10); /* 4: done, not acknowledged */
+    add_byte(&made, IN, 0);     /* 5: done, 0xFF */
+    add_byte(&made, IN, 2);     /* 6: 3 */
+    add_bare(&made, BOOT);      /* 7 */
+    add_setup(&made, 0);        /* 8: SETUP again, 2 */
+    add_bare(&made, 0x0A);      /* 9: no such kind, 2 */
+    add_sense(&made, -500001);  /* 10: 3 */
+    add_sense(&made, INT32_MIN);/* 11: 3 */
+    add_sense(&made, -500000);  /* 12 */
+    add_byte(&made, LOAD, 2);   /* 13: 3 */
+    add_bare(&made, XREADY);    /* 14 */
+    made.bytes[made.length++] = 0; /* 15: a cut header, 9; the chip still stands */
+    CHECK(play(&made) == 16);
+    CHECK(entry_is(0, 0, 0, 0, 0, 0));
+    CHECK(entry_is(1, TORALINGE_ASLEEP, 0, 0, 0, 0));
+    CHECK(entry_is(2, TORALINGE_BAD_VALUE, 0, 0, 0, 0));
+    CHECK(entry_is(3, TORALINGE_BAD_KIND, 0, 0, 0, 0));
+    CHECK(entry_is(4, 0, 1, 1, 0, 0));
+    CHECK(entry_is(5, 0, 1, 0xFF, 0, 0));
+    CHECK(entry_is(6, TORALINGE_BAD_VALUE, 0, 0, 0, 0));
+    CHECK(entry_is(7, 0, 0, 0, 0, 0));
+    CHECK(entry_is(8, TORALINGE_BAD_KIND, 0, 0, 0, 0));
+    CHECK(entry_is(9, TORALINGE_BAD_KIND, 0, 0, 0, 0));
+    CHECK(entry_is(10, TORALINGE_BAD_VALUE, 0, 0, 0, 0));
+    CHECK(entry_is(11, TORALINGE_BAD_VALUE, 0, 0, 0, 0));
+    CHECK(entry_is(12, 0, 0, 0, 0, 0));
+    CHECK(entry_is(13, TORALINGE_BAD_VALUE, 0, 0, 0, 0));
+    CHECK(entry_is(14, 0, 0, 0, 0x20, TORALINGE_PIN_ALERT));
+    CHECK(entry_is(15, TORALINGE_CUT, 0, 0, 0x20, TORALINGE_PIN_ALERT));
+}
+
+static uint8_t status_after_scans(uint16_t count, int scans)
+{
+    struct stream made = awake(0);
+    while (scans-- > 0) {
+        add_scan(&made, count);
+    }
+    return last_status(&made);
+}
+
+static uint8_t status_after_ticks(int32_t microvolts, int ticks)
+{
+    struct stream made = awake(0);
+    while (ticks-- > 0) {
+        add_sense(&made, microvolts);
+    }
+    return last_status(&made);
+}
+
+static void both_sides_of_each_line(void)
+{
+    CHECK(status_after_scans(10952, 4) == 0x00);
+    CHECK(status_after_scans(10953, 3) == 0x00);
+    CHECK(status_after_scans(10953, 4) == 0x04);
+    CHECK(status_after_scans(6512, 4) == 0x00);
+    CHECK(status_after_scans(6511, 3) == 0x00);
+    CHECK(status_after_scans(6511, 4) == 0x08);
+    CHECK(status_after_scans(1000, 4) == 0x08); /* the floor itself is a cell */
+    CHECK(status_after_scans(999, 4) == 0x00);  /* below the floor there is none */
+    CHECK(status_after_ticks(-18500, 3) == 0x00);
+    CHECK(status_after_ticks(-18501, 2) == 0x00);
+    CHECK(status_after_ticks(-18501, 3) == 0x02);
+    CHECK(status_after_ticks(18501, 3) == 0x00);
+    CHECK(status_after_ticks(-9501, 255) == 0x00);
+    CHECK(status_after_ticks(-9501, 256) == 0x01);
+    CHECK(status_after_ticks(-9500, 256) == 0x00);
+}
+
+static int doubles_are(const uint8_t *room, double least, double greatest, double total, double cc)
+{
+    double wanted[TORALINGE_READING_SIZE];
+    wanted[TORALINGE_READING_LEAST] = least;
+    wanted[TORALINGE_READING_GREATEST] = greatest;
+    wanted[TORALINGE_READING_TOTAL] = total;
+    wanted[TORALINGE_READING_CC] = cc;
+    return memcmp(room, wanted, sizeof wanted) == 0;
+}
+
+static void readings(void)
+{
+    static const uint8_t cc[2] = {0x50, 0xC3};
+    struct stream made;
+    size_t room;
+    struct guarded lent = guarded_new(6 * sizeof(double));
+    double *reading = (double *)(void *)lent.room;
+    made.length = 0;
+    CHECK(toralinge_reading(made.bytes, 0, reading, 4) == TORALINGE_CUT);
+    CHECK(toralinge_reading(made.bytes, 0, reading, 3) == TORALINGE_CUT);
+    add_setup(&made, 0);
+    CHECK(toralinge_reading(made.bytes, made.length, reading, 4) == TORALINGE_ASLEEP);
+    CHECK(toralinge_reading(made.bytes, made.length, reading, 0) == TORALINGE_ASLEEP); /* 4 before 5 */
+    add_bare(&made, BOOT);
+    for (room = 0; room < TORALINGE_READING_SIZE; room++) {
+        CHECK(toralinge_reading(made.bytes, made.length, reading, room) == TORALINGE_NO_ROOM);
+    }
+    CHECK(guarded_kept(&lent, 0));
+    CHECK(toralinge_reading(made.bytes, made.length, reading, 4) == TORALINGE_DONE);
+    CHECK(doubles_are(lent.room, 30000.0, 30000.0, 150000.0, 0.0)); /* counts of 0, and the offset once a cell */
+    CHECK(guarded_kept(&lent, 4 * sizeof(double)));
+    add_scan(&made, 6144);
+    add_write(&made, 0x05, 0x40);
+    add(&made, COUNT, cc, sizeof cc);
+    CHECK(toralinge_reading(made.bytes, made.length, reading, 6) == TORALINGE_DONE);
+    CHECK(doubles_are(lent.room, 2204976.0, 2932800.0, 13936176.0, -13112384.0));
+    CHECK(guarded_kept(&lent, 4 * sizeof(double)));
+    made.bytes[made.length++] = 0xFF; /* a cut header ends the stream, and the chip stands as before */
+    CHECK(toralinge_reading(made.bytes, made.length, reading, 4) == TORALINGE_DONE);
+    CHECK(doubles_are(lent.room, 2204976.0, 2932800.0, 13936176.0, -13112384.0));
+    guarded_free(&lent);
+}
+
+/* ---- conversions */
+
+struct lent_value {
+    uint8_t before[GUARD_WIDTH];
+    union {
+        int64_t wide;
+        uint64_t ohms;
+        uint8_t code;
+        uint8_t bytes[8];
+    } value;
+    uint8_t after[GUARD_WIDTH];
+};
+
+static struct lent_value lent;
+
+/* Makes the value anew, all of it guard bytes. */
+static void lend(void)
+{
+    memset(&lent, GUARD_BYTE, sizeof lent);
+}
+
+static int value_kept(size_t written)
+{
+    const uint8_t *bytes = (const uint8_t *)&lent;
+    size_t start = offsetof(struct lent_value, value);
+    size_t at;
+    for (at = 0; at < sizeof lent; at++) {
+        if ((at < start || at >= start + written) && bytes[at] != GUARD_BYTE) {
+            return 0;
+        }
+    }
+    return 1;
+}
+
+static void cell_is(uint8_t gain_code, uint8_t offset, uint16_t count, uint8_t number, int64_t microvolts)
+{
+    lend();
+    CHECK(toralinge_cell_microvolts(gain_code, offset, count, &lent.value.wide) == number);
+    CHECK(value_kept(number == 0 ? 8 : 0));
+    CHECK(number != 0 || lent.value.wide == microvolts);
+}
+
+static void ohms_are(uint16_t count, uint8_t number, uint64_t ohms)
+{
+    lend();
+    CHECK(toralinge_thermistor_ohms(count, &lent.value.ohms) == number);
+    CHECK(value_kept(number == 0 ? 8 : 0));
+    CHECK(number != 0 || lent.value.ohms == ohms);
+}
+
+static void die_is(uint16_t count, uint8_t number, int64_t half_thousandths)
+{
+    lend();
+    CHECK(toralinge_die_temperature(count, &lent.value.wide) == number);
+    CHECK(value_kept(number == 0 ? 8 : 0));
+    CHECK(number != 0 || lent.value.wide == half_thousandths);
+}
+
+typedef uint8_t code_call(uint8_t gain_code, uint8_t offset, int64_t wanted, uint8_t *code);
+
+static void code_is(code_call *call, uint8_t gain_code, uint8_t offset, int64_t wanted, uint8_t number, uint8_t code)
+{
+    lend();
+    CHECK(call(gain_code, offset, wanted, &lent.value.code) == number);
+    CHECK(value_kept(number == 0 ? 1 : 0));
+    CHECK(number != 0 || lent.value.code == code);
+}
+
+static void conversions(void)
+{
+    cell_is(10, 30, 6144, 0, 2204976);
+    cell_is(10, 30, 7952, 0, 2845008);
+    cell_is(0, 0x80, 0, 0, -128000);
+    cell_is(31, 0x80, 0, 0, -128000);
+    cell_is(31, 0x7F, 16383, 0, 375 * 16383 + 127000);
+    cell_is(31, 0, 16384, TORALINGE_BAD_VALUE, 0);
+    cell_is(32, 0, 0, TORALINGE_BAD_SETUP, 0);
+    cell_is(255, 255, 65535, TORALINGE_BAD_SETUP, 0);
+    ohms_are(0, 0, 0);
+    ohms_are(4661, 0, 9999);
+    ohms_are(9322, 0, 2749990000u);
+    ohms_are(9323, TORALINGE_OPEN_SENSOR, 0);
+    ohms_are(16384, TORALINGE_OPEN_SENSOR, 0);
+    ohms_are(65535, TORALINGE_OPEN_SENSOR, 0);
+    die_is(0, 0, 680000);
+    die_is(3842, 0, -34);
+    die_is(16383, 0, 680000 - 177 * 16383);
+    die_is(16384, TORALINGE_BAD_VALUE, 0);
+    code_is(toralinge_over_voltage_code, 10, 30, 4300000, 0, 0xF1);
+    code_is(toralinge_under_voltage_code, 10, 30, 2500000, 0, 0xB4);
+    code_is(toralinge_over_voltage_code, 0, 0, 344 * 8192 - 1, TORALINGE_NO_CODE, 0);
+    code_is(toralinge_over_voltage_code, 0, 0, 344 * 8192, 0, 0x00);
+    code_is(toralinge_over_voltage_code, 0, 0, 344 * 12288 - 1, 0, 0xFF);
+    code_is(toralinge_over_voltage_code, 0, 0, 344 * 12288, TORALINGE_NO_CODE, 0);
+    code_is(toralinge_under_voltage_code, 31, 0x80, 375 * 4096 - 128001, TORALINGE_NO_CODE, 0);
+    code_is(toralinge_under_voltage_code, 31, 0x80, 375 * 4096 - 128000, 0, 0x00);
+    code_is(toralinge_under_voltage_code, 31, 0x80, 375 * 8192 - 128001, 0, 0xFF);
+    code_is(toralinge_under_voltage_code, 31, 0x80, 375 * 8192 - 128000, TORALINGE_NO_CODE, 0);
+    code_is(toralinge_over_voltage_code, 32, 30, 4300000, TORALINGE_BAD_SETUP, 0);
+    code_is(toralinge_under_voltage_code, 32, 30, INT64_MAX, TORALINGE_BAD_SETUP, 0);
+    code_is(toralinge_over_voltage_code, 0, 0x80, INT64_MAX, TORALINGE_NO_CODE, 0);
+    code_is(toralinge_over_voltage_code, 0, 0x7F, INT64_MIN, TORALINGE_NO_CODE, 0);
+    code_is(toralinge_under_voltage_code, 31, 0x80, INT64_MAX, TORALINGE_NO_CODE, 0);
+    code_is(toralinge_under_voltage_code, 31, 0x7F, INT64_MIN, TORALINGE_NO_CODE, 0);
+    CHECK(toralinge_cc_hundredths(0xC350) == -13112384);
+    CHECK(toralinge_cc_hundredths(0xFFFF) == -844);
+    CHECK(toralinge_cc_hundredths(0x0000) == 0);
+    CHECK(toralinge_cc_hundredths(0x7FFF) == 27655348);
+    CHECK(toralinge_cc_hundredths(0x8000) == -27656192);
+}
+
+static uint8_t crc_of(uint8_t start, const char *text, size_t length)
+{
+    struct guarded bytes = guarded_new(length);
+    uint8_t sum;
+    if (length > 0) {
+        memcpy(bytes.room, text, length);
+    }
+    sum = toralinge_crc8(start, bytes.room, length);
+    CHECK(guarded_kept(&bytes, length));
+    CHECK(memcmp(bytes.room, text, length) == 0);
+    guarded_free(&bytes);
+    return sum;
+}
+
+static void sums(void)
+{
+    CHECK(crc_of(0, "", 0) == 0x00);
+    CHECK(crc_of(0x5A, "", 0) == 0x5A);
+    CHECK(crc_of(0, "\x10\x05\x03", 3) == 0xEA);
+    CHECK(crc_of(0, "\x03", 1) == 0x09);
+    CHECK(crc_of(0, "\x11\x00", 2) == 0x42);
+    CHECK(crc_of(0, "123456789", 9) == 0xF4);
+    CHECK(crc_of(crc_of(0, "1234", 4), "56789", 5) == 0xF4);
+}
+
+int main(void)
+{
+    the_example();
+    crc_frames();
+    refused_first_records();
+    refused_later_records();
+    both_sides_of_each_line();
+    readings();
+    conversions();
+    sums();
+    printf("outside: %lu checks of the library hold, called from C\n", checks);
+    return 0;
+}

@@ -1,0 +1,218 @@
+//! Errors that can be planted in the model. Each changes one rule of document 01; the generated streams must show it.
+
+#[derive(Clone, Copy, PartialEq, Eq, Debug)]
+pub enum Fault {
+    Ov,
+    Uv,
+    Scd,
+    Ocd,
+}
+
+pub const FAULTS: [Fault; 4] = [Fault::Ov, Fault::Uv, Fault::Scd, Fault::Ocd];
+
+#[derive(Clone, Copy, PartialEq, Eq, Debug)]
+pub enum Plant {
+    None,
+    // document 01, "Errors that look right"
+    WriteBeforeCrc,
+    AddressInEveryWriteCrc,
+    AddressInEveryReadCrc,
+    ClearingEndsRun(Fault),
+    LowByteReadAgain,
+    // judging
+    OverAtLine,
+    UnderAtLine,
+    FloorItselfLeftOut,
+    UnderIgnoresFloor,
+    UnderByTwoCells,
+    OnlyFirstInputJudged,
+    LastInputNotJudged,
+    ScdLimitHigher { rsns: u8, code: u8 },
+    ScdLimitLower { rsns: u8, code: u8 },
+    OcdLimitHigher { rsns: u8, code: u8 },
+    OcdLimitLower { rsns: u8, code: u8 },
+    DelayLonger(Fault, u8),
+    DelayShorter(Fault, u8),
+    DelayDisForgotten(Fault),
+    DelayDisForCurrents,
+    SetBitStopsRun(Fault),
+    ShorterDelayActsAtOnce,
+    SilentScanKeepsRuns,
+    SilentScanEndsCurrentRuns,
+    SilentScanStores,
+    AdcOffEndsRuns,
+    ThresholdWriteEndsRuns,
+    RefusedScanEndsRuns,
+    RefusedSenseEndsRuns,
+    RunsOutliveShip,
+    TripAtOldSetting,
+    BatRoundedUp,
+    BatOfFirstFive,
+    TempWithAdcOff,
+    SenseNegativeMeansCharge,
+    // drives and status
+    OvPutsOffDischarge,
+    OvLeavesCharge,
+    UvLeavesDischarge,
+    OcdLeavesDischarge,
+    ScdLeavesDischarge,
+    OverrideLeavesCharge,
+    OverrideLeavesDischarge,
+    XreadyLeavesCharge,
+    XreadyLeavesDischarge,
+    CcReadyPutsOff,
+    PinWithStatusUp,
+    PinOverCcReady,
+    XreadyKeepsBalance,
+    ChargeDespite(u8),
+    DischargeDespite(u8),
+    ChargeHeldByUv,
+    DischargeHeldByOv,
+    OneshotDespiteReady,
+    OneshotDespiteEnable,
+    OneshotNotDropped,
+    WaitingOneshotKept,
+    CountWithoutEnable,
+    StatusWriteStores,
+    ClearingAlsoByZeros,
+    CcReadyNotInAlert,
+    // registers
+    LoadDespiteCharge,
+    LoadOutlivesPor,
+    BalanceOfLackingInputs,
+    BalanceAllBits,
+    CcCfgAllBits,
+    ProtectAllBits,
+    ResetOvTrip,
+    ResetUvTrip,
+    ResetCcCfg,
+    ResetAdcOff,
+    CellsWritable,
+    OffsetWritable,
+    GainBitsSwapped,
+    LowByteFirst,
+    // modes
+    BootResets,
+    BootIdlesBus,
+    BootEndsRuns,
+    PorKeepsPointer,
+    PorStaysAwake,
+    ShipByTwoAlone,
+    ShipAfterTwiceOne,
+    OtherWriteDropsPair,
+    PairNeverShown,
+    PairZeroKeepsOne,
+    ShippingByteRefused,
+    ShippingGrowsPointer,
+    StartAsleepCounts,
+    // bus
+    PointerForgottenAtStop,
+    PointerGrowsOnWrongCrc,
+    WrongCrcStaysInFrame,
+    WrongCrcAcknowledged,
+    PointerStopsAtEnd,
+    StartKeepsWaitingByte,
+    StopKeepsFrame,
+    CrcStartsAgain,
+    WriteAddressInReadCrc,
+    UnmatchedStaysOpen,
+    InOutsideReadIdles,
+    RefusedByteDoesNotGrow,
+    UnackedKeepsReading,
+    OutWhileReadingKept,
+    LowByteOutlivesStart,
+    LowByteKeptBelowPairs,
+    OwedCrcOfByteNow,
+    ConditionsAtDataByte,
+    CrcBytePassesForData,
+    // records
+    SecondSetupTaken,
+    UnknownKindEndsStream,
+    KindsDecimal,
+    AsleepBeforeRange,
+    AsleepBeforeLength,
+    BusRefusedAsleep,
+    BootRefusedAwake,
+    SenseEndsLeftOut,
+    RangeNotChecked,
+    CutAfterKind,
+    RefusedFirstGoesOn,
+    FlagOnRefused,
+    CutEntryBlank,
+    KindLowByteOnly,
+    LengthLowByteOnly,
+    // readings and conversions
+    ReadingOffsetUnsigned,
+    ReadingCcUnsigned,
+    ReadingAllInputs,
+    ReadingAsleepGiven,
+    ReadingRefusedWhereCut,
+    GainFrom343,
+    ThermistorLimit,
+    ThermistorNearest,
+    DieLimit,
+    OvWindowWider,
+    UvWindowNarrower,
+    CodeOffsetAdded,
+}
+
+use Plant::*;
+
+#[rustfmt::skip]
+const PLAIN: &[Plant] = &[
+    WriteBeforeCrc, AddressInEveryWriteCrc, AddressInEveryReadCrc, LowByteReadAgain,
+    OverAtLine, UnderAtLine, FloorItselfLeftOut, UnderIgnoresFloor, UnderByTwoCells, OnlyFirstInputJudged,
+    LastInputNotJudged, DelayDisForCurrents, ShorterDelayActsAtOnce, SilentScanKeepsRuns, SilentScanEndsCurrentRuns,
+    SilentScanStores, AdcOffEndsRuns, ThresholdWriteEndsRuns, RefusedScanEndsRuns, RefusedSenseEndsRuns,
+    RunsOutliveShip, TripAtOldSetting, BatRoundedUp, BatOfFirstFive, TempWithAdcOff, SenseNegativeMeansCharge,
+    OvPutsOffDischarge, OvLeavesCharge, UvLeavesDischarge, OcdLeavesDischarge, ScdLeavesDischarge,
+    OverrideLeavesCharge, OverrideLeavesDischarge, XreadyLeavesCharge, XreadyLeavesDischarge, CcReadyPutsOff,
+    PinWithStatusUp, PinOverCcReady, XreadyKeepsBalance, ChargeHeldByUv, DischargeHeldByOv,
+    OneshotDespiteReady, OneshotDespiteEnable, OneshotNotDropped, WaitingOneshotKept, CountWithoutEnable,
+    StatusWriteStores, ClearingAlsoByZeros, CcReadyNotInAlert,
+    LoadDespiteCharge, LoadOutlivesPor, BalanceOfLackingInputs, BalanceAllBits, CcCfgAllBits, ProtectAllBits,
+    ResetOvTrip, ResetUvTrip, ResetCcCfg, ResetAdcOff, CellsWritable, OffsetWritable, GainBitsSwapped, LowByteFirst,
+    BootResets, BootIdlesBus, BootEndsRuns, PorKeepsPointer, PorStaysAwake, ShipByTwoAlone, ShipAfterTwiceOne,
+    OtherWriteDropsPair, PairNeverShown, PairZeroKeepsOne, ShippingByteRefused, ShippingGrowsPointer, StartAsleepCounts,
+    PointerForgottenAtStop, PointerGrowsOnWrongCrc, WrongCrcStaysInFrame, WrongCrcAcknowledged, PointerStopsAtEnd,
+    StartKeepsWaitingByte, StopKeepsFrame, CrcStartsAgain, WriteAddressInReadCrc, UnmatchedStaysOpen,
+    InOutsideReadIdles, RefusedByteDoesNotGrow, UnackedKeepsReading, OutWhileReadingKept, LowByteOutlivesStart,
+    LowByteKeptBelowPairs, OwedCrcOfByteNow, ConditionsAtDataByte, CrcBytePassesForData,
+    SecondSetupTaken, UnknownKindEndsStream, KindsDecimal, AsleepBeforeRange, AsleepBeforeLength, BusRefusedAsleep,
+    BootRefusedAwake, SenseEndsLeftOut, RangeNotChecked, CutAfterKind, RefusedFirstGoesOn, FlagOnRefused, CutEntryBlank,
+    KindLowByteOnly, LengthLowByteOnly,
+    ReadingOffsetUnsigned, ReadingCcUnsigned, ReadingAllInputs, ReadingAsleepGiven, ReadingRefusedWhereCut,
+    GainFrom343, ThermistorLimit, ThermistorNearest, DieLimit, OvWindowWider, UvWindowNarrower, CodeOffsetAdded,
+];
+
+/// Every plant, those over a table once for each of its places.
+pub fn all() -> Vec<Plant> {
+    let mut plants = PLAIN.to_vec();
+    for rsns in 0..2 {
+        for code in 0..16 {
+            plants.push(OcdLimitHigher { rsns, code });
+            plants.push(OcdLimitLower { rsns, code });
+            if code < 8 {
+                plants.push(ScdLimitHigher { rsns, code });
+                plants.push(ScdLimitLower { rsns, code });
+            }
+        }
+    }
+    for fault in FAULTS {
+        plants.push(ClearingEndsRun(fault));
+        plants.push(SetBitStopsRun(fault));
+        for code in 0..if fault == Fault::Ocd { 8 } else { 4 } {
+            plants.push(DelayLonger(fault, code));
+            plants.push(DelayShorter(fault, code));
+        }
+    }
+    plants.push(DelayDisForgotten(Fault::Ov));
+    plants.push(DelayDisForgotten(Fault::Uv));
+    for bit in [2, 4, 5] {
+        plants.push(ChargeDespite(bit));
+    }
+    for bit in [0, 1, 3, 4, 5] {
+        plants.push(DischargeDespite(bit));
+    }
+    plants
+}
