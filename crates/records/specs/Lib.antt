@@ -1,0 +1,6 @@
+pub mod Numbers
+pub mod Kind
+pub mod Record
+pub mod Ranges
+pub mod Words
+pub mod Reading
