@@ -3,4 +3,6 @@ pub mod Kind
 pub mod Record
 pub mod Ranges
 pub mod Words
+pub mod Counted
 pub mod Reading
+pub mod Sound

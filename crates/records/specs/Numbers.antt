@@ -1,7 +1,7 @@
 -- Document 01, "Events and their records": all numbers little-endian. Assumes nothing.
 use Prim.Native.Nat.{ℕ, zero, suc, _+_, _-_, _*_}
 use mathlib.Core.List.{List, [], _∷_}
-use mathlib.Core.Bool.{cond}
+use mathlib.Core.Bool.{Bool, cond}
 use lib.ListN.{length, getD}
 use lib.Dec.{ltb, leb}
 use lib.IntN.{ℤ, pos, negsuc}
@@ -16,6 +16,10 @@ le32 b at = le16 b at + 65536 * le16 b (at + 2)
 -- a number of 32 bits with its sign
 abbrev pub signed32 : ℕ → ℤ
 signed32 u = cond (ltb u 2147483648) (pos u) (negsuc (4294967295 - u))
+
+-- a switch, 0 or 1
+abbrev pub bitOf : Bool → ℕ
+bitOf t = cond t 1 0
 
 -- the numbers of 2 bytes that bytes hold
 abbrev pub words : List ℕ → List ℕ

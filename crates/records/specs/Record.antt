@@ -5,7 +5,7 @@ use mathlib.Core.Bool.{Bool, true, false, cond, _&&_}
 use lib.ListN.{length, getD, take, drop, replicate}
 use lib.Dec.{ltb, leb, eqb}
 use lib.IntN.{ℤ}
-use Rattle.events.specs.Setup.{checkedOf, groups, inputs}
+use Rattle.events.specs.Setup.{setupFits, checkedOf, groups, inputs}
 use Rattle.events.specs.Event.{countMost, within, senseFits}
 use Rattle.events.specs.declared.Setup.{Setup as SetupValues}
 use Rattle.events.specs.declared.Counts.{Counts}
@@ -14,7 +14,7 @@ use Rattle.events.specs.declared.Checked.the-variants.{Good, Bad}
 use Rattle.events.specs.declared.BusEvent.the-variants.{Start, Out, In, Stop}
 use Rattle.events.specs.declared.Event.{Event}
 use Rattle.events.specs.declared.Event.the-variants.{Setup, Por, Boot, Scan, Temp, Count, Sense, Pin, Load, Xready, OnBus}
-use Rattle.records.specs.Numbers.{le16, le32, signed32, words, filled}
+use Rattle.records.specs.Numbers.{le16, le32, signed32, bitOf, words, filled}
 use Rattle.records.specs.Kind.{SETUP, POR, BOOT, SCAN, TEMP, COUNT, SENSE, PIN, LOAD, XREADY, START, OUT, IN, STOP}
 use Rattle.records.specs.declared.Payload.{Payload}
 use Rattle.records.specs.declared.Payload.the-variants.{Whole, Unfit}
@@ -27,6 +27,9 @@ use Rattle.records.specs.declared.Taken.{Taken}
 abbrev pub checkedIn : Checked → Payload
 checkedIn (Good v) = Whole (Setup v)
 checkedIn Bad = Unfit 1
+
+abbrev pub setupGood : SetupValues → Bool
+setupGood v = setupFits (v .part) (bitOf (v .crc)) (v .address) (v .gain) (v .floor)
 
 unfoldable pub setupIn : List ℕ → Payload
 setupIn b =

@@ -164,13 +164,13 @@ fn host_out(b: &[u8]) -> Payload
 }
 
 // How many groups of five inputs a part has: at most three.
-fn groups_at(part: u8) -> u8
+pub fn groups_at(part: u8) -> u8
     ensures { λ r. ⌜ r ≡ groupsAt part ⌝ }
 {
     if part < 3 { part } else { 3 }
 }
 
-fn inputs_at(part: u8) -> u8
+pub fn inputs_at(part: u8) -> u8
     ensures { λ r. ⌜ r ≡ inputsAt part ⌝ }
 {
     if part < 3 { 5 * part } else { 15 }
@@ -275,7 +275,7 @@ fn counts_of(b: &[u8]) -> Counts
     Counts { many: 15, of }
 }
 
-fn no_counts() -> Counts
+pub fn no_counts() -> Counts
     ensures { λ r. ⌜ r ≡ noCounts ⌝ }
 {
     Counts {
