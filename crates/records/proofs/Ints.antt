@@ -15,7 +15,7 @@ use Rattle.events.specs.Event.{senseFits}
 use Rattle.events.specs.declared.Event.the-variants.{Sense}
 use Rattle.records.specs.Numbers.{signed32}
 use Rattle.records.specs.Record.{senseOf}
-use Rattle.records.specs.Ranges.{fits-pos, fits-neg}
+use Rattle.records.specs.Ranges.{fits-pos, fits-neg, sense-as, as-pos, as-neg}
 use Rattle.records.specs.declared.Payload.the-variants.{Whole, Unfit}
 
 below-zero : (k : ℕ) → subℕ 0 (suc k) ≡ negsuc k
@@ -27,18 +27,6 @@ minus k h = ap (λ (z : ℤ). pos 0 -ℤ z) (toZ-pos w32 h ∙ ap pos (add-one k
 
 pub minus-fits : (k : ℕ) → k + 1 < 2 ^ 31 → SFits w32 (pos 0 -ℤ toZ w32 (k + 1))
 minus-fits k h = rw (minus k h) (record { sfits = omega arith })
-
--- SENSE by its value and whether that is in range
-sense-as : (u : ℕ) (z : ℤ) (t : Bool) → signed32 u ≡ z → senseFits z ≡ t → senseOf u ≡ cond t (Whole (Sense z)) (Unfit 3)
-unfolding senseOf
-sense-as u z t e f =
-    ap (λ (z : ℤ). cond (senseFits z) (Whole (Sense z)) (Unfit 3)) e ∙ ap (λ (t : Bool). cond t (Whole (Sense z)) (Unfit 3)) f
-
-as-pos : (u : ℕ) → u < 2147483648 → signed32 u ≡ pos u
-as-pos u h = simp (lt-ltb u 2147483648 h)
-
-as-neg : (u : ℕ) → 2147483648 ≤ u → signed32 u ≡ negsuc (4294967295 - u)
-as-neg u h = simp (le-ltb u 2147483648 h)
 
 pub sense-low : (u : ℕ) → u ≤ 500000 → Whole (Sense (toZ w32 u)) ≡ senseOf u
 sense-low u h =

@@ -54,7 +54,7 @@ many-by b n false e l h = let f : 30 ≤ length b = ltb-false _ _ e in simp e (o
 
 -- a payload of n numbers has n counts, and they fit
 module _ (b : List ℕ) (n : ℕ) (l : length b ≡ 2 * n) (h : n ≤ 15) where
-  many-is : countsOf b .many ≡ n
+  pub many-is : countsOf b .many ≡ n
   many-is = many-by b n (ltb (length b) 30) refl l h
 
   pub counts-fit : countsFit n (countsOf b) ≡ true

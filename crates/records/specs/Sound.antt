@@ -36,11 +36,11 @@ bit-small (suc (suc c)) h = absurd (omega arith)
 pub bit-back : (c : ℕ) → leb c 1 ≡ true → bitOf (eqb c 1) ≡ c
 bit-back c h = bit-small c (leb-true c 1 h)
 
-and-left : (x y : Bool) → x && y ≡ true → x ≡ true
+pub and-left : (x y : Bool) → x && y ≡ true → x ≡ true
 and-left true y h = refl
 and-left false y h = h
 
-and-right : (x y : Bool) → x && y ≡ true → y ≡ true
+pub and-right : (x y : Bool) → x && y ≡ true → y ≡ true
 and-right true y h = h
 and-right false true h = refl
 and-right false false h = h

@@ -22,6 +22,7 @@ use Rattle.events.specs.declared.Event.the-variants.{Setup as Setup-, Por, Boot
 use Rattle.records.specs.Numbers.{bitOf}
 use Rattle.records.specs.Record.{setupGood, standing, noCounts}
 use Rattle.records.specs.Counted.{few-groups, few-inputs}
+use Rattle.writer.specs.Accepted.{fit-is, wanted-few}
 use Rattle.writer.specs.Write.{recordOf, recordFor, bytes32, bits32, partFor, valueRefusal, refusalFor, Writes, Puts}
 use Rattle.writer.specs.declared.Wrote.{Wrote}
 use Rattle.writer.specs.declared.Wrote.the-variants.{Refused}
@@ -92,28 +93,6 @@ within-take most zero xs h = zeros-within most xs h
 within-take most (suc n) [] h = refl
 within-take most (suc n) (x ∷ xs) h = ap (λ (t : Bool). leb x most && t) (within-take most n xs h)
 
--- counts that fit are as many as wanted, with 0 after them
-fit-by : (n : ℕ) (k : Counts) (t : Bool) → eqb (k .many) n ≡ t → t && within 0 (drop n (k .of)) ≡ true → (k .many ≡ n) × (within 0 (drop (k .many) (k .of)) ≡ true)
-fit-by n k true e h = let m : k .many ≡ n = eqb-true _ _ e in (m, subst (λ (i : ℕ). within 0 (drop i (k .of)) ≡ true) (sym m) h)
-fit-by n k false e h = absurd (let z : _≡_ {A = ℕ} 0 1 = cc in omega arith)
-
-pub fit-is : (n : ℕ) (k : Counts) → countsFit n k ≡ true → (k .many ≡ n) × (within 0 (drop (k .many) (k .of)) ≡ true)
-unfolding countsFit
-fit-is n k h = fit-by n k (eqb (k .many) n) refl h
-
-pub wanted-few : (part : ℕ) (e : Event) → countsWanted (standing part) e ≤ 15
-wanted-few part (Setup- v) = omega arith
-wanted-few part Por = omega arith
-wanted-few part Boot = omega arith
-wanted-few part Scan = few-inputs part
-wanted-few part Temp = omega (arith, few-groups part)
-wanted-few part (Count n) = omega arith
-wanted-few part (Sense v) = omega arith
-wanted-few part Pin = omega arith
-wanted-few part (Load l) = omega arith
-wanted-few part Xready = omega arith
-wanted-few part (OnBus b) = omega arith
-
 -- the refusal from the answers of the three looks
 pub refusal-of : (e : Event) (k : Counts) (part own wanted : ℕ) (fit : Bool) {r : ℕ} → own ≡ partFor e part → wanted ≡ countsWanted (standing part) e → fit ≡ countsFit wanted k
     → r ≡ cond (leb 1 own && leb own 3) (cond fit (valueRefusal e k) 2) 1 → r ≡ refusalFor e k part
@@ -121,17 +100,6 @@ unfolding refusalFor
 refusal-of e k part own wanted fit o w f h =
     h ∙ ap (λ (own : ℕ). cond (leb 1 own && leb own 3) (cond fit (valueRefusal e k) 2) 1) o
     ∙ ap (λ (fit : Bool). cond (leb 1 (partFor e part) && leb (partFor e part) 3) (cond fit (valueRefusal e k) 2) 1) (f ∙ ap (λ (n : ℕ). countsFit n k) w)
-
--- what is not refused has counts that fit
-accepted-by : (e : Event) (k : Counts) (part : ℕ) (t u : Bool) → countsFit (countsWanted (standing part) e) k ≡ u
-    → cond t (cond u (valueRefusal e k) 2) 1 ≡ 0 → k .many ≤ 15
-accepted-by e k part true true eu h = omega (arith, fit-is _ k eu .0, wanted-few part e)
-accepted-by e k part true false eu h = absurd (omega arith)
-accepted-by e k part false u eu h = absurd (omega arith)
-
-pub accepted-few : (e : Event) (k : Counts) (part : ℕ) → refusalFor e k part ≡ 0 → k .many ≤ 15
-unfolding refusalFor
-accepted-few e k part h = accepted-by e k part (leb 1 (partFor e part) && leb (partFor e part) 3) (countsFit (countsWanted (standing part) e) k) refl h
 
 -- an event that is refused, and one that is not
 pub refused-puts : (k j : ℕ) (bytes old : List ℕ) → j ≡ k → (j ≡ 0 → ⊥) → Puts k bytes old (Refused j) old

@@ -13,6 +13,7 @@ use borrow.Rule.Slice.PartAt.{part-to-end}
 use borrow.Author.Tests.{le-leb, lt-leb}
 use Rattle.events.specs.declared.Setup.{Setup}
 use Rattle.records.specs.Numbers.{bitOf}
+use Rattle.writer.specs.Bytes.{words-length}
 use Rattle.writer.specs.Write.{Writes, recordOf, writtenOf, wordBytes, bytes16, setupBytes}
 use Rattle.writer.specs.declared.Wrote.{Wrote}
 use Rattle.writer.specs.declared.Wrote.the-variants.{Done, Refused}
@@ -37,12 +38,6 @@ short bytes old h =
 words-append : (a b : List ℕ) → wordBytes (a ++ b) ≡ wordBytes a ++ wordBytes b
 words-append [] b = refl
 words-append (x ∷ a) b = ap (λ (l : List ℕ). x % 256 ∷ x / 256 ∷ l) (words-append a b)
-
-pub words-length : (a : List ℕ) → length (wordBytes a) ≡ 2 * length a
-words-length [] = refl
-words-length (x ∷ a) =
-    let h : length (wordBytes a) ≡ 2 * length a = words-length a in
-    omega arith
 
 -- a turn of the loop over the first n numbers
 pub words-next : (cs old out : List ℕ) (n i : ℕ) → i < n → n ≤ length cs → 2 * n ≤ length old → out ≡ writtenOf (wordBytes (take i cs)) old

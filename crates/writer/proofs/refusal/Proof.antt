@@ -3,7 +3,8 @@ use mathlib.Core.Path.{_≡_, refl, sym, _∙_}
 use native.Mathlib.Omega.{arith}
 use Rattle.events.specs.Event.{countsWanted, countsFit}
 use Rattle.records.specs.Record.{standing}
-use Rattle.writer.proofs.Refusals.{wanted-few, fit-is, refusal-of}
+use Rattle.writer.specs.Accepted.{wanted-few, fit-is}
+use Rattle.writer.proofs.Refusals.{refusal-of}
 use borrow.Author.Needs.{needs}
 use Rattle.writer.proofs.refusal.Statement.{statement}
 use Rattle.writer.proofs.refusal.Tie as tie

@@ -1,7 +1,8 @@
 -- `write_record` meets its contract.
 use mathlib.Core.Path.{sym, _∙_}
 use Rattle.writer.specs.Write.{refusalFor, recordFor}
-use Rattle.writer.proofs.Refusals.{refused-puts, taken-puts, accepted-few}
+use Rattle.writer.specs.Accepted.{accepted-few}
+use Rattle.writer.proofs.Refusals.{refused-puts, taken-puts}
 use borrow.Author.Needs.{needs}
 use Rattle.writer.proofs.write_record.Statement.{statement}
 use Rattle.writer.proofs.write_record.Tie as tie
