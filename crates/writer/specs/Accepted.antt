@@ -51,7 +51,7 @@ pub accepted : (e : Event) (k : Counts) (part : ℕ) → refusalFor e k part ≡
 unfolding refusalFor
 accepted e k part h =
     let a : (leb 1 (partFor e part) && leb (partFor e part) 3 ≡ true) × (countsFit (countsWanted (standing part) e) k ≡ true) × (valueRefusal e k ≡ 0) =
-          accepted-by (leb 1 (partFor e part) && leb (partFor e part) 3) (countsFit (countsWanted (standing part) e) k) (valueRefusal e k) h in
+    accepted-by (leb 1 (partFor e part) && leb (partFor e part) 3) (countsFit (countsWanted (standing part) e) k) (valueRefusal e k) h in
     record { part-fits = a .0; counts-fit = a .1; values-fit = a .2 }
 
 pub not-refused : (e : Event) (k : Counts) (part : ℕ) → Accepted e k part → refusalFor e k part ≡ 0

@@ -120,10 +120,10 @@ four-bytes x y z w hx hy hz hw =
     let a : u % 65536 ≡ x + 256 * y = omega arith in
     let b : u / 65536 ≡ z + 256 * w = omega arith in
     ap bytes32 (signed-forth u (omega arith))
-      ∙ ap₂ _∷_ (ap (λ (n : ℕ). n % 256) a ∙ low-forth x y hx)
-        (ap₂ _∷_ (ap (λ (n : ℕ). n / 256) a ∙ high-forth x y hx)
-        (ap₂ _∷_ (ap (λ (n : ℕ). n % 256) b ∙ low-forth z w hz)
-        (ap (λ (n : ℕ). n ∷ []) (ap (λ (n : ℕ). n / 256) b ∙ high-forth z w hz))))
+    ∙ ap₂ _∷_ (ap (λ (n : ℕ). n % 256) a ∙ low-forth x y hx)
+    (ap₂ _∷_ (ap (λ (n : ℕ). n / 256) a ∙ high-forth x y hx)
+    (ap₂ _∷_ (ap (λ (n : ℕ). n % 256) b ∙ low-forth z w hz)
+    (ap (λ (n : ℕ). n ∷ []) (ap (λ (n : ℕ). n / 256) b ∙ high-forth z w hz))))
 
 pub four-forth : (b : List ℕ) → length b ≡ 4 → Bytes b → bytes32 (bits32 (signed32 (le32 b 0))) ≡ b
 four-forth [] l h = absurd (omega arith)
