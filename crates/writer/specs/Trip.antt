@@ -1,5 +1,5 @@
 -- The round trip: what the writer accepts is read back as the same event with the same counts and the place right after it, whatever
--- bytes follow; and the bytes of a record that was read are those that the writer writes for it. Assumes nothing.
+-- bytes follow. Assumes nothing.
 use mathlib.Core.Path.{_≡_, refl, ap, ap₂, sym, _∙_, subst}
 use mathlib.Core.Logic.{_≢_}
 use Prim.Native.Nat.{ℕ, suc, zero, _+_, _-_, _*_, _/_, _%_, _<_, _≤_}
@@ -10,7 +10,8 @@ use lib.Dec.{leb, eqb}
 use lib.IntN.{ℤ}
 use lib.ListN.{length, getD, take, drop, length-append}
 use lib.Seq.{take-append-seam, length-take-le}
-use borrow.Author.Tests.{le-ltb, ne-eqb, eq-eqb, leb-true}
+use native.Mathlib.Nat.{zero-add}
+use borrow.Author.Tests.{le-ltb, ne-eqb, eq-eqb, leb-true, eqb-true}
 use Rattle.events.specs.Setup.{setupFits, setupOf, checkedOf}
 use Rattle.events.specs.Event.{within, countMost, senseFits, countsWanted, countsFit}
 use Rattle.events.specs.declared.Setup.{Setup as SetupValues}
@@ -27,7 +28,8 @@ use Rattle.records.specs.Sound.{and-left}
 use Rattle.records.specs.declared.Payload.the-variants.{Whole}
 use Rattle.records.specs.declared.Read.the-variants.{Record}
 use Rattle.records.specs.declared.Taken.{Taken}
-use Rattle.writer.specs.Write.{bits32, wordBytes, recordOf, kindFor, payloadFor, countBytes, recordFor, partFor, valueRefusal, refusalFor}
+use Rattle.writer.specs.Write.{bits32, wordBytes, recordOf, kindFor, payloadFor, countBytes, recordFor, partFor, valueRefusal, refusalFor, writtenOf, Puts}
+use Rattle.writer.specs.declared.Wrote.the-variants.{Done, Refused}
 use Rattle.writer.specs.Bytes.{back16, back32, words-length, words-back, bit-same, sense-back}
 use Rattle.writer.specs.Accepted.{fit-is, wanted-few, Accepted, accepted}
 
@@ -205,3 +207,24 @@ module _ (e : Event) (k : Counts) (part : ℕ) (ok : refusalFor e k part ≡ 0) 
     where
       as-taken : Counts → Taken
       as-taken c = record { read = Record e (length p + length (recordFor e k)); counts = c }
+
+-- said of the call: a buffer that was written begins with the record, and reading it gives the event, its counts and how many bytes were written
+wrote-by : (number : ℕ) (bytes old new : List ℕ) (n : ℕ) (t u : Bool) → eqb number 0 ≡ t → leb (length bytes) (length old) ≡ u → Puts number bytes old (Done n) new
+    → (number ≡ 0) × (n ≡ length bytes) × (new ≡ writtenOf bytes old)
+wrote-by number bytes old new n true true et eu w = (eqb-true _ _ et, done-is (simp (et, eu) at (w .answer)), simp (et, eu) at (w .contents))
+  where
+    done-is : {m : ℕ} → Done n ≡ Done m → n ≡ m
+    done-is q = cc
+wrote-by number bytes old new n true false et eu w = let q : Done n ≡ Refused 5 = simp (et, eu) at (w .answer) in absurd (let z : _≡_ {A = ℕ} 0 1 = cc in omega arith)
+wrote-by number bytes old new n false u et eu w = let q : Done n ≡ Refused number = simp et at (w .answer) in absurd (let z : _≡_ {A = ℕ} 0 1 = cc in omega arith)
+
+pub wrote-reads : (e : Event) (k : Counts) (part : ℕ) (old new : List ℕ) (n : ℕ) → length (k .of) ≡ 15
+    → Puts (refusalFor e k part) (recordFor e k) old (Done n) new → takenAt (standsFor e part) new 0 ≡ record { read = Record e n; counts = k }
+wrote-reads e k part old new n fifteen w =
+    let g : (refusalFor e k part ≡ 0) × (n ≡ length (recordFor e k)) × (new ≡ writtenOf (recordFor e k) old) =
+    wrote-by (refusalFor e k part) (recordFor e k) old new n _ _ refl refl w in
+    ap (λ (s : List ℕ). takenAt (standsFor e part) s 0) (g .2) ∙ trip-at e k part (g .0) fifteen (drop (length (recordFor e k)) old) []
+    ∙ ap (λ (i : ℕ). as-taken i) (zero-add (length (recordFor e k)) ∙ sym (g .1))
+  where
+    as-taken : ℕ → Taken
+    as-taken i = record { read = Record e i; counts = k }
