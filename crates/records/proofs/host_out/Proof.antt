@@ -1,0 +1,19 @@
+-- `host_out` meets its contract.
+use Rattle.records.proofs.Tests.{tests}
+use borrow.Author.Needs.{needs}
+use Rattle.records.proofs.host_out.Statement.{statement}
+use Rattle.records.proofs.host_out.Tie as tie
+
+returns : tie.Need-returns
+returns c = search tests
+
+returns-2 : tie.Need-returns-2
+returns-2 c = search tests
+
+pub host-out-spec : {M : Type 1} → statement M
+host-out-spec =
+    tie.close
+    (tie.spec
+    returns
+    (λ c. search needs)
+    returns-2)

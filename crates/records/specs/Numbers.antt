@@ -1,0 +1,38 @@
+-- Document 01, "Events and their records": all numbers little-endian. Assumes nothing.
+use Prim.Native.Nat.{ℕ, zero, suc, _+_, _-_, _*_}
+use mathlib.Core.List.{List, [], _∷_}
+use mathlib.Core.Bool.{Bool, cond}
+use lib.ListN.{length, getD}
+use lib.Dec.{ltb, leb}
+use lib.IntN.{ℤ, pos, negsuc}
+
+-- numbers of 2 and 4 bytes, the lowest first
+abbrev pub le16 : List ℕ → ℕ → ℕ
+le16 b at = getD b at 0 + 256 * getD b (at + 1) 0
+
+abbrev pub le32 : List ℕ → ℕ → ℕ
+le32 b at = le16 b at + 65536 * le16 b (at + 2)
+
+-- a number of 32 bits with its sign
+abbrev pub signed32 : ℕ → ℤ
+signed32 u = cond (ltb u 2147483648) (pos u) (negsuc (4294967295 - u))
+
+-- a switch, 0 or 1
+abbrev pub bitOf : Bool → ℕ
+bitOf t = cond t 1 0
+
+-- the numbers of 2 bytes that bytes hold
+abbrev pub words : List ℕ → List ℕ
+words (x ∷ y ∷ b) = (x + 256 * y) ∷ words b
+words (x ∷ []) = []
+words [] = []
+
+-- the first n of a list, with 0 in the places that it lacks
+abbrev pub filled : ℕ → List ℕ → List ℕ
+filled zero xs = []
+filled (suc n) [] = 0 ∷ filled n []
+filled (suc n) (x ∷ xs) = x ∷ filled n xs
+
+-- the i-th number of 2 bytes, or 0 past the end
+unfoldable pub wordOr : List ℕ → ℕ → ℕ
+wordOr b i = cond (leb (2 * i + 2) (length b)) (le16 b (2 * i)) 0

@@ -1,0 +1,161 @@
+-- Document 01, "Events and their records" and "Numbers given back": reading, with the numbers 1, 2, 3 and 9. Assumes nothing.
+use Prim.Native.Nat.{ℕ, zero, suc, _+_, _-_, _*_, _/_, _%_}
+use mathlib.Core.List.{List, [], _∷_, _++_}
+use mathlib.Core.Bool.{Bool, true, false, cond, _&&_}
+use lib.ListN.{length, getD, take, drop, replicate}
+use lib.Dec.{ltb, leb, eqb}
+use lib.IntN.{ℤ}
+use Rattle.events.specs.Setup.{setupFits, checkedOf, groups, inputs}
+use Rattle.events.specs.Event.{countMost, within, senseFits}
+use Rattle.events.specs.declared.Setup.{Setup as SetupValues}
+use Rattle.events.specs.declared.Counts.{Counts}
+use Rattle.events.specs.declared.Checked.{Checked}
+use Rattle.events.specs.declared.Checked.the-variants.{Good, Bad}
+use Rattle.events.specs.declared.BusEvent.the-variants.{Start, Out, In, Stop}
+use Rattle.events.specs.declared.Event.{Event}
+use Rattle.events.specs.declared.Event.the-variants.{Setup, Por, Boot, Scan, Temp, Count, Sense, Pin, Load, Xready, OnBus}
+use Rattle.records.specs.Numbers.{le16, le32, signed32, bitOf, words, filled}
+use Rattle.records.specs.Kind.{SETUP, POR, BOOT, SCAN, TEMP, COUNT, SENSE, PIN, LOAD, XREADY, START, OUT, IN, STOP}
+use Rattle.records.specs.declared.Payload.{Payload}
+use Rattle.records.specs.declared.Payload.the-variants.{Whole, Unfit}
+use Rattle.records.specs.declared.Read.{Read}
+use Rattle.records.specs.declared.Read.the-variants.{Record, Refused, Cut}
+use Rattle.records.specs.declared.Taken.{Taken}
+
+-- ── each kind's payload: 2 where its length is wrong, then 1 (SETUP) or 3 where a value is out of range ──
+-- part, CRC, address, gain code, offset (1 each), floor (2)
+abbrev pub checkedIn : Checked → Payload
+checkedIn (Good v) = Whole (Setup v)
+checkedIn Bad = Unfit 1
+
+abbrev pub setupGood : SetupValues → Bool
+setupGood v = setupFits (v .part) (bitOf (v .crc)) (v .address) (v .gain) (v .floor)
+
+unfoldable pub setupIn : List ℕ → Payload
+setupIn b =
+    cond (eqb (length b) 7)
+    (checkedIn (checkedOf (getD b 0 0) (getD b 1 0) (getD b 2 0) (getD b 3 0) (getD b 4 0) (le16 b 5)))
+    (Unfit 2)
+
+-- none
+abbrev pub bareIn : Event → List ℕ → Payload
+bareIn e b = cond (eqb (length b) 0) (Whole e) (Unfit 2)
+
+-- 2 bytes for each count that is wanted, 0 to 16,383
+unfoldable pub countedIn : Event → ℕ → List ℕ → Payload
+countedIn e wanted b = cond (eqb (length b) (2 * wanted)) (cond (within countMost (words b)) (Whole e) (Unfit 3)) (Unfit 2)
+
+-- 2 bytes, raw
+abbrev pub countIn : List ℕ → Payload
+countIn b = cond (eqb (length b) 2) (Whole (Count (le16 b 0))) (Unfit 2)
+
+-- 4 bytes signed, within ±500,000
+unfoldable pub senseOf : ℕ → Payload
+senseOf u = cond (senseFits (signed32 u)) (Whole (Sense (signed32 u))) (Unfit 3)
+
+abbrev pub senseIn : List ℕ → Payload
+senseIn b = cond (eqb (length b) 4) (senseOf (le32 b 0)) (Unfit 2)
+
+-- 1 byte, 0 or 1: LOAD, and IN, where 1 says that the host does not acknowledge
+abbrev pub switchIn : (Bool → Event) → List ℕ → Payload
+switchIn e b = cond (eqb (length b) 1) (cond (leb (getD b 0 0) 1) (Whole (e (eqb (getD b 0 0) 1))) (Unfit 3)) (Unfit 2)
+
+abbrev pub loadOf : Bool → Event
+loadOf level = Load level
+
+abbrev pub inOf : Bool → Event
+inOf refused = OnBus (In refused)
+
+-- 1 byte
+abbrev pub outIn : List ℕ → Payload
+outIn b = cond (eqb (length b) 1) (Whole (OnBus (Out (getD b 0 0)))) (Unfit 2)
+
+-- ── the kinds ──
+-- the inputs, and the groups of five, of the part that stands
+abbrev pub standing : ℕ → SetupValues
+standing part = record { part = part; crc = false; address = 0; gain = 0; offset = 0; floor = 0 }
+
+abbrev pub groupsAt : ℕ → ℕ
+groupsAt part = groups (standing part)
+
+abbrev pub inputsAt : ℕ → ℕ
+inputsAt part = inputs (standing part)
+
+-- once a part stands: a second SETUP is 2, as every unknown kind
+unfoldable pub laterOf : ℕ → ℕ → List ℕ → Payload
+laterOf kind part b =
+    cond (eqb kind POR) (bareIn Por b)
+    (cond (eqb kind BOOT) (bareIn Boot b)
+    (cond (eqb kind SCAN) (countedIn Scan (inputsAt part) b)
+    (cond (eqb kind TEMP) (countedIn Temp (groupsAt part) b)
+    (cond (eqb kind COUNT) (countIn b)
+    (cond (eqb kind SENSE) (senseIn b)
+    (cond (eqb kind PIN) (bareIn Pin b)
+    (cond (eqb kind LOAD) (switchIn loadOf b)
+    (cond (eqb kind XREADY) (bareIn Xready b)
+    (cond (eqb kind START) (bareIn (OnBus Start) b)
+    (cond (eqb kind OUT) (outIn b)
+    (cond (eqb kind IN) (switchIn inOf b)
+    (cond (eqb kind STOP) (bareIn (OnBus Stop) b) (Unfit 2)))))))))))))
+
+-- part 0: none stands yet, and SETUP alone is first
+unfoldable pub payloadOf : ℕ → ℕ → List ℕ → Payload
+payloadOf kind part b = cond (eqb part 0) (cond (eqb kind SETUP) (setupIn b) (Unfit 2)) (laterOf kind part b)
+
+-- ── a record: payload length (2 bytes), kind (2 bytes), payload ──
+abbrev pub asRead : ℕ → Payload → Read
+asRead next (Whole e) = Record e next
+asRead next (Unfit k) = Refused k next
+
+-- the record that bytes begin with; header or payload cut short comes before all
+unfoldable pub readOf : ℕ → List ℕ → Read
+readOf part r =
+    cond (ltb (length r) 4) Cut
+    (cond (ltb (length r - 4) (le16 r 0)) Cut
+    (asRead (4 + le16 r 0) (payloadOf (le16 r 2) part (take (le16 r 0) (drop 4 r)))))
+
+-- the paper's number of each answer
+abbrev pub numberOf : Read → ℕ
+numberOf (Record e next) = 0
+numberOf (Refused k next) = k
+numberOf Cut = 9
+
+-- ── the counts beside an event ──
+abbrev pub noCounts : Counts
+noCounts = record { many = 0; of = replicate 15 0 }
+
+-- the numbers of a payload, at most 15
+unfoldable pub countsOf : List ℕ → Counts
+countsOf b = record { many = cond (ltb (length b) 30) (length b / 2) 15; of = filled 15 (words b) }
+
+-- SCAN and TEMP alone have counts
+unfoldable pub countsIn : Event → List ℕ → Counts
+countsIn (Setup v) b = noCounts
+countsIn Por b = noCounts
+countsIn Boot b = noCounts
+countsIn Scan b = countsOf b
+countsIn Temp b = countsOf b
+countsIn (Count n) b = noCounts
+countsIn (Sense v) b = noCounts
+countsIn Pin b = noCounts
+countsIn (Load l) b = noCounts
+countsIn Xready b = noCounts
+countsIn (OnBus e) b = noCounts
+
+-- the counts beside what was read at the start of r
+abbrev pub countsBeside : List ℕ → Read → Counts
+countsBeside r (Record e next) = countsIn e (take (next - 4) (drop 4 r))
+countsBeside r (Refused k next) = noCounts
+countsBeside r Cut = noCounts
+
+-- ── reading begins at any place; a place past the end is cut ──
+abbrev pub moved : ℕ → Read → Read
+moved at (Record e next) = Record e (at + next)
+moved at (Refused k next) = Refused k (at + next)
+moved at Cut = Cut
+
+abbrev pub takenFrom : ℕ → List ℕ → Read → Taken
+takenFrom at r x = record { read = moved at x; counts = countsBeside r x }
+
+unfoldable pub takenAt : ℕ → List ℕ → ℕ → Taken
+takenAt part s at = cond (ltb (length s) at) (record { read = Cut; counts = noCounts }) (takenFrom at (drop at s) (readOf part (drop at s)))

@@ -1,0 +1,183 @@
+-- What was read with success fits: the first record is a SETUP with its values in range, and every later one means an event
+-- whose counts fit the part and whose values are in range, so that a chip has nothing to check again. Assumes nothing.
+use mathlib.Core.Path.{_≡_, refl, ap, sym, _∙_, subst}
+use mathlib.Core.Logic.{_≢_}
+use Prim.Native.Nat.{ℕ, zero, suc, _+_, _-_, _*_, _<_, _≤_}
+use mathlib.Core.List.{List}
+use mathlib.Core.Bool.{Bool, true, false, cond, _&&_}
+use native.Mathlib.Omega.{arith}
+use lib.Dec.{leb, eqb}
+use lib.ListN.{length, getD, take, drop}
+use lib.IntN.{ℤ}
+use borrow.Author.Tests.{eqb-true, leb-true, ne-eqb, eq-eqb}
+use Rattle.events.specs.Setup.{setupFits, setupOf, checkedOf, groups, inputs}
+use Rattle.events.specs.Event.{Event as Meant-event, Por as Por-, Boot as Boot-, Pin as Pin-, Xready as Xready-, Scan as Scan-, Temp as Temp-, Count as Count-, Sense as Sense-, Load as Load-, OnBus as OnBus-, within, countMost, senseFits, fits, countsFit, means, unfit, meantOf}
+use Rattle.events.specs.declared.Setup.{Setup as SetupValues}
+use Rattle.events.specs.declared.Counts.{Counts}
+use Rattle.events.specs.declared.BusEvent.the-variants.{Start, Out, In, Stop}
+use Rattle.events.specs.declared.Event.{Event}
+use Rattle.events.specs.declared.Event.the-variants.{Setup, Por, Boot, Scan, Temp, Count, Sense, Pin, Load, Xready, OnBus}
+use Rattle.records.specs.Numbers.{le16, le32, signed32, bitOf, words}
+use Rattle.records.specs.Kind.{SETUP}
+use Rattle.records.specs.Record.{setupGood, checkedIn, setupIn, countedIn, senseOf, payloadOf, laterOf, readOf, groupsAt, inputsAt, countsOf, countsIn, countsBeside}
+use Rattle.records.specs.Counted.{counts-fit, counts-taken, few-groups, few-inputs}
+use Rattle.records.specs.Reading.{WholeAt, read-whole, later-by, cond-by}
+use Rattle.records.specs.declared.Payload.{Payload}
+use Rattle.records.specs.declared.Payload.the-variants.{Whole, Unfit}
+use Rattle.records.specs.declared.Read.the-variants.{Record}
+
+-- ── the first record ──
+-- a byte that is 0 or 1 is the switch that it is read as
+bit-small : (c : ℕ) → c ≤ 1 → bitOf (eqb c 1) ≡ c
+bit-small zero h = refl
+bit-small (suc zero) h = refl
+bit-small (suc (suc c)) h = absurd (omega arith)
+
+pub bit-back : (c : ℕ) → leb c 1 ≡ true → bitOf (eqb c 1) ≡ c
+bit-back c h = bit-small c (leb-true c 1 h)
+
+pub and-left : (x y : Bool) → x && y ≡ true → x ≡ true
+and-left true y h = refl
+and-left false y h = h
+
+pub and-right : (x y : Bool) → x && y ≡ true → y ≡ true
+and-right true y h = h
+and-right false true h = refl
+and-right false false h = h
+
+pub crc-back : (p c a g f : ℕ) → setupFits p c a g f ≡ true → bitOf (eqb c 1) ≡ c
+crc-back p c a g f h =
+    let x : Bool = leb 1 p && leb p 3 && leb c 1 in
+    let y : Bool = x && leb 0x08 a && leb a 0x77 in
+    bit-back c (and-right (leb 1 p && leb p 3) (leb c 1) (and-left x (leb 0x08 a) (and-left (x && leb 0x08 a) (leb a 0x77) (and-left y (leb g 31) (and-left (y && leb g 31) (leb f 4095) h)))))
+
+pub setup-good : (p c a g o f : ℕ) → setupFits p c a g f ≡ true → setupGood (setupOf p c a g o f) ≡ true
+setup-good p c a g o f h = ap (λ (n : ℕ). setupFits p n a g f) (crc-back p c a g f h) ∙ h
+
+abbrev pub IsSetup : Event → Type 0
+IsSetup (Setup v) = setupGood v ≡ true
+IsSetup Por = ⊥
+IsSetup Boot = ⊥
+IsSetup Scan = ⊥
+IsSetup Temp = ⊥
+IsSetup (Count n) = ⊥
+IsSetup (Sense v) = ⊥
+IsSetup Pin = ⊥
+IsSetup (Load l) = ⊥
+IsSetup Xready = ⊥
+IsSetup (OnBus b) = ⊥
+
+abbrev FirstOk : Payload → Type 0
+FirstOk (Whole e) = IsSetup e
+FirstOk (Unfit k) = Unit
+
+checked-ok : (p c a g o f : ℕ) (t : Bool) → setupFits p c a g f ≡ t → FirstOk (checkedIn (checkedOf p c a g o f))
+unfolding checkedOf
+checked-ok p c a g o f true h = simp h (setup-good p c a g o f h)
+checked-ok p c a g o f false h = simp h tt
+
+first-ok : (kind : ℕ) (b : List ℕ) → FirstOk (payloadOf kind 0 b)
+unfolding payloadOf setupIn
+first-ok kind b =
+    cond-by FirstOk (eqb kind SETUP) _ (Unfit 2)
+    (λ k. cond-by FirstOk (eqb (length b) 7) _ (Unfit 2) (λ l. checked-ok (getD b 0 0) (getD b 1 0) (getD b 2 0) (getD b 3 0) (getD b 4 0) (le16 b 5) _ refl) tt)
+    tt
+
+pub first-setup : (r : List ℕ) (e : Event) (next : ℕ) → readOf 0 r ≡ Record e next → IsSetup e
+first-setup r e next h =
+    let w : WholeAt 0 r e next = read-whole 0 r e next h in
+    subst FirstOk (w .payload) (first-ok (le16 r 2) (take (le16 r 0) (drop 4 r)))
+
+-- ── the later ones ──
+pub record Meaning (u : SetupValues) (e : Event) (k : Counts) : Type 0 where
+  pub event : Meant-event
+  pub meant : meantOf u e k ≡ means event
+  pub fit : fits event ≡ true
+
+abbrev LaterOk : SetupValues → List ℕ → Payload → Type 0
+LaterOk u b (Whole e) = Meaning u e (countsIn e b)
+LaterOk u b (Unfit k) = Unit
+
+groups-at : (u : SetupValues) → groups u ≡ groupsAt (u .part)
+unfolding groups
+groups-at u = refl
+
+inputs-at : (u : SetupValues) → inputs u ≡ inputsAt (u .part)
+unfolding inputs
+inputs-at u = refl
+
+-- an event with counts beside it
+module _ (u : SetupValues) (b : List ℕ) where
+  scan-ok : eqb (length b) (2 * inputsAt (u .part)) ≡ true → within countMost (words b) ≡ true → Meaning u Scan (countsIn Scan b)
+  unfolding meantOf countsIn fits
+  scan-ok l w =
+      let n : length b ≡ 2 * inputs u = eqb-true _ _ l ∙ ap (λ (n : ℕ). 2 * n) (sym (inputs-at u)) in
+      let few : inputs u ≤ 15 = subst (λ (n : ℕ). n ≤ 15) (sym (inputs-at u)) (few-inputs (u .part)) in
+      let f : countsFit (inputs u) (countsOf b) ≡ true = counts-fit b (inputs u) n few in
+      record {
+        event = Scan- (take (inputs u) (countsOf b .of));
+        meant = simp f;
+        fit = ap (within countMost) (counts-taken b (inputs u) n few) ∙ w;
+      }
+
+  temp-ok : eqb (length b) (2 * groupsAt (u .part)) ≡ true → within countMost (words b) ≡ true → Meaning u Temp (countsIn Temp b)
+  unfolding meantOf countsIn fits
+  temp-ok l w =
+      let n : length b ≡ 2 * groups u = eqb-true _ _ l ∙ ap (λ (n : ℕ). 2 * n) (sym (groups-at u)) in
+      let three : groups u ≤ 3 = subst (λ (n : ℕ). n ≤ 3) (sym (groups-at u)) (few-groups (u .part)) in
+      let few : groups u ≤ 15 = omega arith in
+      let f : countsFit (groups u) (countsOf b) ≡ true = counts-fit b (groups u) n few in
+      record {
+        event = Temp- (take (groups u) (countsOf b .of));
+        meant = simp f;
+        fit = ap (within countMost) (counts-taken b (groups u) n few) ∙ w;
+      }
+
+later-ok : (u : SetupValues) (kind : ℕ) (b : List ℕ) → LaterOk u b (laterOf kind (u .part) b)
+unfolding countedIn senseOf meantOf countsFit countsIn fits
+later-ok u kind b =
+    later-by (λ (kind : ℕ) (p : Payload). LaterOk u b p) (u .part) b
+    (sized 0 (Whole Por) (λ l. record { event = Por-; meant = refl; fit = refl }))
+    (sized 0 (Whole Boot) (λ l. record { event = Boot-; meant = refl; fit = refl }))
+    (sized (2 * inputsAt (u .part)) (cond counts (Whole Scan) (Unfit 3)) (λ l. ranged counts (Whole Scan) (scan-ok u b l)))
+    (sized (2 * groupsAt (u .part)) (cond counts (Whole Temp) (Unfit 3)) (λ l. ranged counts (Whole Temp) (temp-ok u b l)))
+    (sized 2 (Whole (Count (le16 b 0))) (λ l. record { event = Count- (le16 b 0); meant = refl; fit = refl }))
+    (sized 4 (senseOf (le32 b 0)) (λ l. ranged (senseFits value) (Whole (Sense value)) (λ f. record { event = Sense- value; meant = refl; fit = f })))
+    (sized 0 (Whole Pin) (λ l. record { event = Pin-; meant = refl; fit = refl }))
+    (sized 1 (cond bit (Whole (Load level)) (Unfit 3)) (λ l. ranged bit (Whole (Load level)) (λ f. record { event = Load- level; meant = refl; fit = refl })))
+    (sized 0 (Whole Xready) (λ l. record { event = Xready-; meant = refl; fit = refl }))
+    (sized 0 (Whole (OnBus Start)) (λ l. record { event = OnBus- Start; meant = refl; fit = refl }))
+    (sized 1 (Whole (OnBus (Out (getD b 0 0)))) (λ l. record { event = OnBus- (Out (getD b 0 0)); meant = refl; fit = refl }))
+    (sized 1 (cond bit (Whole (OnBus (In level))) (Unfit 3)) (λ l. ranged bit (Whole (OnBus (In level))) (λ f. record { event = OnBus- (In level); meant = refl; fit = refl })))
+    (sized 0 (Whole (OnBus Stop)) (λ l. record { event = OnBus- Stop; meant = refl; fit = refl }))
+    (λ (k : ℕ). tt)
+    kind
+  where
+    counts : Bool
+    counts = within countMost (words b)
+
+    bit : Bool
+    bit = leb (getD b 0 0) 1
+
+    level : Bool
+    level = eqb (getD b 0 0) 1
+
+    value : ℤ
+    value = signed32 (le32 b 0)
+
+    sized : (n : ℕ) (x : Payload) → (eqb (length b) n ≡ true → LaterOk u b x) → LaterOk u b (cond (eqb (length b) n) x (Unfit 2))
+    sized n x f = cond-by (LaterOk u b) (eqb (length b) n) x (Unfit 2) f tt
+
+    ranged : (t : Bool) (x : Payload) → (t ≡ true → LaterOk u b x) → LaterOk u b (cond t x (Unfit 3))
+    ranged t x f = cond-by (LaterOk u b) t x (Unfit 3) f tt
+
+-- a record read at the part of a setup means an event that fits
+pub later-means : (u : SetupValues) (r : List ℕ) (e : Event) (next : ℕ) → u .part ≢ 0 → readOf (u .part) r ≡ Record e next
+    → Meaning u e (countsBeside r (Record e next))
+unfolding payloadOf
+later-means u r e next h q =
+    let w : WholeAt (u .part) r e next = read-whole (u .part) r e next q in
+    let n : next - 4 ≡ le16 r 0 = omega (arith, w .ended) in
+    let p : laterOf (le16 r 2) (u .part) (take (le16 r 0) (drop 4 r)) ≡ Whole e = simp (ne-eqb (u .part) 0 h) at (w .payload) in
+    subst (λ (n : ℕ). Meaning u e (countsIn e (take n (drop 4 r)))) (sym n)
+    (subst (LaterOk u (take (le16 r 0) (drop 4 r))) p (later-ok u (le16 r 2) (take (le16 r 0) (drop 4 r))))

@@ -1,0 +1,338 @@
+// Records, read: the record that bytes begin with, or the number it is refused with.
+ghost use mathlib.Core.Path.{_≡_};
+ghost use Prim.Native.Nat.{_+_, _*_, _<_, _≤_};
+ghost use mathlib.Core.List.{List};
+ghost use lib.ListN.{length};
+ghost use Rattle.events.specs.Event.{countMost, within};
+ghost use Rattle.records.specs.Numbers.{le16, le32, words, wordOr, filled};
+ghost use Rattle.records.specs.Record.{senseOf, setupIn, bareIn, countedIn, countIn, senseIn, switchIn, loadOf, inOf, outIn, groupsAt, inputsAt, laterOf, payloadOf, readOf, noCounts, countsOf, countsIn, takenAt};
+use events::BusEvent;
+use events::Checked;
+use events::Counts;
+use events::Event;
+use events::setup_of;
+
+// A payload's event, or the number it is refused with.
+pub enum Payload {
+    Whole(Event),
+    Unfit(u8),
+}
+
+// A record with the place after it, a refusal with its number and the place after it, or a record that is cut short.
+pub enum Read {
+    Record { event: Event, next: usize },
+    Refused { number: u8, next: usize },
+    Cut,
+}
+
+// What was read, and the counts that stand beside it.
+pub struct Taken {
+    pub read: Read,
+    pub counts: Counts,
+}
+
+fn get16(b: &[u8], at: usize) -> u16
+    requires { ⌜ at + 2 ≤ length (now b) ⌝ }
+    ensures { λ r. ⌜ r ≡ le16 (now (b .entry)) at ⌝ }
+{
+    (b[at] as u16) + 256 * (b[at + 1] as u16)
+}
+
+fn get32(b: &[u8], at: usize) -> u32
+    requires { ⌜ at + 4 ≤ length (now b) ⌝ }
+    ensures { λ r. ⌜ r ≡ le32 (now (b .entry)) at ⌝ }
+{
+    (get16(b, at) as u32) + 65536 * (get16(b, at + 2) as u32)
+}
+
+// A number of 32 bits read with its sign, where it is within 500,000 of 0.
+fn sense(u: u32) -> Payload
+    ensures { λ r. ⌜ r ≡ senseOf u ⌝ }
+{
+    if u <= 500000 {
+        return Payload::Whole(Event::Sense(u as i32));
+    }
+    if 4294467296 <= u {
+        return Payload::Whole(Event::Sense(-((4294967295 - u + 1) as i32)));
+    }
+    Payload::Unfit(3)
+}
+
+// Whether each of a payload's numbers is a count.
+fn all_counts(b: &[u8]) -> bool
+    ensures { λ r. ⌜ r ≡ within countMost (words (now (b .entry))) ⌝ }
+{
+    let n = b.len() / 2;
+    let mut i = 0;
+    while i < n {
+        if 16383 < get16(b, 2 * i) {
+            return false;
+        }
+        i += 1;
+    }
+    true
+}
+
+fn setup_in(b: &[u8]) -> Payload
+    ensures { λ r. ⌜ r ≡ setupIn (now (b .entry)) ⌝ }
+{
+    if b.len() != 7 {
+        return Payload::Unfit(2);
+    }
+    match setup_of(b[0], b[1], b[2], b[3], b[4], get16(b, 5)) {
+        Checked::Good(setup) => Payload::Whole(Event::Setup(setup)),
+        Checked::Bad => Payload::Unfit(1),
+    }
+}
+
+// An event with no payload.
+fn bare_in(event: Event, b: &[u8]) -> Payload
+    ensures { λ r. ⌜ r ≡ bareIn event (now (b .entry)) ⌝ }
+{
+    if b.len() == 0 {
+        Payload::Whole(event)
+    } else {
+        Payload::Unfit(2)
+    }
+}
+
+// An event with as many counts as are wanted beside it.
+fn counted_in(event: Event, wanted: u8, b: &[u8]) -> Payload
+    ensures { λ r. ⌜ r ≡ countedIn event wanted (now (b .entry)) ⌝ }
+{
+    if b.len() != 2 * (wanted as usize) {
+        return Payload::Unfit(2);
+    }
+    if all_counts(b) {
+        Payload::Whole(event)
+    } else {
+        Payload::Unfit(3)
+    }
+}
+
+fn count_in(b: &[u8]) -> Payload
+    ensures { λ r. ⌜ r ≡ countIn (now (b .entry)) ⌝ }
+{
+    if b.len() != 2 {
+        return Payload::Unfit(2);
+    }
+    Payload::Whole(Event::Count(get16(b, 0)))
+}
+
+fn sense_in(b: &[u8]) -> Payload
+    ensures { λ r. ⌜ r ≡ senseIn (now (b .entry)) ⌝ }
+{
+    if b.len() != 4 {
+        return Payload::Unfit(2);
+    }
+    sense(get32(b, 0))
+}
+
+fn load_in(b: &[u8]) -> Payload
+    ensures { λ r. ⌜ r ≡ switchIn loadOf (now (b .entry)) ⌝ }
+{
+    if b.len() != 1 {
+        return Payload::Unfit(2);
+    }
+    if b[0] <= 1 {
+        Payload::Whole(Event::Load(b[0] == 1))
+    } else {
+        Payload::Unfit(3)
+    }
+}
+
+fn host_in(b: &[u8]) -> Payload
+    ensures { λ r. ⌜ r ≡ switchIn inOf (now (b .entry)) ⌝ }
+{
+    if b.len() != 1 {
+        return Payload::Unfit(2);
+    }
+    if b[0] <= 1 {
+        Payload::Whole(Event::OnBus(BusEvent::In(b[0] == 1)))
+    } else {
+        Payload::Unfit(3)
+    }
+}
+
+fn host_out(b: &[u8]) -> Payload
+    ensures { λ r. ⌜ r ≡ outIn (now (b .entry)) ⌝ }
+{
+    if b.len() != 1 {
+        return Payload::Unfit(2);
+    }
+    Payload::Whole(Event::OnBus(BusEvent::Out(b[0])))
+}
+
+// How many groups of five inputs a part has: at most three.
+pub fn groups_at(part: u8) -> u8
+    ensures { λ r. ⌜ r ≡ groupsAt part ⌝ }
+{
+    if part < 3 { part } else { 3 }
+}
+
+pub fn inputs_at(part: u8) -> u8
+    ensures { λ r. ⌜ r ≡ inputsAt part ⌝ }
+{
+    if part < 3 { 5 * part } else { 15 }
+}
+
+// The payload of a kind once a part stands.
+fn later_of(kind: u16, part: u8, b: &[u8]) -> Payload
+    ensures { λ r. ⌜ r ≡ laterOf kind part (now (b .entry)) ⌝ }
+{
+    match kind {
+        0x0001 => bare_in(Event::Por, b),
+        0x0002 => bare_in(Event::Boot, b),
+        0x0003 => counted_in(Event::Scan, inputs_at(part), b),
+        0x0004 => counted_in(Event::Temp, groups_at(part), b),
+        0x0005 => count_in(b),
+        0x0006 => sense_in(b),
+        0x0007 => bare_in(Event::Pin, b),
+        0x0008 => load_in(b),
+        0x0009 => bare_in(Event::Xready, b),
+        0x0010 => bare_in(Event::OnBus(BusEvent::Start), b),
+        0x0011 => host_out(b),
+        0x0012 => host_in(b),
+        0x0013 => bare_in(Event::OnBus(BusEvent::Stop), b),
+        _ => Payload::Unfit(2),
+    }
+}
+
+// The payload of a kind at a part, 0 where none stands yet.
+fn payload_of(kind: u16, part: u8, b: &[u8]) -> Payload
+    ensures { λ r. ⌜ r ≡ payloadOf kind part (now (b .entry)) ⌝ }
+{
+    if part != 0 {
+        return later_of(kind, part, b);
+    }
+    if kind == 0 {
+        setup_in(b)
+    } else {
+        Payload::Unfit(2)
+    }
+}
+
+// The record that the rest of a stream begins with, at the part that stands: 0 where none does yet.
+pub fn read_rest(rest: &[u8], part: u8) -> Read
+    ensures { λ r. ⌜ r ≡ readOf part (now (rest .entry)) ⌝ }
+{
+    if rest.len() < 4 {
+        return Read::Cut;
+    }
+    let n = get16(rest, 0) as usize;
+    let kind = get16(rest, 2);
+    if rest.len() - 4 < n {
+        return Read::Cut;
+    }
+    let end = 4 + n;
+    match payload_of(kind, part, &rest[4..end]) {
+        Payload::Whole(event) => Read::Record { event, next: end },
+        Payload::Unfit(number) => Read::Refused { number, next: end },
+    }
+}
+
+// A number of 2 bytes, or 0 past the end.
+fn word(b: &[u8], i: usize) -> u16
+    requires { ⌜ i < 16 ⌝ }
+    ensures { λ r. ⌜ r ≡ wordOr (now (b .entry)) i ⌝ }
+{
+    let at = 2 * i;
+    if at + 2 <= b.len() { get16(b, at) } else { 0 }
+}
+
+fn fifteen(b: &[u8]) -> [u16; 15]
+    ensures { λ r. ⌜ r ≡ filled 15 (words (now (b .entry))) ⌝ }
+{
+    [
+        word(b, 0),
+        word(b, 1),
+        word(b, 2),
+        word(b, 3),
+        word(b, 4),
+        word(b, 5),
+        word(b, 6),
+        word(b, 7),
+        word(b, 8),
+        word(b, 9),
+        word(b, 10),
+        word(b, 11),
+        word(b, 12),
+        word(b, 13),
+        word(b, 14),
+    ]
+}
+
+fn counts_of(b: &[u8]) -> Counts
+    ensures { λ r. ⌜ r ≡ countsOf (now (b .entry)) ⌝ }
+{
+    let of = fifteen(b);
+    if b.len() < 30 {
+        return Counts {
+            many: (b.len() / 2) as u8,
+            of,
+        };
+    }
+    Counts { many: 15, of }
+}
+
+pub fn no_counts() -> Counts
+    ensures { λ r. ⌜ r ≡ noCounts ⌝ }
+{
+    Counts {
+        many: 0,
+        of: [0; 15],
+    }
+}
+
+// The counts beside an event that was read, from its payload. SCAN and TEMP alone have any.
+pub fn counts_in(event: Event, payload: &[u8]) -> Counts
+    ensures { λ r. ⌜ r ≡ countsIn event (now (payload .entry)) ⌝ }
+{
+    match event {
+        Event::Scan => counts_of(payload),
+        Event::Temp => counts_of(payload),
+        Event::Setup(_) => no_counts(),
+        Event::Por => no_counts(),
+        Event::Boot => no_counts(),
+        Event::Count(_) => no_counts(),
+        Event::Sense(_) => no_counts(),
+        Event::Pin => no_counts(),
+        Event::Load(_) => no_counts(),
+        Event::Xready => no_counts(),
+        Event::OnBus(_) => no_counts(),
+    }
+}
+
+// The record at any place of lent bytes, with the counts beside it.
+pub fn take_record(s: &[u8], at: usize, part: u8) -> Taken
+    ensures { λ r. ⌜ r ≡ takenAt part (now (s .entry)) at ⌝ }
+{
+    let counts = no_counts();
+    if s.len() < at {
+        return Taken {
+            read: Read::Cut,
+            counts,
+        };
+    }
+    let rest = &s[at..];
+    match read_rest(rest, part) {
+        Read::Record { event, next } => Taken {
+            read: Read::Record {
+                event,
+                next: at + next,
+            },
+            counts: counts_in(event, &rest[4..next]),
+        },
+        Read::Refused { number, next } => Taken {
+            read: Read::Refused {
+                number,
+                next: at + next,
+            },
+            counts,
+        },
+        Read::Cut => Taken {
+            read: Read::Cut,
+            counts,
+        },
+    }
+}

@@ -1,0 +1,73 @@
+-- Signed numbers: each operation's `toZ w (ofZ w z)` is z where z fits, and the rest is by cases on the sign, on natural numbers.
+-- Assumes nothing.
+use mathlib.Core.Path.{_≡_, refl, ap, sym, _∙_, subst}
+use Prim.Native.Nat.{ℕ, suc, zero, _+_, _-_, _*_, _%_, _<_, _≤_, _^_}
+use mathlib.Core.Bool.{Bool, true, false, not, _&&_}
+use native.Mathlib.Omega.{arith}
+use lib.Dec.{T, leb, ltb}
+use lib.IntN.{ℤ, pos, negsuc, _+ℤ_, natAbs}
+use lib.Signed.{leZ, nonNeg}
+use mir.Syntax.{w32, w64}
+use mir.Val.{toZ, ofZ, SFits, Fits}
+use mir.Facts.{toZ-ofZ, sfits-widen}
+use borrow.Author.Tests.{le-ltb, lt-ltb, leb-true, leb-false}
+use Rattle.events.specs.Event.{senseFits}
+use Rattle.records.specs.Ranges.{fits-pos, fits-neg}
+use Rattle.writer.specs.Write.{bits32}
+
+-- 2 ^ 32 more than a number
+pub total : ℤ → ℕ
+total (pos n) = n + 4294967296
+total (negsuc n) = 4294967296 - suc n
+
+module _ (v : ℤ) (f : SFits w32 v) where
+  same : toZ w32 (ofZ w32 v) ≡ v
+  same = toZ-ofZ f
+
+  pub wide : SFits w64 (toZ w32 (ofZ w32 v))
+  wide = rw same (sfits-widen tt f)
+
+  wide-same : toZ w64 (ofZ w64 (toZ w32 (ofZ w32 v))) ≡ v
+  wide-same = toZ-ofZ wide ∙ same
+
+sum-of : (v : ℤ) → SFits w32 v → (v +ℤ pos 4294967296 ≡ pos (total v)) × (total v < 2 ^ 33) × (total v % 4294967296 ≡ bits32 v)
+unfolding bits32 total
+sum-of (pos n) f = let h : n < 2 ^ 31 = f .sfits in (refl, omega arith, omega arith)
+sum-of (negsuc n) f = let h : n < 2 ^ 31 = f .sfits in (simp (le-ltb 4294967296 (suc n) (omega arith)), omega arith, omega arith)
+
+module _ (v : ℤ) (f : SFits w32 v) where
+  sum : toZ w64 (ofZ w64 (toZ w32 (ofZ w32 v))) +ℤ pos 4294967296 ≡ pos (total v)
+  sum = ap (λ (z : ℤ). z +ℤ pos 4294967296) (wide-same v f) ∙ sum-of v f .0
+
+  pub sum-fits : SFits w64 (toZ w64 (ofZ w64 (toZ w32 (ofZ w32 v))) +ℤ pos 4294967296)
+  sum-fits = rw sum (record { sfits = omega (arith, sum-of v f .1) })
+
+  pub sum-is : toZ w64 (ofZ w64 (toZ w64 (ofZ w64 (toZ w32 (ofZ w32 v))) +ℤ pos 4294967296)) ≡ pos (total v)
+  sum-is = toZ-ofZ sum-fits ∙ sum
+
+  pub sum-cast : T (nonNeg (toZ w64 (ofZ w64 (toZ w64 (ofZ w64 (toZ w32 (ofZ w32 v))) +ℤ pos 4294967296))))
+      × Fits w64 (natAbs (toZ w64 (ofZ w64 (toZ w64 (ofZ w64 (toZ w32 (ofZ w32 v))) +ℤ pos 4294967296))))
+  sum-cast = rw sum-is (tt, record { fits = omega (arith, sum-of v f .1) })
+
+  pub sum-bits : natAbs (toZ w64 (ofZ w64 (toZ w64 (ofZ w64 (toZ w32 (ofZ w32 v))) +ℤ pos 4294967296))) % 4294967296 ≡ bits32 v
+  sum-bits = rw sum-is (sum-of v f .2)
+
+-- a test of order and the other's denial
+not-above : (a n : ℕ) (t : Bool) → leb n a ≡ t → t ≡ not (ltb a n)
+not-above a n true e = sym (ap not (le-ltb a n (leb-true n a e)))
+not-above a n false e = sym (ap not (lt-ltb a n (leb-false n a e)))
+
+and-true : (b : Bool) → b && true ≡ b
+and-true true = refl
+and-true false = refl
+
+in-range : (v : ℤ) → leZ (negsuc 499999) v && leZ v (pos 500000) ≡ senseFits v
+in-range (pos n) = not-above 500000 n (leb n 500000) refl ∙ sym (fits-pos n)
+in-range (negsuc n) = and-true (leb n 499999) ∙ below n (leb n 499999) refl ∙ sym (fits-neg n)
+  where
+    below : (n : ℕ) (t : Bool) → leb n 499999 ≡ t → t ≡ not (ltb 500000 (suc n))
+    below n true e = sym (ap not (le-ltb 500000 (suc n) (omega (arith, leb-true n 499999 e))))
+    below n false e = sym (ap not (lt-ltb 500000 (suc n) (omega (arith, leb-false n 499999 e))))
+
+pub range-is : (v : ℤ) → SFits w32 v → leZ (negsuc 499999) (toZ w32 (ofZ w32 v)) && leZ (toZ w32 (ofZ w32 v)) (pos 500000) ≡ senseFits v
+range-is v f = ap (λ (z : ℤ). leZ (negsuc 499999) z && leZ z (pos 500000)) (same v f) ∙ in-range v

@@ -1,0 +1,3 @@
+pub mod Ints
+pub mod Refusals
+pub mod Stores

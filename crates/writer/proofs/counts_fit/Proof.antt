@@ -1,0 +1,22 @@
+-- `counts_fit` meets its contract.
+use borrow.Author.Tests.{eq-eqb, ne-eqb}
+use Rattle.events.specs.Event.{countsFit}
+use borrow.Author.Needs.{needs}
+use Rattle.writer.proofs.counts_fit.Statement.{statement}
+use Rattle.writer.proofs.counts_fit.Tie as tie
+
+returns : tie.Need-returns
+unfolding countsFit
+returns c = simp (ne-eqb _ _ (c .if1 .taken))
+
+returns-2 : tie.Need-returns-2
+unfolding countsFit
+returns-2 c = simp (eq-eqb _ _ (c .before .if1 .left)) (c .within-from .ensures)
+
+pub counts-fit-spec : {M : Type 1} → statement M
+counts-fit-spec =
+    tie.close
+    (tie.spec
+    returns
+    (λ c κs. search needs)
+    returns-2)

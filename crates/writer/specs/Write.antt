@@ -1,0 +1,139 @@
+-- Document 01, "Events and their records": writing, with the numbers 1, 2, 3 and 5. Assumes nothing.
+use mathlib.Core.Path.{_≡_}
+use Prim.Native.Nat.{ℕ, zero, suc, _+_, _-_, _*_, _/_, _%_}
+use mathlib.Core.List.{List, [], _∷_, _++_}
+use mathlib.Core.Bool.{Bool, true, false, cond, _&&_}
+use lib.ListN.{length, take, drop}
+use lib.Dec.{leb, eqb}
+use lib.IntN.{ℤ, pos, negsuc}
+use Rattle.events.specs.Event.{within, countMost, senseFits, countsWanted, countsFit}
+use Rattle.events.specs.declared.Setup.{Setup as SetupValues}
+use Rattle.events.specs.declared.Counts.{Counts}
+use Rattle.events.specs.declared.BusEvent.the-variants.{Start, Out, In, Stop}
+use Rattle.events.specs.declared.Event.{Event}
+use Rattle.events.specs.declared.Event.the-variants.{Setup, Por, Boot, Scan, Temp, Count, Sense, Pin, Load, Xready, OnBus}
+use Rattle.records.specs.Kind.{SETUP, POR, BOOT, SCAN, TEMP, COUNT, SENSE, PIN, LOAD, XREADY, START, OUT, IN, STOP}
+use Rattle.records.specs.Numbers.{bitOf}
+use Rattle.records.specs.Record.{setupGood, standing}
+use Rattle.writer.specs.declared.Wrote.{Wrote}
+use Rattle.writer.specs.declared.Wrote.the-variants.{Done, Refused}
+
+-- ── all numbers little-endian ──
+abbrev pub bytes16 : ℕ → List ℕ
+bytes16 n = n % 256 ∷ n / 256 ∷ []
+
+abbrev pub bytes32 : ℕ → List ℕ
+bytes32 u = u % 65536 % 256 ∷ u % 65536 / 256 ∷ u / 65536 % 256 ∷ u / 65536 / 256 ∷ []
+
+-- the 32 bits of a number with its sign
+unfoldable pub bits32 : ℤ → ℕ
+bits32 (pos n) = n
+bits32 (negsuc n) = 4294967295 - n
+
+abbrev pub wordBytes : List ℕ → List ℕ
+wordBytes [] = []
+wordBytes (x ∷ xs) = x % 256 ∷ x / 256 ∷ wordBytes xs
+
+-- ── a record: payload length (2 bytes), kind (2 bytes), payload ──
+abbrev pub recordOf : ℕ → List ℕ → List ℕ
+recordOf kind b = length b % 256 ∷ length b / 256 ∷ kind % 256 ∷ kind / 256 ∷ b
+
+-- the kind of each event
+abbrev pub kindFor : Event → ℕ
+kindFor (Setup v) = SETUP
+kindFor Por = POR
+kindFor Boot = BOOT
+kindFor Scan = SCAN
+kindFor Temp = TEMP
+kindFor (Count n) = COUNT
+kindFor (Sense v) = SENSE
+kindFor Pin = PIN
+kindFor (Load l) = LOAD
+kindFor Xready = XREADY
+kindFor (OnBus Start) = START
+kindFor (OnBus (Out b)) = OUT
+kindFor (OnBus (In n)) = IN
+kindFor (OnBus Stop) = STOP
+
+-- part, CRC, address, gain code, offset (1 each), floor (2)
+abbrev pub setupBytes : SetupValues → List ℕ
+setupBytes v = v .part ∷ bitOf (v .crc) ∷ v .address ∷ v .gain ∷ v .offset ∷ bytes16 (v .floor)
+
+-- 2 bytes for each count
+abbrev pub countBytes : Counts → List ℕ
+countBytes k = wordBytes (take (k .many) (k .of))
+
+-- the payload of each event
+abbrev pub payloadFor : Event → Counts → List ℕ
+payloadFor (Setup v) k = setupBytes v
+payloadFor Por k = []
+payloadFor Boot k = []
+payloadFor Scan k = countBytes k
+payloadFor Temp k = countBytes k
+payloadFor (Count n) k = bytes16 n
+payloadFor (Sense v) k = bytes32 (bits32 v)
+payloadFor Pin k = []
+payloadFor (Load l) k = bitOf l ∷ []
+payloadFor Xready k = []
+payloadFor (OnBus Start) k = []
+payloadFor (OnBus (Out b)) k = b ∷ []
+payloadFor (OnBus (In n)) k = bitOf n ∷ []
+payloadFor (OnBus Stop) k = []
+
+unfoldable pub recordFor : Event → Counts → List ℕ
+recordFor e k = recordOf (kindFor e) (payloadFor e k)
+
+-- ── refusals: 1 (part not 1 to 3), 2 (counts not fitting it), 1 or 3 ──
+-- the part that counts: SETUP's own for SETUP
+abbrev pub partFor : Event → ℕ → ℕ
+partFor (Setup v) part = v .part
+partFor Por part = part
+partFor Boot part = part
+partFor Scan part = part
+partFor Temp part = part
+partFor (Count n) part = part
+partFor (Sense v) part = part
+partFor Pin part = part
+partFor (Load l) part = part
+partFor Xready part = part
+partFor (OnBus b) part = part
+
+-- 1 for a value of SETUP out of range, 3 for another
+unfoldable pub valueRefusal : Event → Counts → ℕ
+valueRefusal (Setup v) k = cond (setupGood v) 0 1
+valueRefusal Por k = 0
+valueRefusal Boot k = 0
+valueRefusal Scan k = cond (within countMost (take (k .many) (k .of))) 0 3
+valueRefusal Temp k = cond (within countMost (take (k .many) (k .of))) 0 3
+valueRefusal (Count n) k = 0
+valueRefusal (Sense v) k = cond (senseFits v) 0 3
+valueRefusal Pin k = 0
+valueRefusal (Load l) k = 0
+valueRefusal Xready k = 0
+valueRefusal (OnBus b) k = 0
+
+-- the number that an event is refused with at a part, or 0
+unfoldable pub refusalFor : Event → Counts → ℕ → ℕ
+refusalFor e k part =
+    cond (leb 1 (partFor e part) && leb (partFor e part) 3)
+    (cond (countsFit (countsWanted (standing part) e) k) (valueRefusal e k) 2)
+    1
+
+-- ── then 5, where the buffer is too short; no other byte than the record's is written ──
+-- bytes written at the start of a buffer
+abbrev pub writtenOf : List ℕ → List ℕ → List ℕ
+writtenOf bytes old = bytes ++ drop (length bytes) old
+
+pub record Writes (bytes old : List ℕ) (r : Wrote) (new : List ℕ) : Type 0 where
+  pub answer : r ≡ cond (leb (length bytes) (length old)) (Done (length bytes)) (Refused 5)
+  pub contents : new ≡ cond (leb (length bytes) (length old)) (writtenOf bytes old) old
+
+-- an event that is refused with a number, 0 where it is not, and its bytes
+pub record Puts (number : ℕ) (bytes old : List ℕ) (r : Wrote) (new : List ℕ) : Type 0 where
+  pub answer : r ≡ cond (eqb number 0) (cond (leb (length bytes) (length old)) (Done (length bytes)) (Refused 5)) (Refused number)
+  pub contents : new ≡ cond (eqb number 0) (cond (leb (length bytes) (length old)) (writtenOf bytes old) old) old
+
+-- the paper's number of each answer
+abbrev pub numberOf : Wrote → ℕ
+numberOf (Done n) = 0
+numberOf (Refused k) = k

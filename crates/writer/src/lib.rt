@@ -1,0 +1,314 @@
+// Records, written: an event's record at a part, or the number it is refused with.
+ghost use mathlib.Core.Path.{_≡_};
+ghost use Prim.Native.Nat.{_+_, _*_, _<_, _≤_};
+ghost use mathlib.Core.List.{[], _∷_};
+ghost use mathlib.Core.Bool.{true};
+ghost use lib.ListN.{length, take, drop};
+ghost use Rattle.events.specs.Event.{within, senseFits, countsWanted, countsFit};
+ghost use Rattle.events.specs.declared.Event.the-variants.{OnBus};
+ghost use Rattle.records.specs.Numbers.{bitOf};
+ghost use Rattle.records.specs.Record.{setupGood, standing, noCounts};
+ghost use Rattle.writer.specs.Write.{bits32, bytes16, bytes32, wordBytes, writtenOf, recordOf, recordFor, partFor, valueRefusal, refusalFor, setupBytes, Writes, Puts};
+use events::BusEvent;
+use events::Counts;
+use events::Event;
+use events::Setup;
+use records::groups_at;
+use records::inputs_at;
+
+// What writing gives: how many bytes it wrote, or the number it is refused with.
+pub enum Wrote {
+    Done(usize),
+    Refused(u8),
+}
+
+fn bit_of(t: bool) -> u8
+    ensures { λ r. ⌜ r ≡ bitOf t ⌝ }
+{
+    if t { 1 } else { 0 }
+}
+
+// The 32 bits of a number with its sign.
+fn bits_of(v: i32) -> u32
+    ensures { λ r. ⌜ r ≡ bits32 v ⌝ }
+{
+    ((v as i64 + 4294967296) as u64 % 4294967296) as u32
+}
+
+// Whether a SENSE value is in range.
+fn sense_fits(v: i32) -> bool
+    ensures { λ r. ⌜ r ≡ senseFits v ⌝ }
+{
+    (-500000 <= v) & (v <= 500000)
+}
+
+// Whether a SETUP's values are in range.
+fn setup_good(v: Setup) -> bool
+    ensures { λ r. ⌜ r ≡ setupGood v ⌝ }
+{
+    (1 <= v.part)
+        & (v.part <= 3)
+        & (0x08 <= v.address)
+        & (v.address <= 0x77)
+        & (v.gain <= 31)
+        & (v.floor <= 4095)
+}
+
+// Whether each count from a place on is at most a number.
+fn within_from(of: [u16; 15], from: usize, most: u16) -> bool
+    requires { ⌜ from ≤ 15 ⌝ }
+    ensures { λ r. ⌜ r ≡ within most (drop from of) ⌝ }
+{
+    let mut i = from;
+    while i < 15 {
+        if most < of[i] {
+            return false;
+        }
+        i += 1;
+    }
+    true
+}
+
+// A record with no payload.
+fn write_bare(out: &mut [u8], kind: u16) -> Wrote
+    ensures { λ r. ⌜ Writes (recordOf kind []) (now (out .entry)) r (now (out .exit)) ⌝ }
+{
+    if out.len() < 4 {
+        return Wrote::Refused(5);
+    }
+    out[0] = 0;
+    out[1] = 0;
+    out[2] = (kind % 256) as u8;
+    out[3] = (kind / 256) as u8;
+    Wrote::Done(4)
+}
+
+// A record whose payload is a byte.
+fn write_byte(out: &mut [u8], kind: u16, b: u8) -> Wrote
+    ensures { λ r. ⌜ Writes (recordOf kind (b ∷ [])) (now (out .entry)) r (now (out .exit)) ⌝ }
+{
+    if out.len() < 5 {
+        return Wrote::Refused(5);
+    }
+    out[0] = 1;
+    out[1] = 0;
+    out[2] = (kind % 256) as u8;
+    out[3] = (kind / 256) as u8;
+    out[4] = b;
+    Wrote::Done(5)
+}
+
+// A record whose payload is a number of 2 bytes.
+fn write_word(out: &mut [u8], kind: u16, n: u16) -> Wrote
+    ensures { λ r. ⌜ Writes (recordOf kind (bytes16 n)) (now (out .entry)) r (now (out .exit)) ⌝ }
+{
+    if out.len() < 6 {
+        return Wrote::Refused(5);
+    }
+    out[0] = 2;
+    out[1] = 0;
+    out[2] = (kind % 256) as u8;
+    out[3] = (kind / 256) as u8;
+    out[4] = (n % 256) as u8;
+    out[5] = (n / 256) as u8;
+    Wrote::Done(6)
+}
+
+// A record whose payload is a number of 4 bytes.
+fn write_long(out: &mut [u8], kind: u16, u: u32) -> Wrote
+    ensures { λ r. ⌜ Writes (recordOf kind (bytes32 u)) (now (out .entry)) r (now (out .exit)) ⌝ }
+{
+    if out.len() < 8 {
+        return Wrote::Refused(5);
+    }
+    out[0] = 4;
+    out[1] = 0;
+    out[2] = (kind % 256) as u8;
+    out[3] = (kind / 256) as u8;
+    out[4] = (u % 65536 % 256) as u8;
+    out[5] = (u % 65536 / 256) as u8;
+    out[6] = (u / 65536 % 256) as u8;
+    out[7] = (u / 65536 / 256) as u8;
+    Wrote::Done(8)
+}
+
+// SETUP's record.
+fn write_setup(out: &mut [u8], v: Setup) -> Wrote
+    ensures { λ r. ⌜ Writes (recordOf 0 (setupBytes v)) (now (out .entry)) r (now (out .exit)) ⌝ }
+{
+    if out.len() < 11 {
+        return Wrote::Refused(5);
+    }
+    out[0] = 7;
+    out[1] = 0;
+    out[2] = 0;
+    out[3] = 0;
+    out[4] = v.part;
+    out[5] = bit_of(v.crc);
+    out[6] = v.address;
+    out[7] = v.gain;
+    out[8] = v.offset;
+    out[9] = (v.floor % 256) as u8;
+    out[10] = (v.floor / 256) as u8;
+    Wrote::Done(11)
+}
+
+// The bytes of the first numbers of 2 bytes.
+fn put_words(out: &mut [u8], of: [u16; 15], n: usize)
+    requires { ⌜ (n ≤ 15) × (2 * n ≤ length (now out)) ⌝ }
+    ensures { λ _. ⌜ now (out .exit) ≡ writtenOf (wordBytes (take n of)) (now (out .entry)) ⌝ }
+{
+    let mut i = 0;
+    while i < n {
+        out[2 * i] = (of[i] % 256) as u8;
+        out[2 * i + 1] = (of[i] / 256) as u8;
+        i += 1;
+    }
+}
+
+// The record of an event with counts.
+fn write_counts(out: &mut [u8], kind: u16, counts: Counts) -> Wrote
+    requires { ⌜ counts .many ≤ 15 ⌝ }
+    ensures { λ r. ⌜ Writes (recordOf kind (wordBytes (take (counts .many) (counts .of)))) (now (out .entry)) r (now (out .exit)) ⌝ }
+{
+    let n = counts.many as usize;
+    if out.len() < 4 + 2 * n {
+        return Wrote::Refused(5);
+    }
+    let of = counts.of;
+    out[0] = (2 * n) as u8;
+    out[1] = 0;
+    out[2] = (kind % 256) as u8;
+    out[3] = (kind / 256) as u8;
+    put_words(&mut out[4..], of, n);
+    Wrote::Done(4 + 2 * n)
+}
+
+// The part that counts: SETUP's own for SETUP.
+fn part_for(event: Event, part: u8) -> u8
+    ensures { λ r. ⌜ r ≡ partFor event part ⌝ }
+{
+    match event {
+        Event::Setup(setup) => setup.part,
+        Event::Por => part,
+        Event::Boot => part,
+        Event::Scan => part,
+        Event::Temp => part,
+        Event::Count(_) => part,
+        Event::Sense(_) => part,
+        Event::Pin => part,
+        Event::Load(_) => part,
+        Event::Xready => part,
+        Event::OnBus(_) => part,
+    }
+}
+
+// How many counts stand beside an event at a part.
+fn wanted_at(event: Event, part: u8) -> u8
+    ensures { λ r. ⌜ r ≡ countsWanted (standing part) event ⌝ }
+{
+    match event {
+        Event::Setup(_) => 0,
+        Event::Por => 0,
+        Event::Boot => 0,
+        Event::Scan => inputs_at(part),
+        Event::Temp => groups_at(part),
+        Event::Count(_) => 0,
+        Event::Sense(_) => 0,
+        Event::Pin => 0,
+        Event::Load(_) => 0,
+        Event::Xready => 0,
+        Event::OnBus(_) => 0,
+    }
+}
+
+// Whether there are as many counts as wanted, and 0 after them.
+fn counts_fit(wanted: u8, counts: Counts) -> bool
+    requires { ⌜ wanted ≤ 15 ⌝ }
+    ensures { λ r. ⌜ r ≡ countsFit wanted counts ⌝ }
+{
+    let of = counts.of;
+    if counts.many != wanted {
+        return false;
+    }
+    within_from(of, wanted as usize, 0)
+}
+
+// 1 for a value of SETUP out of range, 3 for another, or 0. What stands after the counts is 0.
+fn value_refusal(event: Event, counts: Counts) -> u8
+    requires { ⌜ within 0 (drop (counts .many) (counts .of)) ≡ true ⌝ }
+    ensures { λ r. ⌜ r ≡ valueRefusal event counts ⌝ }
+{
+    let of = counts.of;
+    match event {
+        Event::Setup(setup) => if setup_good(setup) { 0 } else { 1 },
+        Event::Por => 0,
+        Event::Boot => 0,
+        Event::Scan => if within_from(of, 0, 16383) { 0 } else { 3 },
+        Event::Temp => if within_from(of, 0, 16383) { 0 } else { 3 },
+        Event::Count(_) => 0,
+        Event::Sense(v) => if sense_fits(v) { 0 } else { 3 },
+        Event::Pin => 0,
+        Event::Load(_) => 0,
+        Event::Xready => 0,
+        Event::OnBus(_) => 0,
+    }
+}
+
+// The number that an event is refused with at a part, or 0.
+fn refusal(event: Event, counts: Counts, part: u8) -> u8
+    ensures { λ r. ⌜ r ≡ refusalFor event counts part ⌝ }
+{
+    let own = part_for(event, part);
+    if (1 <= own) & (own <= 3) {
+        let wanted = wanted_at(event, part);
+        if counts_fit(wanted, counts) {
+            return value_refusal(event, counts);
+        }
+        return 2;
+    }
+    1
+}
+
+fn put_bus(event: BusEvent, out: &mut [u8]) -> Wrote
+    ensures { λ r. ⌜ Writes (recordFor (OnBus event) noCounts) (now (out .entry)) r (now (out .exit)) ⌝ }
+{
+    match event {
+        BusEvent::Start => write_bare(out, 0x0010),
+        BusEvent::Out(b) => write_byte(out, 0x0011, b),
+        BusEvent::In(refused) => write_byte(out, 0x0012, bit_of(refused)),
+        BusEvent::Stop => write_bare(out, 0x0013),
+    }
+}
+
+// An event's record, in full.
+fn put_event(event: Event, counts: Counts, out: &mut [u8]) -> Wrote
+    requires { ⌜ counts .many ≤ 15 ⌝ }
+    ensures { λ r. ⌜ Writes (recordFor event counts) (now (out .entry)) r (now (out .exit)) ⌝ }
+{
+    match event {
+        Event::Setup(setup) => write_setup(out, setup),
+        Event::Por => write_bare(out, 0x0001),
+        Event::Boot => write_bare(out, 0x0002),
+        Event::Scan => write_counts(out, 0x0003, counts),
+        Event::Temp => write_counts(out, 0x0004, counts),
+        Event::Count(n) => write_word(out, 0x0005, n),
+        Event::Sense(v) => write_long(out, 0x0006, bits_of(v)),
+        Event::Pin => write_bare(out, 0x0007),
+        Event::Load(level) => write_byte(out, 0x0008, bit_of(level)),
+        Event::Xready => write_bare(out, 0x0009),
+        Event::OnBus(bus) => put_bus(bus, out),
+    }
+}
+
+// Writes an event's record at a part, SETUP's own for SETUP. It refuses with 1 (part not 1 to 3), 2 (counts not fitting it), 1 or 3
+// (a value out of range), then 5 (no room), and writes no other byte than the record's.
+pub fn write_record(event: Event, counts: Counts, part: u8, out: &mut [u8]) -> Wrote
+    ensures { λ r. ⌜ Puts (refusalFor event counts part) (recordFor event counts) (now (out .entry)) r (now (out .exit)) ⌝ }
+{
+    let number = refusal(event, counts, part);
+    if number != 0 {
+        return Wrote::Refused(number);
+    }
+    put_event(event, counts, out)
+}
