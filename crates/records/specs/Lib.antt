@@ -1,5 +1,6 @@
 pub mod Numbers
 pub mod Kind
+pub mod Frame
 pub mod Record
 pub mod Ranges
 pub mod Words

@@ -5,6 +5,7 @@ ghost use mathlib.Core.List.{List};
 ghost use lib.ListN.{length};
 ghost use Rattle.events.specs.Event.{countMost, within};
 ghost use Rattle.records.specs.Numbers.{le16, le32, words, wordOr, filled};
+ghost use Rattle.records.specs.Frame.{frameOf};
 ghost use Rattle.records.specs.Record.{senseOf, setupIn, bareIn, countedIn, countIn, senseIn, switchIn, loadOf, inOf, outIn, groupsAt, inputsAt, laterOf, payloadOf, readOf, noCounts, countsOf, countsIn, takenAt};
 use events::BusEvent;
 use events::Checked;
@@ -335,4 +336,18 @@ pub fn take_record(s: &[u8], at: usize, part: u8) -> Taken
             counts,
         },
     }
+}
+
+// How long the record is that bytes begin with: 0 where it is cut short.
+pub fn frame(rest: &[u8]) -> usize
+    ensures { λ r. ⌜ r ≡ frameOf (now (rest .entry)) ⌝ }
+{
+    if rest.len() < 4 {
+        return 0;
+    }
+    let n = get16(rest, 0) as usize;
+    if rest.len() - 4 < n {
+        return 0;
+    }
+    4 + n
 }

@@ -1,0 +1,100 @@
+-- The loop that counts frames: what it has counted and what is left make the count. Assumes nothing.
+use mathlib.Core.Path.{_≡_, refl, ap, sym, _∙_}
+use mathlib.Core.Bool.{Bool, true, false, cond}
+use mathlib.Core.Logic.{_≢_, ⊎-elim}
+use mathlib.Core.List.{List, [], _∷_}
+use Prim.Native.Nat.{ℕ, zero, suc, _+_, _-_, _*_, _<_, _≤_}
+use native.Mathlib.Omega.{arith}
+use native.Mathlib.Nat.{not-suc-le-zero}
+use lib.Dec.{eqb}
+use lib.ListN.{length, take, drop, length-drop, drop-of-length-le}
+use lib.Seq.{drop-drop}
+use borrow.Author.Tests.{eq-eqb, ne-eqb}
+use types.Run.{OneOf}
+use denote.Enum.Declared.{tagOf}
+use Rattle.events.specs.declared.Event.{Event}
+use Rattle.records.proofs.Read.{the-type as read-type}
+use Rattle.records.specs.declared.Read.{Read}
+use Rattle.records.specs.declared.Read.the-variants.{Record, Refused, Cut}
+use Rattle.records.specs.Frame.{frameOf}
+use Rattle.records.specs.Record.{readOf}
+use Rattle.records.specs.Reading.{Placed, placed}
+use Rattle.stream.specs.Frames.{frames, framesAfter, framesOf}
+use Rattle.stream.specs.Counted.{frame-place}
+use Rattle.stream.proofs.Loop.{rest-is}
+
+pub record Counting (s : List ℕ) (at n : ℕ) : Type 0 where
+  pub whole : framesOf s ≡ n + frames (length s - n) (drop at s)
+  pub slow : 4 * n ≤ at
+  pub inside : at ≤ length s
+
+pub count-none : (s : List ℕ) → length s ≡ 0 → 0 ≡ framesOf s
+unfolding framesOf
+count-none [] h = refl
+count-none (b ∷ s) h = absurd (omega (arith, h))
+
+-- the first record
+after-first : (s : List ℕ) → (length s ≡ 0 → ⊥) → framesOf s ≡ framesAfter s (readOf 0 s)
+unfolding framesOf
+after-first [] h = absurd (h refl)
+after-first (b ∷ s) h = refl
+
+pub count-first : (s : List ℕ) (x : Read) (e : Event) (next : ℕ) → (length s ≡ 0 → ⊥) → x ≡ readOf 0 s → x ≡ Record e next → Counting s next 1
+count-first s x e next h q w =
+    let r : readOf 0 s ≡ Record e next = sym q ∙ w in
+    let p : Placed (length s) (Record e next) = rw r at (placed 0 s) in
+    record { whole = after-first s h ∙ ap (framesAfter s) r ∙ omega arith; slow = omega (arith, p .0); inside = p .1 }
+
+pub count-only : (s : List ℕ) (x : Read) → (length s ≡ 0 → ⊥) → x ≡ readOf 0 s → OneOf (1 ∷ 2 ∷ []) (tagOf read-type x) → 1 ≡ framesOf s
+count-only s x h q o = sym (after-first s h ∙ ap (framesAfter s) (sym q) ∙ by x o)
+  where
+    by : (x : Read) → OneOf (1 ∷ 2 ∷ []) (tagOf read-type x) → framesAfter s x ≡ 1
+    by (Record e n) k = absurd (⊎-elim (λ h. omega arith) (λ h. omega arith) k)
+    by (Refused e n) k = refl
+    by Cut k = refl
+
+frames-nil : (f : ℕ) → frames f [] ≡ 0
+frames-nil zero = refl
+frames-nil (suc f) = refl
+
+frames-cons : (f : ℕ) (l : List ℕ) → 0 < length l → frames (suc f) l ≡ suc (cond (eqb (frameOf l) 0) 0 (frames f (drop (frameOf l) l)))
+frames-cons f [] h = absurd (not-suc-le-zero h)
+frames-cons f (b ∷ l) h = refl
+
+module _ (s : List ℕ) (at n : ℕ) (g : Counting s at n) where
+  pub count-end : length s ≤ at → n ≡ framesOf s
+  count-end h =
+      let e : drop at s ≡ [] = drop-of-length-le s h in
+      let z : frames (length s - n) (drop at s) ≡ 0 = ap (frames (length s - n)) e ∙ frames-nil (length s - n) in
+      omega (arith, g .whole, z)
+
+  module _ (h : at < length s) (size : ℕ) (q : size ≡ frameOf (take (length s - at) (drop at s))) where
+    size-is : frameOf (drop at s) ≡ size
+    size-is = ap frameOf (sym (rest-is s at)) ∙ sym q
+
+    step : framesOf s ≡ n + suc (cond (eqb size 0) 0 (frames (length s - (n + 1)) (drop (at + size) s)))
+    step =
+        let l : 4 * n ≤ at = g .slow in
+        let f : length s - n ≡ suc (length s - (n + 1)) = omega arith in
+        g .whole
+        ∙ ap (λ (m : ℕ). n + m)
+        (ap (λ (k : ℕ). frames k (drop at s)) f
+        ∙ frames-cons (length s - (n + 1)) (drop at s) (simp length-drop (omega arith))
+        ∙ ap (λ (k : ℕ). suc (cond (eqb k 0) 0 (frames (length s - (n + 1)) (drop k (drop at s))))) size-is
+        ∙ ap (λ (l : List ℕ). suc (cond (eqb size 0) 0 (frames (length s - (n + 1)) l))) (drop-drop size at s))
+
+    pub count-cut : size ≡ 0 → n + 1 ≡ framesOf s
+    count-cut e = let t : framesOf s ≡ n + 1 = step ∙ simp (eq-eqb size 0 e) in omega (arith, t)
+
+    pub count-place : (size ≡ 0 → ⊥) → (4 ≤ size) × (at + size ≤ length s)
+    count-place e =
+        let p : (4 ≤ frameOf (drop at s)) × (frameOf (drop at s) ≤ length (drop at s)) = frame-place (drop at s) (λ z. e (sym size-is ∙ z)) in
+        let d : length (drop at s) ≡ length s - at = length-drop at s in
+        (omega (arith, size-is, p .0), omega (arith, size-is, p .1))
+
+    pub count-more : (size ≡ 0 → ⊥) → Counting s (at + size) (n + 1)
+    count-more e =
+        let l : 4 * n ≤ at = g .slow in
+        let p : (4 ≤ size) × (at + size ≤ length s) = count-place e in
+        let t : framesOf s ≡ n + suc (frames (length s - (n + 1)) (drop (at + size) s)) = step ∙ simp (ne-eqb size 0 e) in
+        record { whole = omega (arith, t); slow = omega (arith, p .0); inside = p .1 }

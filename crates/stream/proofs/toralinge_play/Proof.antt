@@ -1,0 +1,25 @@
+-- The C call: counted by framing, refused whole or run into the buffer.
+use mathlib.Core.Path.{sym, _∙_}
+use native.Mathlib.Omega.{arith}
+use Rattle.stream.specs.Counted.{entries-count}
+use Rattle.stream.proofs.Loop.{played-short, played-all}
+use borrow.Author.Needs.{needs}
+use Rattle.stream.proofs.toralinge_play.Statement.{statement}
+use Rattle.stream.proofs.toralinge_play.Tie as tie
+
+returns : tie.Need-returns
+returns c = let a = c .before .before .before .before .args in played-short (a .stream .now) (a .entries .now) (c .before .count .result) (c .before .count .ensures ∙ sym (entries-count (a .stream .now))) (c .if1 .taken)
+
+returns-2 : tie.Need-returns-2
+returns-2 c = let s = c .before .before .before .before .before .before .before .before in let n = c .before .before .before .before .before in played-all (s .args .stream .now) (s .args .entries .now) (n .count .result) (c .before .before .run .result) (c .before .before .run .last .1 .0) (n .count .ensures ∙ sym (entries-count (s .args .stream .now))) (c .before .before .before .before .if1 .left) (omega (arith, s .good)) (c .before .before .run .ensures)
+
+pub toralinge-play-spec : {M : Type 1} → statement M
+toralinge-play-spec =
+    tie.close
+    (tie.spec
+    (λ c κs. search needs)
+    returns
+    (λ c κs. search needs)
+    (λ c. search needs)
+    (λ c. search needs)
+    returns-2)

@@ -1,0 +1,156 @@
+-- The entries of a stream are as many as its records up to the cut or the refused first one: no made-up count. Assumes nothing.
+use mathlib.Core.Path.{_≡_, refl, ap, sym, _∙_, subst}
+use mathlib.Core.Bool.{Bool, true, false, cond, _&&_}
+use mathlib.Core.Logic.{_≢_}
+use mathlib.Core.List.{List, [], _∷_}
+use Prim.Native.Nat.{ℕ, zero, suc, _+_, _-_, _*_, _<_, _≤_}
+use native.Mathlib.Omega.{arith}
+use lib.Dec.{eqb, ltb, leb}
+use lib.ListN.{length, take, drop}
+use borrow.Author.Tests.{eq-eqb, ne-eqb, ltb-false, leb-true}
+use Rattle.events.specs.declared.Setup.{Setup as SetupValues}
+use Rattle.events.specs.declared.Counts.{Counts}
+use Rattle.events.specs.declared.Event.{Event}
+use Rattle.events.specs.declared.Event.the-variants.{Setup, Por, Boot, Scan, Temp, Count, Sense, Pin, Load, Xready, OnBus}
+use Rattle.events.specs.Event.{Event as Happening, Meant, means, unfit, meantOf, countsFit}
+use Rattle.records.specs.declared.Payload.{Payload}
+use Rattle.records.specs.declared.Payload.the-variants.{Whole, Unfit}
+use Rattle.records.specs.declared.Read.{Read}
+use Rattle.records.specs.declared.Read.the-variants.{Record, Refused, Cut}
+use Rattle.records.specs.Numbers.{le16, bitOf}
+use Rattle.records.specs.Frame.{frameOf}
+use Rattle.records.specs.Record.{setupGood, payloadOf, asRead, readOf, countsBeside}
+use Rattle.records.specs.Sound.{IsSetup, first-setup, Meaning, later-means}
+use Rattle.chip.specs.declared.Chip.{Chip}
+use Rattle.chip.specs.declared.Stepped.{Stepped}
+use Rattle.chip.specs.Chip.{inShip, steppedAs}
+use Rattle.chip.specs.Moves.{setup-next}
+use Rattle.stream.specs.declared.Entry.{Entry}
+use Rattle.stream.specs.declared.Turn.{Turn}
+use Rattle.stream.specs.Stream.{none, acted, turned, turnOf, runs, entries}
+use Rattle.stream.specs.Frames.{frames, framesAfter, framesOf}
+
+-- ── the frame of what was read ──
+abbrev Framed : List ℕ → Read → Type 0
+Framed r (Record e next) = (frameOf r ≡ next) × (4 ≤ next) × (next ≤ length r)
+Framed r (Refused k next) = (frameOf r ≡ next) × (4 ≤ next) × (next ≤ length r)
+Framed r Cut = frameOf r ≡ 0
+
+framed-as : (r : List ℕ) (n : ℕ) (p : Payload) → frameOf r ≡ n → 4 ≤ n → n ≤ length r → Framed r (asRead n p)
+framed-as r n (Whole e) f a b = (f, a, b)
+framed-as r n (Unfit k) f a b = (f, a, b)
+
+framed-by : (part : ℕ) (r : List ℕ) (t u : Bool) → ltb (length r) 4 ≡ t → ltb (length r - 4) (le16 r 0) ≡ u → Framed r (readOf part r)
+unfolding readOf frameOf
+framed-by part r true u et eu = simp et
+framed-by part r false true et eu = simp (et, eu)
+framed-by part r false false et eu =
+    let a : 4 ≤ length r = ltb-false _ _ et in
+    let b : le16 r 0 ≤ length r - 4 = ltb-false _ _ eu in
+    let f : frameOf r ≡ 4 + le16 r 0 = simp (et, eu) in
+    simp (et, eu) (framed-as r (4 + le16 r 0) (payloadOf (le16 r 2) part (take (le16 r 0) (drop 4 r))) f (omega arith) (omega arith))
+
+pub framed : (part : ℕ) (r : List ℕ) → Framed r (readOf part r)
+framed part r = framed-by part r (ltb (length r) 4) (ltb (length r - 4) (le16 r 0)) refl refl
+
+-- a frame that is not cut is past its header and within the bytes
+pub frame-place : (r : List ℕ) → frameOf r ≢ 0 → (4 ≤ frameOf r) × (frameOf r ≤ length r)
+frame-place r h = by (readOf 0 r) (framed 0 r)
+  where
+    by : (x : Read) → Framed r x → (4 ≤ frameOf r) × (frameOf r ≤ length r)
+    by (Record e next) f = (omega (arith, f .0, f .1), omega (arith, f .0, f .2))
+    by (Refused k next) f = (omega (arith, f .0, f .1), omega (arith, f .0, f .2))
+    by Cut f = absurd (h f)
+
+-- ── the part stays: no record that is read later is a SETUP ──
+no-setup : (t : Bool) (e : Happening) → cond t unfit unfit ≡ means e → ⊥
+no-setup true e h = let z : _≡_ {A = ℕ} 0 1 = cc in omega arith
+no-setup false e h = let z : _≡_ {A = ℕ} 0 1 = cc in omega arith
+
+no-setup-read : (v : SetupValues) (k : Counts) (c : Chip) (ev : Happening) → meantOf (c .setup) (Setup v) k ≡ means ev → ⊥
+unfolding meantOf
+no-setup-read v k c ev m = no-setup (countsFit 0 k) ev m
+
+stays : (e : Event) (k : Counts) (c : Chip) (ev : Happening) → meantOf (c .setup) e k ≡ means ev → acted e k c .chip .setup ≡ c .setup
+unfolding acted
+stays (Setup v) k c ev m = absurd (no-setup-read v k c ev m)
+stays Por k c ev m = ap (λ (x : Meant). steppedAs x c .chip .setup) m ∙ setup-next ev c
+stays Boot k c ev m = ap (λ (x : Meant). steppedAs x c .chip .setup) m ∙ setup-next ev c
+stays Scan k c ev m = ap (λ (x : Meant). steppedAs x c .chip .setup) m ∙ setup-next ev c
+stays Temp k c ev m = ap (λ (x : Meant). steppedAs x c .chip .setup) m ∙ setup-next ev c
+stays (Count n) k c ev m = ap (λ (x : Meant). steppedAs x c .chip .setup) m ∙ setup-next ev c
+stays (Sense v) k c ev m = ap (λ (x : Meant). steppedAs x c .chip .setup) m ∙ setup-next ev c
+stays Pin k c ev m = ap (λ (x : Meant). steppedAs x c .chip .setup) m ∙ setup-next ev c
+stays (Load l) k c ev m = ap (λ (x : Meant). steppedAs x c .chip .setup) m ∙ setup-next ev c
+stays Xready k c ev m = ap (λ (x : Meant). steppedAs x c .chip .setup) m ∙ setup-next ev c
+stays (OnBus b) k c ev m = ap (λ (x : Meant). steppedAs x c .chip .setup) m ∙ setup-next ev c
+
+-- ── once a part stands, there is an entry for each frame ──
+abbrev Stands : Chip → Type 0
+Stands c = c .setup .part ≢ 0
+
+-- a turn's entry and what follows it, by what was read
+module _ (f : ℕ) (c : Chip) (r : List ℕ) (p : Stands c) (ih : (c : Chip) (s : List ℕ) → Stands c → length (runs f c s) ≡ frames f s) where
+  after : Turn → ℕ
+  after t = suc (length (cond (t .last) [] (runs f (t .chip) (drop (t .next) r))))
+
+  abbrev framesNow : ℕ
+  framesNow = suc (cond (eqb (frameOf r) 0) 0 (frames f (drop (frameOf r) r)))
+
+  past : (n : ℕ) → frameOf r ≡ n → 4 ≤ n → framesNow ≡ suc (frames f (drop n r))
+  past n e h = ap (λ (k : ℕ). suc (cond (eqb k 0) 0 (frames f (drop k r)))) e ∙ simp (ne-eqb n 0 (λ z. omega arith))
+
+  turn-frames : (x : Read) → readOf (c .setup .part) r ≡ x → Framed r x → after (turned c r x) ≡ framesNow
+  unfolding after
+  turn-frames (Record e next) q g =
+      let k : Counts = countsBeside r (Record e next) in
+      let m : Meaning (c .setup) e k = later-means (c .setup) r e next p q in
+      let u : acted e k c .chip .setup ≡ c .setup = stays e k c (m .event) (m .meant) in
+      ap suc (ih (acted e k c .chip) (drop next r) (λ z. p (ap (λ (v : SetupValues). v .part) (sym u) ∙ z))) ∙ sym (past next (g .0) (g .1))
+  turn-frames (Refused k next) q g =
+      simp (ne-eqb (c .setup .part) 0 p) (ap suc (ih c (drop next r) p) ∙ sym (past next (g .0) (g .1)))
+  turn-frames Cut q g = sym (ap (λ (k : ℕ). suc (cond (eqb k 0) 0 (frames f (drop k r)))) g)
+
+pub frames-are : (f : ℕ) (c : Chip) (s : List ℕ) → Stands c → length (runs f c s) ≡ frames f s
+unfolding turnOf after
+frames-are zero c s p = refl
+frames-are (suc f) c [] p = refl
+frames-are (suc f) c (b ∷ s) p = turn-frames f c (b ∷ s) p (λ c s p. frames-are f c s p) (readOf (c .setup .part) (b ∷ s)) refl (framed (c .setup .part) (b ∷ s))
+
+-- ── the first record ──
+part-stands : (v : SetupValues) → setupGood v ≡ true → v .part ≢ 0
+part-stands v h z =
+    let one : leb 1 (v .part) ≡ true = first (leb 1 (v .part)) (leb (v .part) 3) (leb (bitOf (v .crc)) 1) (leb 0x08 (v .address)) (leb (v .address) 0x77) (leb (v .gain) 31) (leb (v .floor) 4095) h in
+    omega (arith, leb-true 1 (v .part) one, z)
+  where
+    first : (a b c d e f g : Bool) → a && b && c && d && e && f && g ≡ true → a ≡ true
+    first true b c d e f g h = refl
+    first false b c d e f g h = h
+
+first-frames : (b : ℕ) (s : List ℕ) (x : Read) → readOf 0 (b ∷ s) ≡ x
+    → length (turned none (b ∷ s) x .entry ∷ cond (turned none (b ∷ s) x .last) [] (runs (length s) (turned none (b ∷ s) x .chip) (drop (turned none (b ∷ s) x .next) (b ∷ s)))) ≡ framesAfter (b ∷ s) x
+unfolding acted
+first-frames b s (Record e next) q =
+    let n : length s ≡ length (b ∷ s) - 1 = omega arith in
+    by e (first-setup (b ∷ s) e next q) ∙ ap (λ (k : ℕ). suc (frames k (drop next (b ∷ s)))) n
+  where
+    by : (e : Event) → IsSetup e → suc (length (runs (length s) (acted e (countsBeside (b ∷ s) (Record e next)) none .chip) (drop next (b ∷ s)))) ≡ suc (frames (length s) (drop next (b ∷ s)))
+    by (Setup v) g = ap suc (frames-are (length s) (inShip v) (drop next (b ∷ s)) (part-stands v g))
+    by Por g = absurd g
+    by Boot g = absurd g
+    by Scan g = absurd g
+    by Temp g = absurd g
+    by (Count n) g = absurd g
+    by (Sense v) g = absurd g
+    by Pin g = absurd g
+    by (Load l) g = absurd g
+    by Xready g = absurd g
+    by (OnBus x) g = absurd g
+first-frames b s (Refused k next) q = refl
+first-frames b s Cut q = refl
+
+-- THE COUNT: how many entries there are, from the framing and the first record alone
+pub entries-count : (s : List ℕ) → length (entries s) ≡ framesOf s
+unfolding entries framesOf turnOf
+entries-count [] = refl
+entries-count (b ∷ s) = first-frames b s (readOf 0 (b ∷ s)) refl
