@@ -222,7 +222,7 @@ pub fn read_rest(rest: &[u8], part: u8) -> Read
     let n = get16(rest, 0) as usize;
     let kind = get16(rest, 2);
     if rest.len() - 4 < n {
-        return Read::Cut;
+        return Read::Cut; // The payload runs past the end.
     }
     let end = 4 + n;
     match payload_of(kind, part, &rest[4..end]) {

@@ -1,4 +1,4 @@
--- `all_counts` meets its contract.
+-- `all_counts` is `within countMost` of the payload's numbers: what is left to look at answers as the whole does.
 use Prim.Native.Nat.{ℕ, _≤_, _-_, _+_, _*_}
 use mathlib.Core.Path.{_≡_, refl, ap, sym, _∙_}
 use native.Mathlib.Omega.{arith}

@@ -1,4 +1,4 @@
--- `put_words` meets its contract.
+-- `put_words` writes two bytes a turn: what is written so far are the first i numbers' bytes.
 use borrow.Author.Needs.{needs}
 use mir.Syntax.{w16}
 use mir.Val.{Fits}

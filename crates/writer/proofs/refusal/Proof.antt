@@ -1,4 +1,4 @@
--- `refusal` meets its contract.
+-- `refusal` looks at the part, the counts and the values in this order (Refusals: refusal-of).
 use mathlib.Core.Path.{_≡_, refl, sym, _∙_}
 use native.Mathlib.Omega.{arith}
 use Rattle.events.specs.Event.{countsWanted, countsFit}

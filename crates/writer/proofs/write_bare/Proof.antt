@@ -1,4 +1,4 @@
--- `write_bare` meets its contract.
+-- `write_bare` writes a header alone: the stores are the record's bytes (Stores).
 use native.Mathlib.Omega.{arith}
 use mathlib.Core.List.{[], _∷_}
 use lib.ListN.{length-set}

@@ -1,4 +1,4 @@
--- `write_byte` meets its contract.
+-- `write_byte` writes a header and a byte: the stores are the record's bytes (Stores).
 use native.Mathlib.Omega.{arith}
 use mathlib.Core.List.{[], _∷_}
 use lib.ListN.{length-set}

@@ -1,4 +1,4 @@
--- `write_long` meets its contract.
+-- `write_long` writes a header and four bytes: the stores are the record's bytes (Stores).
 use native.Mathlib.Omega.{arith}
 use mathlib.Core.List.{[], _∷_}
 use lib.ListN.{length-set}

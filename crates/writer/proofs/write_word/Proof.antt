@@ -1,4 +1,4 @@
--- `write_word` meets its contract.
+-- `write_word` writes a header and two bytes: the stores are the record's bytes (Stores).
 use native.Mathlib.Omega.{arith}
 use mathlib.Core.List.{[], _∷_}
 use lib.ListN.{length-set}
