@@ -1,7 +1,6 @@
 // Records, read: the record that bytes begin with, or the number it is refused with.
 ghost use mathlib.Core.Path.{_≡_};
-ghost use Prim.Native.Nat.{_+_, _*_, _<_, _≤_};
-ghost use mathlib.Core.List.{List};
+ghost use Prim.Native.Nat.{_+_, _<_, _≤_};
 ghost use lib.ListN.{length};
 ghost use Rattle.events.specs.Event.{countMost, within};
 ghost use Rattle.records.specs.Numbers.{le16, le32, words, wordOr, filled};
