@@ -34,7 +34,9 @@ fn get16(b: &[u8], at: usize) -> u16
     requires { ⌜ at + 2 ≤ length (now b) ⌝ }
     ensures { λ r. ⌜ r ≡ le16 (now (b .entry)) at ⌝ }
 {
-    (b[at] as u16) + 256 * (b[at + 1] as u16)
+    let low = b[at] as u16;
+    let high = b[at + 1] as u16;
+    low + 256 * high
 }
 
 fn get32(b: &[u8], at: usize) -> u32

@@ -1,17 +1,15 @@
 -- `get16` reads two bytes, the lowest first: both are below 256, so that nothing wraps.
-use borrow.Author.Needs.{needs}
 use native.Mathlib.Omega.{arith}
 use Prim.Native.Nat.{_+_}
+use borrow.Author.Needs.{needs}
 use Rattle.records.proofs.get16.Statement.{statement}
 use Rattle.records.proofs.get16.Tie as tie
 
-cast-result : tie.Need-cast-result
-cast-result c =
-    let at = c .before .args .at in
-    omega (arith, c .shared-slice-known .given at, c .shared-slice-known .given (at + 1))
+cast-low : tie.Need-cast-low
+cast-low c = omega (arith, c .shared-slice-known .given (c .before .args .at))
 
-cast-result-2 : tie.Need-cast-result-2
-cast-result-2 c =
+cast-high : tie.Need-cast-high
+cast-high c =
     let at = c .before .before .args .at in
     omega (arith, c .shared-slice-known2 .given at, c .shared-slice-known2 .given (at + 1))
 
@@ -20,8 +18,8 @@ mul-result c =
     let at = c .before .before .args .at in
     omega (arith, c .shared-slice-known2 .given at, c .shared-slice-known2 .given (at + 1))
 
-add-result-2 : tie.Need-add-result-2
-add-result-2 c =
+add-result : tie.Need-add-result
+add-result c =
     let at = c .before .before .args .at in
     omega (arith, c .shared-slice-known2 .given at, c .shared-slice-known2 .given (at + 1))
 
@@ -30,10 +28,10 @@ get16-spec =
     tie.close
     (tie.spec
     (λ c. search needs)
-    cast-result
+    cast-low
     (λ c. search needs)
     (λ c. search needs)
-    cast-result-2
+    cast-high
     mul-result
-    add-result-2
+    add-result
     (λ c. search needs))
