@@ -1,11 +1,9 @@
 -- The cases of the definitions, as the code comes to them.
 -- Assumes nothing.
-use mathlib.Core.Path.{_≡_, refl, ap, sym, _∙_, subst}
+use mathlib.Core.Path.{_≡_, ap, sym, _∙_, subst}
 use Prim.Native.Nat.{ℕ, _+_, _-_, _<_, _≤_}
 use mathlib.Core.List.{List}
-use mathlib.Core.Bool.{Bool, true, false, cond}
 use native.Mathlib.Omega.{arith}
-use lib.Dec.{ltb}
 use lib.ListN.{length, getD, take, drop, length-drop}
 use lib.Seq.{take-all}
 use borrow.Author.Tests.{lt-ltb, le-ltb, eq-eqb}
@@ -14,7 +12,7 @@ use Rattle.events.specs.declared.Checked.{Checked}
 use Rattle.events.specs.declared.Counts.{Counts}
 use Rattle.events.specs.declared.Event.{Event}
 use Rattle.records.specs.Numbers.{le16}
-use Rattle.records.specs.Record.{checkedIn, setupIn, payloadOf, asRead, readOf, noCounts, countsIn, countsBeside, takenFrom, takenAt}
+use Rattle.records.specs.Record.{checkedIn, setupIn, payloadOf, asRead, readOf, noCounts, countsIn, takenFrom, takenAt}
 use Rattle.records.specs.Reading.{Placed, placed}
 use Rattle.records.specs.declared.Payload.{Payload}
 use Rattle.records.specs.declared.Read.{Read}

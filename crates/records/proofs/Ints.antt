@@ -1,8 +1,8 @@
 -- Signed numbers: what the casts and negations of SENSE give, by cases on the sign, on natural numbers.
 -- Assumes nothing.
-use mathlib.Core.Path.{_≡_, refl, ap, sym, _∙_}
-use Prim.Native.Nat.{ℕ, suc, zero, _+_, _-_, _<_, _≤_, _^_}
-use mathlib.Core.Bool.{Bool, true, false, not, _&&_, cond}
+use mathlib.Core.Path.{_≡_, ap, sym, _∙_}
+use Prim.Native.Nat.{ℕ, suc, _+_, _-_, _<_, _≤_, _^_}
+use mathlib.Core.Bool.{Bool, true, false, not}
 use native.Mathlib.Omega.{arith}
 use native.Mathlib.Numerals.{add-one}
 use lib.IntN.{ℤ, pos, negsuc, _-ℤ_, subℕ}
@@ -11,9 +11,7 @@ use mir.Syntax.{w32}
 use mir.Val.{toZ, ofZ, SFits}
 use mir.Facts.{toZ-pos, toZ-ofZ}
 use borrow.Author.Tests.{lt-ltb, le-ltb, ltb-true, ltb-false}
-use Rattle.events.specs.Event.{senseFits}
 use Rattle.events.specs.declared.Event.the-variants.{Sense}
-use Rattle.records.specs.Numbers.{signed32}
 use Rattle.records.specs.Record.{senseOf}
 use Rattle.records.specs.Ranges.{fits-pos, fits-neg, sense-as, as-pos, as-neg}
 use Rattle.records.specs.declared.Payload.the-variants.{Whole, Unfit}

@@ -1,6 +1,7 @@
 -- Laws of reading: where the next place is, what a record that was read is made of, and that reading moves with its place.
 -- Assumes nothing.
-use mathlib.Core.Path.{_≡_, refl, ap, sym, _∙_, subst}
+use mathlib.Core.Path.{_≡_, refl, sym, subst}
+use mathlib.Core.Logic.{_≢_, _⊎_, ⊎-elim}
 use Prim.Native.Nat.{ℕ, _+_, _-_, _<_, _≤_}
 use mathlib.Core.List.{List, _++_}
 use mathlib.Core.Bool.{Bool, true, false, cond}
@@ -8,10 +9,10 @@ use native.Mathlib.Omega.{arith}
 use lib.Dec.{ltb, eqb}
 use lib.ListN.{length, take, drop, length-append}
 use lib.Seq.{drop-append-seam}
-use borrow.Author.Tests.{ltb-false, le-ltb, eqb-true}
+use borrow.Author.Tests.{ltb-false, le-ltb, eqb-true, ne-eqb}
 use Rattle.records.specs.Numbers.{le16}
-use Rattle.records.specs.Kind.{POR, BOOT, SCAN, TEMP, COUNT, SENSE, PIN, LOAD, XREADY, START, OUT, IN, STOP}
-use Rattle.records.specs.Record.{bareIn, countedIn, countIn, senseIn, switchIn, loadOf, inOf, outIn, groupsAt, inputsAt, laterOf, payloadOf, asRead, readOf, takenFrom, takenAt}
+use Rattle.records.specs.Kind.{SETUP, POR, BOOT, SCAN, TEMP, COUNT, SENSE, PIN, LOAD, XREADY, START, OUT, IN, STOP}
+use Rattle.records.specs.Record.{bareIn, countedIn, countIn, senseIn, switchIn, loadOf, inOf, outIn, groupsAt, inputsAt, laterOf, payloadOf, asRead, readOf, numberOf, takenFrom, takenAt}
 use Rattle.events.specs.declared.BusEvent.the-variants.{Start, Stop}
 use Rattle.events.specs.declared.Event.{Event}
 use Rattle.events.specs.declared.Event.the-variants.{Por, Boot, Scan, Temp, Pin, Xready, OnBus}
@@ -106,3 +107,46 @@ module _ (P : ℕ → Payload → Type 0) where
 pub cond-by : (P : Payload → Type 0) (t : Bool) (x y : Payload) → (t ≡ true → P x) → P y → P (cond t x y)
 cond-by P true x y a b = a refl
 cond-by P false x y a b = b
+
+-- ── the order of the numbers ──
+nine-by : (part : ℕ) (r : List ℕ) (t u : Bool) → ltb (length r) 4 ≡ t → ltb (length r - 4) (le16 r 0) ≡ u → length r < 4 + le16 r 0 → numberOf (readOf part r) ≡ 9
+unfolding readOf
+nine-by part r true u et eu h = simp et
+nine-by part r false true et eu h = simp (et, eu)
+nine-by part r false false et eu h = absurd (omega (arith, ltb-false (length r) 4 et, ltb-false (length r - 4) (le16 r 0) eu))
+
+-- 9 comes before all, whatever the kind and the part
+pub nine-first : (part : ℕ) (r : List ℕ) → length r < 4 + le16 r 0 → numberOf (readOf part r) ≡ 9
+nine-first part r h = nine-by part r (ltb (length r) 4) (ltb (length r - 4) (le16 r 0)) refl refl h
+
+-- a first record that is no SETUP is 2, and so is a second SETUP, good or bad, and every unknown kind: 000A to 000F, and from 0014 up
+pub first-other : (kind : ℕ) (b : List ℕ) → kind ≢ SETUP → payloadOf kind 0 b ≡ Unfit 2
+unfolding payloadOf
+first-other kind b h = simp (ne-eqb kind SETUP h)
+
+pub second-setup : (part : ℕ) (b : List ℕ) → part ≢ 0 → payloadOf SETUP part b ≡ Unfit 2
+unfolding payloadOf laterOf
+second-setup part b h = simp (ne-eqb part 0 h)
+
+pub unknown-kind : (kind part : ℕ) (b : List ℕ) → part ≢ 0 → XREADY < kind → (kind < START) ⊎ (STOP < kind) → payloadOf kind part b ≡ Unfit 2
+unfolding payloadOf laterOf
+unknown-kind kind part b h l m =
+    simp (
+      ne-eqb part 0 h,
+      ne-eqb kind POR (λ e. omega (arith, e)),
+      ne-eqb kind BOOT (λ e. omega (arith, e)),
+      ne-eqb kind SCAN (λ e. omega (arith, e)),
+      ne-eqb kind TEMP (λ e. omega (arith, e)),
+      ne-eqb kind COUNT (λ e. omega (arith, e)),
+      ne-eqb kind SENSE (λ e. omega (arith, e)),
+      ne-eqb kind PIN (λ e. omega (arith, e)),
+      ne-eqb kind LOAD (λ e. omega (arith, e)),
+      ne-eqb kind XREADY (λ e. omega (arith, e)),
+      ne-eqb kind START (λ e. apart START (omega arith) (omega arith) e),
+      ne-eqb kind OUT (λ e. apart OUT (omega arith) (omega arith) e),
+      ne-eqb kind IN (λ e. apart IN (omega arith) (omega arith) e),
+      ne-eqb kind STOP (λ e. apart STOP (omega arith) (omega arith) e),
+    )
+  where
+    apart : (k : ℕ) → START ≤ k → k ≤ STOP → kind ≡ k → ⊥
+    apart k a z e = ⊎-elim (λ g. omega (arith, g, e)) (λ g. omega (arith, g, e)) m

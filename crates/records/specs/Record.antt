@@ -1,10 +1,9 @@
 -- Document 01, "Events and their records" and "Numbers given back": reading, with the numbers 1, 2, 3 and 9. Assumes nothing.
-use Prim.Native.Nat.{ℕ, zero, suc, _+_, _-_, _*_, _/_, _%_}
-use mathlib.Core.List.{List, [], _∷_, _++_}
-use mathlib.Core.Bool.{Bool, true, false, cond, _&&_}
+use Prim.Native.Nat.{ℕ, _+_, _-_, _*_, _/_}
+use mathlib.Core.List.{List}
+use mathlib.Core.Bool.{Bool, false, cond}
 use lib.ListN.{length, getD, take, drop, replicate}
 use lib.Dec.{ltb, leb, eqb}
-use lib.IntN.{ℤ}
 use Rattle.events.specs.Setup.{setupFits, checkedOf, groups, inputs}
 use Rattle.events.specs.Event.{countMost, within, senseFits}
 use Rattle.events.specs.declared.Setup.{Setup as SetupValues}

@@ -1,7 +1,6 @@
 // Records, read: the record that bytes begin with, or the number it is refused with.
 ghost use mathlib.Core.Path.{_≡_};
-ghost use Prim.Native.Nat.{_+_, _*_, _<_, _≤_};
-ghost use mathlib.Core.List.{List};
+ghost use Prim.Native.Nat.{_+_, _<_, _≤_};
 ghost use lib.ListN.{length};
 ghost use Rattle.events.specs.Event.{countMost, within};
 ghost use Rattle.records.specs.Numbers.{le16, le32, words, wordOr, filled};
@@ -36,7 +35,9 @@ fn get16(b: &[u8], at: usize) -> u16
     requires { ⌜ at + 2 ≤ length (now b) ⌝ }
     ensures { λ r. ⌜ r ≡ le16 (now (b .entry)) at ⌝ }
 {
-    (b[at] as u16) + 256 * (b[at + 1] as u16)
+    let low = b[at] as u16;
+    let high = b[at + 1] as u16;
+    low + 256 * high
 }
 
 fn get32(b: &[u8], at: usize) -> u32
@@ -223,7 +224,7 @@ pub fn read_rest(rest: &[u8], part: u8) -> Read
     let n = get16(rest, 0) as usize;
     let kind = get16(rest, 2);
     if rest.len() - 4 < n {
-        return Read::Cut;
+        return Read::Cut; // The payload runs past the end.
     }
     let end = 4 + n;
     match payload_of(kind, part, &rest[4..end]) {

@@ -1,10 +1,12 @@
 // Vectors that are run and compared: each line is held against crates/vectors/stdout, which tests/vectors writes from other sources.
 mod conversions;
 mod crc;
+mod record_lines;
 mod rooms;
 
 fn main() {
     crc::run();
     conversions::run();
     rooms::run();
+    record_lines::lines();
 }

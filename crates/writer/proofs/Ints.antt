@@ -1,7 +1,7 @@
 -- Signed numbers: each operation's `toZ w (ofZ w z)` is z where z fits, and the rest is by cases on the sign, on natural numbers.
 -- Assumes nothing.
-use mathlib.Core.Path.{_≡_, refl, ap, sym, _∙_, subst}
-use Prim.Native.Nat.{ℕ, suc, zero, _+_, _-_, _*_, _%_, _<_, _≤_, _^_}
+use mathlib.Core.Path.{_≡_, refl, ap, sym, _∙_}
+use Prim.Native.Nat.{ℕ, suc, _+_, _-_, _%_, _<_, _^_}
 use mathlib.Core.Bool.{Bool, true, false, not, _&&_}
 use native.Mathlib.Omega.{arith}
 use lib.Dec.{T, leb, ltb}

@@ -1,28 +1,25 @@
 -- What is known of an event that was taken apart, put to use; and the loop over counts.
 -- Assumes nothing.
 use mathlib.Core.Path.{_≡_, refl, ap, sym, _∙_, subst}
-use Prim.Native.Nat.{ℕ, zero, suc, _+_, _*_, _<_, _≤_}
+use Prim.Native.Nat.{ℕ, zero, suc, _+_, _<_, _≤_}
 use mathlib.Core.List.{List, [], _∷_}
 use mathlib.Core.Bool.{Bool, true, false, cond, _&&_}
 use native.Mathlib.Omega.{arith}
 use native.Mathlib.Numerals.{add-one}
 use lib.ListN.{length, getD, take, drop}
 use lib.IntN.{ℤ}
-use lib.Dec.{leb, eqb}
+use lib.Dec.{leb}
 use lib.Seq.{drop-cons}
-use borrow.Author.Tests.{le-leb, lt-leb, leb-true, eqb-true, ne-eqb, eq-eqb}
+use borrow.Author.Tests.{le-leb, lt-leb, leb-true, ne-eqb, eq-eqb}
 use Rattle.events.specs.Event.{within, countsWanted, countsFit}
-use Rattle.events.specs.Setup.{setupFits}
 use Rattle.events.specs.declared.Setup.{Setup}
 use Rattle.events.specs.declared.Counts.{Counts}
 use Rattle.events.specs.declared.BusEvent.{BusEvent}
 use Rattle.events.specs.declared.BusEvent.the-variants.{Start, Out, In, Stop}
 use Rattle.events.specs.declared.Event.{Event}
-use Rattle.events.specs.declared.Event.the-variants.{Setup as Setup-, Por, Boot, Scan, Temp, Count, Sense, Pin, Load, Xready, OnBus}
+use Rattle.events.specs.declared.Event.the-variants.{OnBus}
 use Rattle.records.specs.Numbers.{bitOf}
 use Rattle.records.specs.Record.{setupGood, standing, noCounts}
-use Rattle.records.specs.Counted.{few-groups, few-inputs}
-use Rattle.writer.specs.Accepted.{fit-is, wanted-few}
 use Rattle.writer.specs.Write.{recordOf, recordFor, bytes32, bits32, partFor, valueRefusal, refusalFor, Writes, Puts}
 use Rattle.writer.specs.declared.Wrote.{Wrote}
 use Rattle.writer.specs.declared.Wrote.the-variants.{Refused}

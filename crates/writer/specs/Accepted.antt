@@ -1,11 +1,11 @@
 -- What the writer does not refuse: its part and counts fit, and its values are in range. Assumes nothing.
-use mathlib.Core.Path.{_≡_, refl, ap, sym, _∙_, subst}
-use Prim.Native.Nat.{ℕ, zero, suc, _+_, _<_, _≤_}
-use mathlib.Core.List.{List, [], _∷_}
+use mathlib.Core.Path.{_≡_, refl, sym, subst, _∙_}
+use Prim.Native.Nat.{ℕ, _≤_}
+use mathlib.Core.List.{List}
 use mathlib.Core.Bool.{Bool, true, false, cond, _&&_}
 use native.Mathlib.Omega.{arith}
 use lib.Dec.{leb, eqb}
-use lib.ListN.{length, take, drop}
+use lib.ListN.{drop}
 use borrow.Author.Tests.{eqb-true}
 use Rattle.events.specs.Event.{within, countsWanted, countsFit}
 use Rattle.events.specs.declared.Counts.{Counts}
@@ -13,7 +13,8 @@ use Rattle.events.specs.declared.Event.{Event}
 use Rattle.events.specs.declared.Event.the-variants.{Setup as Setup-, Por, Boot, Scan, Temp, Count, Sense, Pin, Load, Xready, OnBus}
 use Rattle.records.specs.Record.{standing}
 use Rattle.records.specs.Counted.{few-groups, few-inputs}
-use Rattle.writer.specs.Write.{partFor, valueRefusal, refusalFor}
+use Rattle.writer.specs.Write.{partFor, valueRefusal, refusalFor, Puts}
+use Rattle.writer.specs.declared.Wrote.{Wrote}
 
 -- counts that fit are as many as wanted, with 0 after them
 fit-by : (n : ℕ) (k : Counts) (t : Bool) → eqb (k .many) n ≡ t → t && within 0 (drop n (k .of)) ≡ true → (k .many ≡ n) × (within 0 (drop (k .many) (k .of)) ≡ true)
@@ -60,3 +61,7 @@ not-refused e k part a = simp (a .part-fits, a .counts-fit) (a .values-fit)
 
 pub accepted-few : (e : Event) (k : Counts) (part : ℕ) → refusalFor e k part ≡ 0 → k .many ≤ 15
 accepted-few e k part h = omega (arith, fit-is _ k (accepted e k part h .counts-fit) .0, wanted-few part e)
+
+-- ── one answer: what the promise allows twice is the same ──
+pub one-answer : (number : ℕ) (bytes old : List ℕ) (r r′ : Wrote) (new new′ : List ℕ) → Puts number bytes old r new → Puts number bytes old r′ new′ → (r ≡ r′) × (new ≡ new′)
+one-answer number bytes old r r′ new new′ p q = (p .answer ∙ sym (q .answer), p .contents ∙ sym (q .contents))

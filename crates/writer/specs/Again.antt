@@ -1,17 +1,16 @@
 -- The other way round: a record that was read is one that the writer accepts, and its bytes are those that the writer writes for it.
 -- Assumes nothing.
 use mathlib.Core.Path.{_≡_, refl, ap, ap₂, sym, _∙_, subst}
-use mathlib.Core.Logic.{_≢_}
 use Prim.Native.Nat.{ℕ, suc, zero, _+_, _-_, _*_, _/_, _%_, _<_, _≤_}
-use mathlib.Core.List.{List, [], _∷_, _++_}
+use mathlib.Core.List.{List, [], _∷_}
 use mathlib.Core.Bool.{Bool, true, false, cond, _&&_}
 use native.Mathlib.Omega.{arith}
 use lib.Dec.{leb, eqb}
 use lib.IntN.{ℤ}
-use lib.ListN.{length, getD, take, drop, length-take, length-drop}
+use lib.ListN.{length, getD, take, drop, length-drop}
 use lib.Seq.{length-take-le}
 use borrow.Author.Tests.{le-leb, eqb-true, ne-eqb}
-use Rattle.events.specs.Setup.{setupFits, setupOf, checkedOf, groups, inputs}
+use Rattle.events.specs.Setup.{setupFits, checkedOf}
 use Rattle.events.specs.Event.{within, countMost, senseFits, fits, countsWanted, countsFit, Meant, means, unfit, eventOf, meantOf}
 use Rattle.events.specs.Event.{Event as Meant-event}
 use Rattle.events.specs.declared.Setup.{Setup as SetupValues}
@@ -24,13 +23,13 @@ use Rattle.records.specs.Numbers.{le16, le32, signed32, bitOf, words}
 use Rattle.records.specs.Record.{setupGood, checkedIn, setupIn, countedIn, senseOf, groupsAt, inputsAt, standing, laterOf, payloadOf, readOf, countsOf, countsIn, countsBeside}
 use Rattle.records.specs.Counted.{many-is, counts-taken, few-groups, few-inputs}
 use Rattle.records.specs.Reading.{WholeAt, read-whole, later-by, cond-by}
-use Rattle.records.specs.Sound.{bit-back, crc-back, and-left, and-right, IsSetup, first-setup, Meaning, later-means}
+use Rattle.records.specs.Sound.{bit-back, crc-back, and-left, IsSetup, first-setup, Meaning, later-means}
 use Rattle.records.specs.declared.Payload.{Payload}
 use Rattle.records.specs.declared.Payload.the-variants.{Whole, Unfit}
 use Rattle.records.specs.declared.Read.the-variants.{Record}
-use Rattle.writer.specs.Write.{bytes16, bits32, wordBytes, recordOf, kindFor, setupBytes, payloadFor, countBytes, recordFor, partFor, valueRefusal, refusalFor}
+use Rattle.writer.specs.Write.{bytes16, wordBytes, recordOf, kindFor, payloadFor, countBytes, recordFor, partFor, valueRefusal, refusalFor}
 use Rattle.writer.specs.Bytes.{Bytes, byte-first, byte-rest, bytes-drop, bytes-take, low-forth, high-forth, words-forth, none-forth, one-forth, two-forth, four-forth}
-use Rattle.writer.specs.Accepted.{fit-is, wanted-few, Accepted, not-refused}
+use Rattle.writer.specs.Accepted.{fit-is, Accepted, not-refused}
 
 -- ── a payload's kind and bytes are those of its event ──
 abbrev Same : List ℕ → ℕ → Payload → Type 0

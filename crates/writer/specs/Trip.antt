@@ -7,28 +7,27 @@ use mathlib.Core.List.{List, [], _∷_, _++_}
 use mathlib.Core.Bool.{Bool, true, false, cond, _&&_}
 use native.Mathlib.Omega.{arith}
 use lib.Dec.{leb, eqb}
-use lib.IntN.{ℤ}
-use lib.ListN.{length, getD, take, drop, length-append}
+use lib.ListN.{length, take, drop, length-append}
 use lib.Seq.{take-append-seam, length-take-le}
 use native.Mathlib.Nat.{zero-add}
 use borrow.Author.Tests.{le-ltb, ne-eqb, eq-eqb, leb-true, eqb-true}
-use Rattle.events.specs.Setup.{setupFits, setupOf, checkedOf}
-use Rattle.events.specs.Event.{within, countMost, senseFits, countsWanted, countsFit}
+use Rattle.events.specs.Setup.{setupOf, checkedOf}
+use Rattle.events.specs.Event.{within, countMost, countsFit}
 use Rattle.events.specs.declared.Setup.{Setup as SetupValues}
 use Rattle.events.specs.declared.Counts.{Counts}
-use Rattle.events.specs.declared.Checked.the-variants.{Good, Bad}
+use Rattle.events.specs.declared.Checked.the-variants.{Good}
 use Rattle.events.specs.declared.BusEvent.the-variants.{Start, Out, In, Stop}
 use Rattle.events.specs.declared.Event.{Event}
 use Rattle.events.specs.declared.Event.the-variants.{Setup, Por, Boot, Scan, Temp, Count, Sense, Pin, Load, Xready, OnBus}
-use Rattle.records.specs.Numbers.{le16, bitOf, words, filled}
-use Rattle.records.specs.Record.{setupGood, checkedIn, setupIn, countedIn, senseOf, groupsAt, inputsAt, standing, laterOf, payloadOf, asRead, readOf, noCounts, countsOf, countsIn, countsBeside, takenFrom, takenAt}
+use Rattle.records.specs.Numbers.{bitOf, filled}
+use Rattle.records.specs.Record.{setupGood, checkedIn, setupIn, countedIn, groupsAt, inputsAt, laterOf, payloadOf, asRead, readOf, noCounts, countsOf, countsIn, countsBeside, takenFrom, takenAt}
 use Rattle.records.specs.Counted.{many-is}
 use Rattle.records.specs.Reading.{taken-moved}
 use Rattle.records.specs.Sound.{and-left}
 use Rattle.records.specs.declared.Payload.the-variants.{Whole}
 use Rattle.records.specs.declared.Read.the-variants.{Record}
 use Rattle.records.specs.declared.Taken.{Taken}
-use Rattle.writer.specs.Write.{bits32, wordBytes, recordOf, kindFor, payloadFor, countBytes, recordFor, partFor, valueRefusal, refusalFor, writtenOf, Puts}
+use Rattle.writer.specs.Write.{bits32, wordBytes, recordOf, kindFor, payloadFor, countBytes, recordFor, valueRefusal, refusalFor, writtenOf, Puts}
 use Rattle.writer.specs.declared.Wrote.the-variants.{Done, Refused}
 use Rattle.writer.specs.Bytes.{back16, back32, words-length, words-back, bit-same, sense-back}
 use Rattle.writer.specs.Accepted.{fit-is, wanted-few, Accepted, accepted}

@@ -1,8 +1,8 @@
 -- Document 01, "Events and their records": writing, with the numbers 1, 2, 3 and 5. Assumes nothing.
 use mathlib.Core.Path.{_≡_}
-use Prim.Native.Nat.{ℕ, zero, suc, _+_, _-_, _*_, _/_, _%_}
+use Prim.Native.Nat.{ℕ, _-_, _/_, _%_}
 use mathlib.Core.List.{List, [], _∷_, _++_}
-use mathlib.Core.Bool.{Bool, true, false, cond, _&&_}
+use mathlib.Core.Bool.{cond, _&&_}
 use lib.ListN.{length, take, drop}
 use lib.Dec.{leb, eqb}
 use lib.IntN.{ℤ, pos, negsuc}

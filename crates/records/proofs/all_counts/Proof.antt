@@ -1,9 +1,8 @@
--- `all_counts` meets its contract.
-use Prim.Native.Nat.{ℕ, _≤_, _-_, _+_, _*_}
+-- `all_counts` is `within countMost` of the payload's numbers: what is left to look at answers as the whole does.
+use Prim.Native.Nat.{_≤_, _-_, _+_, _*_}
 use mathlib.Core.Path.{_≡_, refl, ap, sym, _∙_}
 use native.Mathlib.Omega.{arith}
-use borrow.Author.Needs.{needs}
-use lib.ListN.{length, drop}
+use lib.ListN.{drop}
 use Rattle.events.specs.Event.{within, countMost}
 use Rattle.records.specs.Numbers.{words}
 use Rattle.records.specs.Words.{words-end, fit-not, fit-next}

@@ -1,4 +1,4 @@
--- `bare_in` meets its contract.
+-- `bare_in` takes no payload, by the test of its length.
 use Rattle.records.proofs.Tests.{tests}
 use Rattle.records.proofs.bare_in.Statement.{statement}
 use Rattle.records.proofs.bare_in.Tie as tie

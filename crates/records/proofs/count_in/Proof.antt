@@ -1,4 +1,4 @@
--- `count_in` meets its contract.
+-- `count_in` takes every two bytes, by the test of their length.
 use Rattle.records.proofs.Tests.{tests}
 use borrow.Author.Needs.{needs}
 use Rattle.records.proofs.count_in.Statement.{statement}

@@ -1,4 +1,4 @@
--- `counted_in` meets its contract.
+-- `counted_in` looks at the length first and then at the counts, by their two tests.
 use borrow.Author.Tests.{eq-eqb}
 use mathlib.Core.Path.{sym, _∙_}
 use Rattle.records.specs.Record.{countedIn}

@@ -1,4 +1,4 @@
--- `counts_in` meets its contract.
+-- `counts_in` gives SCAN and TEMP their counts and every other event none, case by case.
 use Rattle.records.specs.Record.{countsIn}
 use Rattle.records.proofs.Cases.{at-counts}
 use borrow.Author.Needs.{needs}

@@ -1,4 +1,4 @@
--- `counts_of` meets its contract.
+-- `counts_of` says how many numbers a payload has, by the test of its length, and gives them by its callee.
 use borrow.Author.Tests.{lt-ltb, le-ltb}
 use Rattle.records.specs.Record.{countsOf}
 use borrow.Author.Needs.{needs}

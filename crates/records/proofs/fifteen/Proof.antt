@@ -1,4 +1,4 @@
--- `fifteen` meets its contract.
+-- `fifteen` is the payload's numbers filled up with 0, word by word.
 use Rattle.records.specs.Words.{words-from}
 use borrow.Author.Needs.{needs}
 use Rattle.records.proofs.fifteen.Statement.{statement}

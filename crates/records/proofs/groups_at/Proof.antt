@@ -1,4 +1,4 @@
--- `groups_at` meets its contract.
+-- `groups_at` is the part's groups of five, by its test.
 use Rattle.events.specs.Setup.{groups}
 use Rattle.records.proofs.Tests.{tests}
 use Rattle.records.proofs.groups_at.Statement.{statement}

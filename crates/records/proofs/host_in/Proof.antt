@@ -1,4 +1,4 @@
--- `host_in` meets its contract.
+-- `host_in` takes one byte, 0 or 1, by its two tests.
 use Rattle.records.proofs.Tests.{tests}
 use borrow.Author.Needs.{needs}
 use Rattle.records.proofs.host_in.Statement.{statement}

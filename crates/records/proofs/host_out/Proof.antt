@@ -1,4 +1,4 @@
--- `host_out` meets its contract.
+-- `host_out` takes one byte, by the test of the length.
 use Rattle.records.proofs.Tests.{tests}
 use borrow.Author.Needs.{needs}
 use Rattle.records.proofs.host_out.Statement.{statement}

@@ -1,4 +1,4 @@
--- `inputs_at` meets its contract.
+-- `inputs_at` is the part's inputs, by its test.
 use Rattle.events.specs.Setup.{inputs}
 use Rattle.records.proofs.Tests.{tests}
 use borrow.Author.Needs.{needs}

@@ -1,4 +1,4 @@
--- `later_of` meets its contract.
+-- `later_of` reads each kind by its callee; a kind that is none of them is 2.
 use mathlib.Core.Path.{ap, _∙_}
 use Prim.Native.Nat.{ℕ}
 use borrow.Author.Tests.{ne-eqb}

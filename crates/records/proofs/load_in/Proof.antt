@@ -1,4 +1,4 @@
--- `load_in` meets its contract.
+-- `load_in` takes one byte, 0 or 1, by its two tests.
 use Rattle.records.proofs.Tests.{tests}
 use borrow.Author.Needs.{needs}
 use Rattle.records.proofs.load_in.Statement.{statement}

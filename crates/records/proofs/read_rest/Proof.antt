@@ -1,4 +1,4 @@
--- `read_rest` meets its contract.
+-- `read_rest` looks for a cut header and a cut payload, and reads the payload by its callee (Cases: read-cut, read-is).
 use mathlib.Core.Path.{_≡_, sym, _∙_, ap}
 use Prim.Native.Nat.{_+_}
 use Rattle.records.specs.Record.{readOf, asRead}

@@ -1,4 +1,4 @@
--- `sense` meets its contract.
+-- `sense` takes both ends of SENSE's range and no more, by the sign of the value (Ints).
 use mathlib.Core.Path.{refl}
 use Prim.Native.Nat.{_-_}
 use lib.Dec.{ltb}

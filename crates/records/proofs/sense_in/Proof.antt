@@ -1,4 +1,4 @@
--- `sense_in` meets its contract.
+-- `sense_in` takes four bytes, by the test of the length, and their value by its callees.
 use mathlib.Core.Path.{ap, _∙_}
 use borrow.Author.Tests.{eq-eqb}
 use Rattle.records.specs.Record.{senseOf}

@@ -1,4 +1,4 @@
--- `setup_in` meets its contract.
+-- `setup_in` takes seven bytes, by the test of the length, and judges their values by its callee.
 use Rattle.records.proofs.Cases.{setup-is}
 use mathlib.Core.Path.{_≡_, ap, sym, _∙_}
 use Rattle.records.specs.Record.{setupIn, checkedIn}

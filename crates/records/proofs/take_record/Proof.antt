@@ -1,4 +1,4 @@
--- `take_record` meets its contract.
+-- `take_record` reads the rest from its place on, and moves what was read by that place (Cases).
 use mathlib.Core.Path.{_≡_, ap, sym, _∙_}
 use Prim.Native.Nat.{ℕ, _-_, _≤_}
 use native.Mathlib.Omega.{arith}

@@ -1,4 +1,4 @@
--- `word` meets its contract.
+-- `word` is a number of two bytes, or 0 past the end, by its test.
 use Rattle.records.specs.Numbers.{wordOr}
 use Rattle.records.proofs.Tests.{tests}
 use borrow.Author.Needs.{needs}

@@ -1,4 +1,4 @@
--- `bits_of` meets its contract.
+-- `bits_of` is the two's complement of a number in 32 bits (Ints).
 use Rattle.writer.proofs.Ints.{wide, sum-fits, sum-cast, sum-bits}
 use borrow.Author.Needs.{needs}
 use Rattle.writer.proofs.bits_of.Statement.{statement}

@@ -1,4 +1,4 @@
--- `put_bus` meets its contract.
+-- `put_bus` writes each bus event's record by its callee, case by case.
 use mathlib.Core.Path.{ap}
 use Rattle.events.specs.declared.Event.the-variants.{OnBus}
 use Rattle.writer.specs.Write.{recordFor}

@@ -1,4 +1,4 @@
--- `put_event` meets its contract.
+-- `put_event` writes each event's record by its callee, case by case.
 use mathlib.Core.Path.{_≡_}
 use mir.Syntax.{w32}
 use mir.Val.{toZ, ofZ}

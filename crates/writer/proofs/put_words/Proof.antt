@@ -1,9 +1,8 @@
--- `put_words` meets its contract.
+-- `put_words` writes two bytes a turn: what is written so far are the first i numbers' bytes.
 use borrow.Author.Needs.{needs}
 use mir.Syntax.{w16}
 use mir.Val.{Fits}
-use mathlib.Core.List.{List}
-use Prim.Native.Nat.{ℕ, _≤_, _-_, _*_, _+_}
+use Prim.Native.Nat.{ℕ, _≤_, _-_}
 use mathlib.Core.Path.{_≡_, refl, _∙_, ap}
 use native.Mathlib.Omega.{arith}
 use lib.ListN.{length, take, getD, length-set}

@@ -1,5 +1,5 @@
--- `refusal` meets its contract.
-use mathlib.Core.Path.{_≡_, refl, sym, _∙_}
+-- `refusal` looks at the part, the counts and the values in this order (Refusals: refusal-of).
+use mathlib.Core.Path.{refl, sym, _∙_}
 use native.Mathlib.Omega.{arith}
 use Rattle.events.specs.Event.{countsWanted, countsFit}
 use Rattle.records.specs.Record.{standing}

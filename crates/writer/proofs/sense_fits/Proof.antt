@@ -1,4 +1,4 @@
--- `sense_fits` meets its contract.
+-- `sense_fits` is SENSE's range, by the sign of the value (Ints).
 use Rattle.writer.proofs.Ints.{range-is}
 use Rattle.writer.proofs.sense_fits.Statement.{statement}
 use Rattle.writer.proofs.sense_fits.Tie as tie

@@ -1,4 +1,4 @@
--- `setup_good` meets its contract.
+-- `setup_good` is the ranges of SETUP; a switch is always 0 or 1.
 use Rattle.writer.proofs.Refusals.{good-is}
 use Rattle.writer.proofs.setup_good.Statement.{statement}
 use Rattle.writer.proofs.setup_good.Tie as tie

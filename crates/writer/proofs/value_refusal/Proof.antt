@@ -1,4 +1,4 @@
--- `value_refusal` meets its contract.
+-- `value_refusal` judges each event's values, case by case; where the places after the counts are 0, all are within a bound just where the counts are.
 use mathlib.Core.Path.{_≡_, refl, ap, _∙_}
 use mir.Syntax.{w32}
 use mir.Val.{toZ, ofZ}

@@ -1,4 +1,4 @@
--- `wanted_at` meets its contract.
+-- `wanted_at` is how many counts an event has at a part, case by case.
 use mathlib.Core.Path.{ap, sym, _∙_}
 use Rattle.events.specs.Event.{countsWanted}
 use Rattle.records.specs.Record.{standing}

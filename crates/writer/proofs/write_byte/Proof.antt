@@ -1,8 +1,8 @@
--- `write_byte` meets its contract.
+-- `write_byte` writes a header and a byte: the stores are the record's bytes (Stores).
 use native.Mathlib.Omega.{arith}
 use mathlib.Core.List.{[], _∷_}
 use lib.ListN.{length-set}
-use Rattle.writer.specs.Write.{recordOf, bytes16, bytes32}
+use Rattle.writer.specs.Write.{recordOf}
 use Rattle.writer.proofs.Stores.{stored, short}
 use borrow.Author.Needs.{needs}
 use Rattle.writer.proofs.write_byte.Statement.{statement}

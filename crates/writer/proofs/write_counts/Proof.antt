@@ -1,4 +1,4 @@
--- `write_counts` meets its contract.
+-- `write_counts` writes a header, and the counts by its callee, which is lent the rest (Stores).
 use mathlib.Core.Path.{_≡_, _∙_}
 use Prim.Native.Nat.{_-_}
 use lib.Seq.{sets, length-sets}

@@ -1,8 +1,7 @@
--- `write_long` meets its contract.
+-- `write_long` writes a header and four bytes: the stores are the record's bytes (Stores).
 use native.Mathlib.Omega.{arith}
-use mathlib.Core.List.{[], _∷_}
 use lib.ListN.{length-set}
-use Rattle.writer.specs.Write.{recordOf, bytes16, bytes32}
+use Rattle.writer.specs.Write.{recordOf, bytes32}
 use Rattle.writer.proofs.Stores.{stored, short}
 use borrow.Author.Needs.{needs}
 use Rattle.writer.proofs.write_long.Statement.{statement}

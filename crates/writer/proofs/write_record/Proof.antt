@@ -1,4 +1,4 @@
--- `write_record` meets its contract.
+-- `write_record` refuses as `refusal` says and writes nothing then, or writes the event's record.
 use mathlib.Core.Path.{sym, _∙_}
 use Rattle.writer.specs.Write.{refusalFor, recordFor}
 use Rattle.writer.specs.Accepted.{accepted-few}

@@ -1,4 +1,4 @@
--- `write_setup` meets its contract.
+-- `write_setup` writes a header and seven bytes: the stores are the record's bytes (Stores).
 use native.Mathlib.Omega.{arith}
 use lib.ListN.{length-set}
 use Rattle.writer.specs.Write.{recordOf, setupBytes}

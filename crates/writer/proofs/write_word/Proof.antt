@@ -1,8 +1,7 @@
--- `write_word` meets its contract.
+-- `write_word` writes a header and two bytes: the stores are the record's bytes (Stores).
 use native.Mathlib.Omega.{arith}
-use mathlib.Core.List.{[], _∷_}
 use lib.ListN.{length-set}
-use Rattle.writer.specs.Write.{recordOf, bytes16, bytes32}
+use Rattle.writer.specs.Write.{recordOf, bytes16}
 use Rattle.writer.proofs.Stores.{stored, short}
 use borrow.Author.Needs.{needs}
 use Rattle.writer.proofs.write_word.Statement.{statement}
