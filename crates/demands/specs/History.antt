@@ -38,7 +38,7 @@ module _ (u : Setup) where
   heard-is : (k : Fault) (past : List Event) (e : Event) → heard k e (chip u past) ≡ said u k past e
   heard-is k past e = λ i. cond (fits e) (opinion k (setup-is past i .floor) (rule k (core-is past i .settings)) e) []
 
-  asleep-none : (k : Fault) (past : List Event) → core u past .awake ≡ false → verdicts u k past ≡ []
+  pub asleep-none : (k : Fault) (past : List Event) → core u past .awake ≡ false → verdicts u k past ≡ []
   unfolding verdicts
   asleep-none k [] z = refl
   asleep-none k (e ∷ past) z = rw z

@@ -4,3 +4,7 @@ pub mod Told
 pub mod History
 pub mod Latch
 pub mod Theorem
+pub mod Aside
+pub mod Readings
+pub mod Checked
+pub mod Bare
