@@ -8,3 +8,4 @@ pub mod Aside
 pub mod Readings
 pub mod Checked
 pub mod Bare
+pub mod Examples
