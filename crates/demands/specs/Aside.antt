@@ -3,9 +3,8 @@
 use mathlib.Core.Path.{_≡_, refl, sym, ap, _∙_}
 use mathlib.Core.Bool.{Bool, true, false, cond, true≢false}
 use mathlib.Core.List.{List, [], _∷_, _++_}
-use Prim.Native.Nat.{ℕ}
 use lib.Dec.{eqb}
-use borrow.Author.Tests.{eqb-true, eq-eqb}
+use borrow.Author.Tests.{eq-eqb}
 use Rattle.events.specs.declared.Setup.{Setup}
 use Rattle.events.specs.declared.Counts.{Counts}
 use Rattle.events.specs.declared.Event.{Event as Coded}
@@ -17,7 +16,7 @@ use Rattle.chip.specs.declared.Stepped.{Stepped}
 use Rattle.chip.specs.Chip.{inShip, stepped, next, steppedAs, steppedBy}
 use Rattle.chip.specs.Core.{Core, coreOf, coreNext}
 use Rattle.chip.specs.Moves.{normal-is}
-use Rattle.demands.specs.Demand.{chip, core, said, verdicts}
+use Rattle.demands.specs.Demand.{chip, core, verdicts}
 use Rattle.demands.specs.Refused.{normal-done, refused}
 use Rattle.demands.specs.History.{setup-is, core-is, awake-is, asleep-none}
 

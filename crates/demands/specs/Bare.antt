@@ -22,7 +22,6 @@ use Rattle.settings.specs.Write.{ships}
 use Rattle.registers.specs.declared.Registers.{Registers}
 use Rattle.registers.specs.Write.{balanceWith}
 use Rattle.registers.specs.Read.{balanceByte, lowByte, wordAt, fixedByte, readAt}
-use Rattle.protection.specs.declared.Runs.{Runs}
 use Rattle.chip.specs.declared.Chip.{Chip}
 use Rattle.chip.specs.declared.Stepped.{Stepped}
 use Rattle.chip.specs.Chip.{quiet, inShip, accepted, storedAt, stored, reads, onBus, normally, asleep, happened, stepped, next}

@@ -6,12 +6,10 @@ use Prim.Native.Nat.{ℕ, _*_, _<_}
 use native.Mathlib.Omega.{arith}
 use lib.Dec.{eqb}
 use borrow.Author.Tests.{eq-eqb}
-use Rattle.crc8.specs.Crc.{crc, byteOn, crcOn}
+use Rattle.crc8.specs.Crc.{crc, byteOn}
 use Rattle.crc8.specs.Division.{crc-is}
-use Rattle.events.specs.declared.BusEvent.{BusEvent}
 use Rattle.events.specs.declared.BusEvent.the-variants.{Start, Out}
 use Rattle.events.specs.Event.{Event, OnBus, fits}
-use Rattle.bus.specs.declared.Phase.{Phase}
 use Rattle.bus.specs.declared.Line.{Line}
 use Rattle.bus.specs.declared.Store.{Store}
 use Rattle.bus.specs.declared.Outed.{Outed}

@@ -2,7 +2,7 @@
 -- Said of the events alone, as they come: bus bytes and CRCs, counts, ticks. No run and no counter is named here. Events stand newest first:
 -- `e ∷ past` is `past` and then `e`; `later ++ past` is `past` and then `later`. Assumes nothing.
 use mathlib.Core.Path.{_≡_}
-use mathlib.Core.Bool.{Bool, true, false, not, _&&_, _||_, cond}
+use mathlib.Core.Bool.{Bool, true, false, not, _&&_, cond}
 use mathlib.Core.List.{List, [], _∷_, _++_}
 use mathlib.Core.Logic.{_↔_, _∨₁_}
 use Prim.Native.Nat.{ℕ}

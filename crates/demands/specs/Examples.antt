@@ -1,15 +1,15 @@
 -- Document 01's worked stream and both sides of its lines, over the whole chip, by computation. Assumes nothing.
 use mathlib.Core.Path.{_≡_, refl}
-use mathlib.Core.Bool.{Bool, true, false, cond}
+use mathlib.Core.Bool.{Bool, true, false}
 use mathlib.Core.List.{List, [], _∷_, _++_}
 use Prim.Native.Nat.{ℕ}
 use lib.ListN.{replicate}
-use lib.IntN.{ℤ, pos, negℤ}
+use lib.IntN.{pos, negℤ}
 use Rattle.crc8.specs.Crc.{byteOn}
 use Rattle.events.specs.declared.Setup.{Setup}
 use Rattle.events.specs.declared.BusEvent.the-variants.{Start, Stop, Out, In}
 use Rattle.events.specs.Setup.{groups, inputs}
-use Rattle.events.specs.Event.{Event, Por, Boot, Pin, Xready, Scan, Temp, Count, Sense, Load, OnBus, fits}
+use Rattle.events.specs.Event.{Event, Por, Boot, Xready, Scan, Sense, OnBus, fits}
 use Rattle.bus.specs.Bus.{addressed, fed, checked, outed, taken, given, owing, afterData, afterSum, keeps}
 use Rattle.settings.specs.Write.{settingsWith}
 use Rattle.settings.specs.Read.{settingsByte}
@@ -101,17 +101,17 @@ printed = refl
 
 -- ── both sides of each line: OV is 4, UV 8, SCD 2 ──
 pub lines : (
-        status plain (Boot ∷ times 4 (cell 10952))
-        ∷ status plain (Boot ∷ times 3 (cell 10953))
-        ∷ status plain (Boot ∷ times 4 (cell 10953))
-        ∷ status plain (Boot ∷ times 4 (cell 6512))
-        ∷ status plain (Boot ∷ times 3 (cell 6511))
-        ∷ status plain (Boot ∷ times 4 (cell 6511))
-        ∷ status plain (Boot ∷ times 4 (cell 999))
-        ∷ status plain (Boot ∷ times 3 (tick 18500))
-        ∷ status plain (Boot ∷ times 2 (tick 18501))
-        ∷ status plain (Boot ∷ times 3 (tick 18501))
-        ∷ []
+    status plain (Boot ∷ times 4 (cell 10952))
+    ∷ status plain (Boot ∷ times 3 (cell 10953))
+    ∷ status plain (Boot ∷ times 4 (cell 10953))
+    ∷ status plain (Boot ∷ times 4 (cell 6512))
+    ∷ status plain (Boot ∷ times 3 (cell 6511))
+    ∷ status plain (Boot ∷ times 4 (cell 6511))
+    ∷ status plain (Boot ∷ times 4 (cell 999))
+    ∷ status plain (Boot ∷ times 3 (tick 18500))
+    ∷ status plain (Boot ∷ times 2 (tick 18501))
+    ∷ status plain (Boot ∷ times 3 (tick 18501))
+    ∷ []
     ) ≡ 0 ∷ 0 ∷ 4 ∷ 0 ∷ 0 ∷ 8 ∷ 0 ∷ 0 ∷ 0 ∷ 2 ∷ []
 unfolding stepped happened fits rule over under beyond
 lines = refl
@@ -121,37 +121,37 @@ abbrev between : List Event → List Event
 between es = Boot ∷ times 3 (cell 10953) ++ es ++ cell 10953 ∷ []
 
 pub spells : (
-        status plain (between (cell 10952 ∷ []))
-        ∷ status plain (between (Por ∷ Boot ∷ []))
-        ∷ status plain (between (write 0x04 0x11 ++ write 0x04 0x12 ++ Boot ∷ []))
-        ∷ status plain (between (write 0x04 0x00 ++ cell 10953 ∷ write 0x04 0x10))
-        ∷ status plain (between (Boot ∷ []))
-        ∷ status plain (between (cell 16384 ∷ []))
-        ∷ status plain (between (write 0x04 0x00 ++ write 0x04 0x10))
-        ∷ status plain (between (write 0x00 0xFF))
-        ∷ status plain (between (cell 10953 ∷ write 0x00 0xFF))
-        ∷ []
+    status plain (between (cell 10952 ∷ []))
+    ∷ status plain (between (Por ∷ Boot ∷ []))
+    ∷ status plain (between (write 0x04 0x11 ++ write 0x04 0x12 ++ Boot ∷ []))
+    ∷ status plain (between (write 0x04 0x00 ++ cell 10953 ∷ write 0x04 0x10))
+    ∷ status plain (between (Boot ∷ []))
+    ∷ status plain (between (cell 16384 ∷ []))
+    ∷ status plain (between (write 0x04 0x00 ++ write 0x04 0x10))
+    ∷ status plain (between (write 0x00 0xFF))
+    ∷ status plain (between (cell 10953 ∷ write 0x00 0xFF))
+    ∷ []
     ) ≡ 0 ∷ 0 ∷ 0 ∷ 0 ∷ 4 ∷ 4 ∷ 4 ∷ 4 ∷ 4 ∷ []
 unfolding stepped happened fits outed settingsWith shownWith balanceWith addressed fed checked storedAt rule over under
 spells = refl
 
 -- with DELAY_DIS one scan is enough; a longer delay asks for eight; delays of other faults do not matter
 pub delays : (
-        status plain (Boot ∷ write 0x05 0x80 ++ cell 10953 ∷ [])
-        ∷ status plain (Boot ∷ write 0x08 0x10 ++ times 7 (cell 10953))
-        ∷ status plain (Boot ∷ write 0x08 0x10 ++ times 8 (cell 10953))
-        ∷ status plain (Boot ∷ write 0x05 0x80 ++ times 2 (tick 18501))
-        ∷ []
+    status plain (Boot ∷ write 0x05 0x80 ++ cell 10953 ∷ [])
+    ∷ status plain (Boot ∷ write 0x08 0x10 ++ times 7 (cell 10953))
+    ∷ status plain (Boot ∷ write 0x08 0x10 ++ times 8 (cell 10953))
+    ∷ status plain (Boot ∷ write 0x05 0x80 ++ times 2 (tick 18501))
+    ∷ []
     ) ≡ 4 ∷ 0 ∷ 4 ∷ 0 ∷ []
 unfolding stepped happened fits outed settingsWith shownWith balanceWith addressed fed checked storedAt rule over under beyond
 delays = refl
 
 -- ── with CRC on: EA is the CRC of 10 05 03, and with another nothing is driven ──
 pub guarded-writes : (
-        ran (inShip guarded) (Boot ∷ write 0x05 0x03 ++ out 0xEA ∷ []) .registers .shown .chg
-        ∷ ran (inShip guarded) (Boot ∷ write 0x05 0x03 ++ out 0xEB ∷ []) .registers .shown .chg
-        ∷ ran (inShip guarded) (Boot ∷ write 0x05 0x03) .registers .shown .chg
-        ∷ []
+    ran (inShip guarded) (Boot ∷ write 0x05 0x03 ++ out 0xEA ∷ []) .registers .shown .chg
+    ∷ ran (inShip guarded) (Boot ∷ write 0x05 0x03 ++ out 0xEB ∷ []) .registers .shown .chg
+    ∷ ran (inShip guarded) (Boot ∷ write 0x05 0x03) .registers .shown .chg
+    ∷ []
     ) ≡ true ∷ false ∷ false ∷ []
 unfolding stepped happened fits outed settingsWith shownWith balanceWith byteOn addressed fed checked storedAt
 guarded-writes = refl

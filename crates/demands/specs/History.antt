@@ -1,19 +1,17 @@
 -- DEMAND 3, the rising: over any events from power-up the mode, the settings and the runs of the chip are what the events say. Assumes nothing.
 use mathlib.Core.Path.{_≡_, refl, sym, ap, _∙_}
-use mathlib.Core.Bool.{Bool, true, false, _||_, cond}
+use mathlib.Core.Bool.{true, false, _||_, cond}
 use mathlib.Core.List.{List, [], _∷_, _++_}
-use Prim.Native.Nat.{ℕ, min}
+use Prim.Native.Nat.{min}
 use native.Mathlib.Nat.{min-zero}
 use Rattle.events.specs.declared.Setup.{Setup}
 use Rattle.events.specs.Event.{Event, fits}
 use Rattle.events.specs.Fault.{Fault}
-use Rattle.registers.specs.Fault.{bitOf}
 use Rattle.protection.specs.Streak.{lastAll, streak}
 use Rattle.protection.specs.Fault.{runOf}
 use Rattle.protection.specs.Rule.{cap, rule, opinion}
 use Rattle.chip.specs.declared.Chip.{Chip}
 use Rattle.chip.specs.declared.Stepped.{Stepped}
-use Rattle.chip.specs.Chip.{inShip, next}
 use Rattle.chip.specs.Core.{Core, coreOf, coreNext}
 use Rattle.chip.specs.Moves.{normal-is, setup-next, core-next}
 use Rattle.demands.specs.Demand.{judges, chip, up, core, Awake, Accepted, said, verdicts, delay}

@@ -1,14 +1,12 @@
 -- DEMAND 3, the latch: what any one event does to the bit of a fault and to its drive, by what it writes. Assumes nothing.
-use mathlib.Core.Path.{_≡_, refl, sym, ap, subst, _∙_}
+use mathlib.Core.Path.{_≡_, refl, sym, subst, _∙_}
 use mathlib.Core.Bool.{Bool, true, false, not, _&&_, _||_, cond, true≢false}
-use mathlib.Core.List.{List}
 use Prim.Native.Nat.{ℕ}
 use lib.Dec.{eqb}
 use borrow.Author.Tests.{eqb-true}
 use Rattle.events.specs.declared.BusEvent.{BusEvent}
 use Rattle.events.specs.declared.BusEvent.the-variants.{Start, Stop, Out, In}
-use Rattle.events.specs.Event.{Event, Por, Boot, Pin, Xready, Scan, Temp, Count, Sense, Load, OnBus, fits}
-use Rattle.settings.specs.Bit.{bit}
+use Rattle.events.specs.Event.{Event, Por, Boot, Pin, Xready, Scan, Temp, Count, Sense, Load, OnBus}
 use Rattle.events.specs.Fault.{Fault, Ov, Uv, Scd, Ocd}
 use Rattle.registers.specs.Fault.{bitOf, driveOf, raised, overridden, readied, counting}
 use Rattle.bus.specs.declared.Store.{Store}
@@ -22,10 +20,10 @@ use Rattle.registers.specs.Write.{statusOf, without, holdsChg, holdsDsg, driven
 use Rattle.protection.specs.Rule.{rule, risen}
 use Rattle.chip.specs.declared.Chip.{Chip}
 use Rattle.chip.specs.declared.Stepped.{Stepped}
-use Rattle.chip.specs.Chip.{inShip, stored, onBus, normally, asleep, next}
+use Rattle.chip.specs.Chip.{stored, onBus, normally, next}
 use Rattle.chip.specs.Core.{Core, coreOf}
 use Rattle.chip.specs.Moves.{next-by, stored-by, asleep-by}
-use Rattle.demands.specs.Demand.{judges, wrote, clears, asks, enables}
+use Rattle.demands.specs.Demand.{judges, wrote, clears, enables}
 use Rattle.demands.specs.Told.{says-one}
 
 -- ── Bools ──

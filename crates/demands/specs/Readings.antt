@@ -1,6 +1,6 @@
 -- DEMAND 3 read fault by fault, in document 01's words and numbers: what a verdict is, how many are needed, and when the bit is up. Assumes nothing.
 use mathlib.Core.Path.{_≡_, refl}
-use mathlib.Core.Bool.{Bool, true, _&&_, cond}
+use mathlib.Core.Bool.{true, _&&_, cond}
 use mathlib.Core.List.{List, [], _∷_}
 use mathlib.Core.Logic.{_↔_, _∨₁_}
 use Prim.Native.Nat.{ℕ, _+_, _*_, _/_, _%_}
@@ -9,7 +9,7 @@ use lib.IntN.{ℤ, pos, negℤ}
 use lib.Signed.{ltZ}
 use Rattle.events.specs.declared.Setup.{Setup}
 use Rattle.events.specs.Event.{Event, Scan, Sense, fits, within, senseFits}
-use Rattle.events.specs.Fault.{Fault, Ov, Uv, Scd, Ocd}
+use Rattle.events.specs.Fault.{Ov, Uv, Scd, Ocd}
 use Rattle.settings.specs.declared.Settings.{Settings}
 use Rattle.settings.specs.Bit.{bit}
 use Rattle.scan.specs.Scan.{someAbove, someBetween}

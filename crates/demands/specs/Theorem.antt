@@ -1,13 +1,11 @@
 -- DEMAND 3: the claims of Demand, proved over any events from power-up for every setup. Assumes nothing.
 use mathlib.Core.Path.{_≡_, refl, sym, ap, subst, _∙_}
-use mathlib.Core.Bool.{Bool, true, false, not, _&&_, _||_, cond, or-eq-true-iff, true≢false}
+use mathlib.Core.Bool.{Bool, true, false, _&&_, cond, or-eq-true-iff, true≢false}
 use mathlib.Core.List.{List, [], _∷_, _++_}
-use mathlib.Core.Logic.{_↔_, _∨₁_, Iff·trans, Iff·or, Iff·rfl}
-use Prim.Native.Nat.{ℕ}
-use lib.ListN.{take, replicate}
+use mathlib.Core.Logic.{Iff·trans, Iff·or, Iff·rfl}
 use Rattle.events.specs.declared.Setup.{Setup}
 use Rattle.events.specs.declared.BusEvent.{BusEvent}
-use Rattle.events.specs.Event.{Event, Por, Boot, Pin, Xready, Scan, Temp, Count, Sense, Load, OnBus, fits}
+use Rattle.events.specs.Event.{Event, OnBus, fits}
 use Rattle.events.specs.Fault.{Fault, Ov, Uv, Scd, Ocd}
 use Rattle.registers.specs.declared.Shown.{Shown}
 use Rattle.protection.specs.Streak.{lastAll-is}
@@ -15,12 +13,12 @@ use Rattle.protection.specs.Rule.{Rule, rule, opinion, any}
 use Rattle.chip.specs.declared.Chip.{Chip}
 use Rattle.chip.specs.declared.Stepped.{Stepped}
 use Rattle.chip.specs.Chip.{next}
-use Rattle.chip.specs.Core.{Core, coreOf, bare}
+use Rattle.chip.specs.Core.{Core, bare}
 use Rattle.chip.specs.Moves.{normal-is, next-by, asleep-by}
-use Rattle.demands.specs.Demand.{judges, wrote, clears, enables, traffic, chip, shown, up, drive, alerted, Accepted, core, standing, Awake, said, verdicts, delay, Due, StaysAwake, Unjudged, Uncleared, Asked, Rises, NothingElseRaises, NotPostponed, TrafficPostponesNothing, Latches, OnAgainOnlyAsked}
+use Rattle.demands.specs.Demand.{judges, wrote, enables, traffic, chip, shown, up, drive, Accepted, core, standing, Awake, said, verdicts, delay, StaysAwake, Unjudged, Uncleared, Asked, Rises, NothingElseRaises, NotPostponed, TrafficPostponesNothing, Latches, OnAgainOnlyAsked}
 use Rattle.demands.specs.Refused.{normal-done}
 use Rattle.demands.specs.Told.{says-one}
-use Rattle.demands.specs.History.{setup-is, core-is, awake-is, accepted-fits, accepted-awake, verdicts-are, delay-is, rises}
+use Rattle.demands.specs.History.{setup-is, core-is, awake-is, accepted-fits, verdicts-are, delay-is, rises}
 use Rattle.demands.specs.Latch.{Keeps, next-keeps, alert-up}
 
 module _ (u : Setup) where

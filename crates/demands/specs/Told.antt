@@ -1,7 +1,7 @@
 -- What one event does to the run of a fault: it counts the verdicts of the waking spell, cut at the longest delay. Assumes nothing.
 use mathlib.Core.Path.{_≡_, refl, sym, ap, _∙_}
 use mathlib.Core.Bool.{Bool, true, false, _||_, cond, or-comm}
-use mathlib.Core.List.{List, [], _∷_, _++_}
+use mathlib.Core.List.{List, [], _++_}
 use Prim.Native.Nat.{ℕ, min}
 use native.Mathlib.Nat.{min-zero}
 use lib.Dec.{leb}
@@ -12,18 +12,15 @@ use Rattle.events.specs.Event.{Event, Por, Boot, Pin, Xready, Scan, Temp, Count
 use Rattle.settings.specs.declared.Settings.{Settings}
 use Rattle.events.specs.Fault.{Fault, Ov, Uv, Scd, Ocd}
 use Rattle.registers.specs.Fault.{bitOf, raised}
-use Rattle.bus.specs.declared.Store.{Store}
-use Rattle.bus.specs.declared.Store.the-variants.{Nothing, At}
 use Rattle.bus.specs.Bus.{outed}
 use Rattle.registers.specs.declared.Shown.{Shown}
 use Rattle.protection.specs.Streak.{lastAll, streak, bumps, bumps-streak}
-use Rattle.protection.specs.declared.Runs.{Runs}
-use Rattle.protection.specs.Fault.{runOf, runsOf, noRuns}
+use Rattle.protection.specs.Fault.{runOf, runsOf}
 use Rattle.protection.specs.Rule.{Rule, cap, rule, opinion, any, runAfter, risen}
 use Rattle.protection.specs.Tables.{run-tells}
 use Rattle.chip.specs.declared.Chip.{Chip}
 use Rattle.chip.specs.declared.Stepped.{Stepped}
-use Rattle.chip.specs.Chip.{quiet, inShip, moved, accepted, onBus, normally, asleep, happened, stepped, next}
+use Rattle.chip.specs.Chip.{quiet, inShip, onBus, normally, asleep, happened, stepped, next}
 use Rattle.chip.specs.Core.{coreOf}
 use Rattle.chip.specs.Moves.{normal-is, next-by, stored-by, asleep-by}
 use Rattle.demands.specs.Demand.{judges}
