@@ -47,7 +47,7 @@ wrong c v s a b on l h = normal-is (OnBus (Out b)) c refl on ∙ ap (λ o. sent 
 
 -- ── a whole frame ──
 -- an OUT on a chip with this line, by what the bus makes of it
-one-out : (c : Chip) (l : Line) (b : ℕ) (o : Outed) → c .awake ≡ true → outed (c .setup) l b ≡ o → next (OnBus (Out b)) (moved l c) ≡ stored (o .line) (o .store) (moved l c)
+pub one-out : (c : Chip) (l : Line) (b : ℕ) (o : Outed) → c .awake ≡ true → outed (c .setup) l b ≡ o → next (OnBus (Out b)) (moved l c) ≡ stored (o .line) (o .store) (moved l c)
 unfolding fits
 one-out c l b o on e = ap (λ s. s .chip) (normal-is (OnBus (Out b)) (moved l c) refl on) ∙ ap (λ o. stored (o .line) (o .store) (moved l c)) e
 
@@ -69,6 +69,26 @@ decides c v s a b on = one-out c (lineOf (Checking v s) a) b (cond (eqb b s) (st
         ≡ cond t (storedAt (lineOf (Writing 0) (grown a)) a v c) (moved (lineOf Idle a) c)
     by true = refl
     by false = refl
+
+-- CRC off: the register changes at the data byte
+plain-feeds : (c : Chip) (s a b : ℕ) → c .setup .crc ≡ false → outed (c .setup) (lineOf (Writing s) a) b ≡ stores a b
+unfolding outed fed
+plain-feeds c s a b k = rw k
+
+pub plain-frame : (c : Chip) (p d : ℕ) → c .setup .crc ≡ false → c .awake ≡ true
+    → ran c (OnBus Start ∷ OnBus (Out (c .setup .address * 2)) ∷ OnBus (Out p) ∷ OnBus (Out d) ∷ []) ≡ storedAt (lineOf (Writing 0) (grown p)) p d c
+unfolding fits outed storedAt
+plain-frame c p d k on =
+    ap (λ s. ran (s .chip) (OnBus (Out w) ∷ OnBus (Out p) ∷ OnBus (Out d) ∷ [])) (normal-is (OnBus Start) c refl on)
+    ∙ ap (λ q. ran q (OnBus (Out p) ∷ OnBus (Out d) ∷ [])) (one-out c (lineOf Address a) w (goes (Pointing (byteOn 0 w)) a) on (own c a))
+    ∙ ap (next (OnBus (Out d))) (one-out c (lineOf (Pointing (byteOn 0 w)) a) p (goes (Writing (byteOn (byteOn 0 w) p)) p) on refl)
+    ∙ one-out c (lineOf (Writing (byteOn (byteOn 0 w) p)) p) d (stores p d) on (plain-feeds c (byteOn (byteOn 0 w) p) p d k)
+  where
+    w : ℕ
+    w = c .setup .address * 2
+
+    a : ℕ
+    a = c .bus .line .pointer
 
 -- first data byte of a write, to any chip in NORMAL: it is stored just where the byte after it is the CRC of address byte, pointer and data
 pub first-frame : (c : Chip) (p d x : ℕ) → c .setup .crc ≡ true → c .awake ≡ true → c .setup .address < 128 → p < 256 → d < 256

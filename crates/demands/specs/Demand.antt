@@ -192,3 +192,11 @@ module _ (u : Setup) where
   -- After a time at which the bit was up its drive is on only if some event since then is a write that asks for it and finds the bit down.
   abbrev pub OnAgainOnlyAsked : Type 0
   OnAgainOnlyAsked = (k : Fault) (later past : List Event) → up k past ≡ true → drive k (later ++ past) ≡ true → Asked k later past
+
+  pub record ThirdDemand : Type 0 where
+    pub rises : Rises
+    pub nothing-else-raises : NothingElseRaises
+    pub not-postponed : NotPostponed
+    pub traffic-postpones-nothing : TrafficPostponesNothing
+    pub latches : Latches
+    pub on-again-only-asked : OnAgainOnlyAsked

@@ -9,3 +9,4 @@ pub mod Readings
 pub mod Checked
 pub mod Bare
 pub mod Examples
+pub mod Given

@@ -15,7 +15,7 @@ use Rattle.chip.specs.declared.Stepped.{Stepped}
 use Rattle.chip.specs.Chip.{next}
 use Rattle.chip.specs.Core.{Core, bare}
 use Rattle.chip.specs.Moves.{normal-is, next-by, asleep-by}
-use Rattle.demands.specs.Demand.{judges, wrote, enables, traffic, chip, shown, up, drive, Accepted, core, standing, Awake, said, verdicts, delay, StaysAwake, Unjudged, Uncleared, Asked, Rises, NothingElseRaises, NotPostponed, TrafficPostponesNothing, Latches, OnAgainOnlyAsked}
+use Rattle.demands.specs.Demand.{judges, wrote, enables, traffic, chip, shown, up, drive, Accepted, core, standing, Awake, said, verdicts, delay, StaysAwake, Unjudged, Uncleared, Asked, Rises, NothingElseRaises, NotPostponed, TrafficPostponesNothing, Latches, OnAgainOnlyAsked, ThirdDemand}
 use Rattle.demands.specs.Refused.{normal-done}
 use Rattle.demands.specs.Told.{says-one}
 use Rattle.demands.specs.History.{setup-is, core-is, awake-is, accepted-fits, verdicts-are, delay-is, rises}
@@ -127,3 +127,15 @@ module _ (u : Setup) where
 
   pub on-again-only-asked : OnAgainOnlyAsked u
   on-again-only-asked k later past p o = asked-since k later past (off k past p) o
+
+-- THE THIRD DEMAND, of every setup
+pub third : (u : Setup) → ThirdDemand u
+third u =
+    record {
+      rises = rising u;
+      nothing-else-raises = nothing-else-raises u;
+      not-postponed = not-postponed u;
+      traffic-postpones-nothing = traffic-postpones-nothing u;
+      latches = latched u;
+      on-again-only-asked = on-again-only-asked u;
+    }
