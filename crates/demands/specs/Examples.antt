@@ -9,7 +9,7 @@ use Rattle.crc8.specs.Crc.{byteOn}
 use Rattle.events.specs.declared.Setup.{Setup}
 use Rattle.events.specs.declared.BusEvent.the-variants.{Start, Stop, Out, In}
 use Rattle.events.specs.Setup.{groups, inputs}
-use Rattle.events.specs.Event.{Event, Por, Boot, Xready, Scan, Sense, OnBus, fits}
+use Rattle.events.specs.Event.{Event, Por, Boot, Pin, Xready, Scan, Sense, OnBus, fits}
 use Rattle.bus.specs.Bus.{addressed, fed, checked, outed, taken, given, owing, afterData, afterSum, keeps}
 use Rattle.settings.specs.Write.{settingsWith}
 use Rattle.settings.specs.Read.{settingsByte}
@@ -99,52 +99,74 @@ pub printed : entries (inShip plain) (Boot ∷ write 0x05 0x03 ++ OnBus Stop ∷
 unfolding stepped happened fits outed settingsWith shownWith balanceWith addressed fed checked storedAt
 printed = refl
 
--- ── both sides of each line: OV is 4, UV 8, SCD 2 ──
-pub lines : (
-    status plain (Boot ∷ times 4 (cell 10952))
-    ∷ status plain (Boot ∷ times 3 (cell 10953))
-    ∷ status plain (Boot ∷ times 4 (cell 10953))
-    ∷ status plain (Boot ∷ times 4 (cell 6512))
-    ∷ status plain (Boot ∷ times 3 (cell 6511))
-    ∷ status plain (Boot ∷ times 4 (cell 6511))
-    ∷ status plain (Boot ∷ times 4 (cell 999))
-    ∷ status plain (Boot ∷ times 3 (tick 18500))
-    ∷ status plain (Boot ∷ times 2 (tick 18501))
-    ∷ status plain (Boot ∷ times 3 (tick 18501))
+-- ── cases: events after BOOT, and the SYS_STAT that they leave (UV 8, OV 4, SCD 2, OCD 1) ──
+abbrev pub Case : Type 0
+Case = List Event × ℕ
+
+abbrev found : List Case → List ℕ
+found [] = []
+found (c ∷ cs) = status plain (Boot ∷ c .0) ∷ found cs
+
+abbrev wanted : List Case → List ℕ
+wanted [] = []
+wanted (c ∷ cs) = c .1 ∷ wanted cs
+
+-- both sides of each line
+abbrev pub lines : List Case
+lines =
+    (times 4 (cell 10952), 0)
+    ∷ (times 3 (cell 10953), 0)
+    ∷ (times 4 (cell 10953), 4)
+    ∷ (times 4 (cell 6512), 0)
+    ∷ (times 3 (cell 6511), 0)
+    ∷ (times 4 (cell 6511), 8)
+    ∷ (times 4 (cell 1000), 8)
+    ∷ (times 4 (cell 999), 0)
+    ∷ (times 3 (tick 18500), 0)
+    ∷ (times 2 (tick 18501), 0)
+    ∷ (times 3 (tick 18501), 2)
+    ∷ (times 256 (tick 9500), 0)
+    ∷ (times 255 (tick 9501), 0)
+    ∷ (times 256 (tick 9501), 1)
     ∷ []
-    ) ≡ 0 ∷ 0 ∷ 4 ∷ 0 ∷ 0 ∷ 8 ∷ 0 ∷ 0 ∷ 0 ∷ 2 ∷ []
+
+pub lines-hold : found lines ≡ wanted lines
 unfolding stepped happened fits rule over under beyond
-lines = refl
+lines-hold = refl
 
--- ── what ends a run, and what does not: three over scans, the named events, then one over scan ──
+-- what ends a run, and what does not: three over scans, the named events, then one over scan
 abbrev between : List Event → List Event
-between es = Boot ∷ times 3 (cell 10953) ++ es ++ cell 10953 ∷ []
+between es = times 3 (cell 10953) ++ es ++ cell 10953 ∷ []
 
-pub spells : (
-    status plain (between (cell 10952 ∷ []))
-    ∷ status plain (between (Por ∷ Boot ∷ []))
-    ∷ status plain (between (write 0x04 0x11 ++ write 0x04 0x12 ++ Boot ∷ []))
-    ∷ status plain (between (write 0x04 0x00 ++ cell 10953 ∷ write 0x04 0x10))
-    ∷ status plain (between (Boot ∷ []))
-    ∷ status plain (between (cell 16384 ∷ []))
-    ∷ status plain (between (write 0x04 0x00 ++ write 0x04 0x10))
-    ∷ status plain (between (write 0x00 0xFF))
-    ∷ status plain (between (cell 10953 ∷ write 0x00 0xFF))
+abbrev pub spells : List Case
+spells =
+    (between (cell 10952 ∷ []), 0)
+    ∷ (between (Por ∷ Boot ∷ []), 0)
+    ∷ (between (write 0x04 0x11 ++ write 0x04 0x12 ++ Boot ∷ []), 0)
+    ∷ (between (write 0x04 0x00 ++ cell 10953 ∷ write 0x04 0x10), 0)
+    ∷ (between (Boot ∷ []), 4)
+    ∷ (between (cell 16384 ∷ []), 4)
+    ∷ (between (write 0x04 0x00 ++ write 0x04 0x10), 4)
+    ∷ (between (write 0x00 0xFF), 4)
+    ∷ (between (cell 10953 ∷ write 0x00 0xFF), 4)
     ∷ []
-    ) ≡ 0 ∷ 0 ∷ 0 ∷ 0 ∷ 4 ∷ 4 ∷ 4 ∷ 4 ∷ 4 ∷ []
-unfolding stepped happened fits outed settingsWith shownWith balanceWith addressed fed checked storedAt rule over under
-spells = refl
 
--- with DELAY_DIS one scan is enough; a longer delay asks for eight; delays of other faults do not matter
-pub delays : (
-    status plain (Boot ∷ write 0x05 0x80 ++ cell 10953 ∷ [])
-    ∷ status plain (Boot ∷ write 0x08 0x10 ++ times 7 (cell 10953))
-    ∷ status plain (Boot ∷ write 0x08 0x10 ++ times 8 (cell 10953))
-    ∷ status plain (Boot ∷ write 0x05 0x80 ++ times 2 (tick 18501))
+-- with DELAY_DIS one scan is enough, not one tick; a longer delay asks for eight scans
+abbrev pub delays : List Case
+delays =
+    (write 0x05 0x80 ++ cell 10953 ∷ [], 4)
+    ∷ (write 0x05 0x80 ++ times 2 (tick 18501), 0)
+    ∷ (write 0x08 0x10 ++ times 7 (cell 10953), 0)
+    ∷ (write 0x08 0x10 ++ times 8 (cell 10953), 4)
     ∷ []
-    ) ≡ 4 ∷ 0 ∷ 4 ∷ 0 ∷ []
+
+-- PIN with SYS_STAT 0, and with OV up
+abbrev pub pins : List Case
+pins = (Pin ∷ [], 0x10) ∷ (times 4 (cell 10953) ++ Pin ∷ [], 4) ∷ []
+
+pub spells-hold : found (spells ++ delays ++ pins) ≡ wanted (spells ++ delays ++ pins)
 unfolding stepped happened fits outed settingsWith shownWith balanceWith addressed fed checked storedAt rule over under beyond
-delays = refl
+spells-hold = refl
 
 -- ── with CRC on: EA is the CRC of 10 05 03, and with another nothing is driven ──
 pub guarded-writes : (
