@@ -169,14 +169,12 @@ unfolding stepped happened fits outed settingsWith shownWith balanceWith address
 spells-hold = refl
 
 -- ── with CRC on: EA is the CRC of 10 05 03, and with another nothing is driven ──
-pub guarded-writes : (
-    ran (inShip guarded) (Boot ∷ write 0x05 0x03 ++ out 0xEA ∷ []) .registers .shown .chg
-    ∷ ran (inShip guarded) (Boot ∷ write 0x05 0x03 ++ out 0xEB ∷ []) .registers .shown .chg
-    ∷ ran (inShip guarded) (Boot ∷ write 0x05 0x03) .registers .shown .chg
-    ∷ []
-    ) ≡ true ∷ false ∷ false ∷ []
+abbrev charges : List Event → Bool
+charges es = ran (inShip guarded) (Boot ∷ write 0x05 0x03 ++ es) .registers .shown .chg
+
+pub guarded-writes : (charges (out 0xEA ∷ []) ≡ true) × (charges (out 0xEB ∷ []) ≡ false) × (charges [] ≡ false)
 unfolding stepped happened fits outed settingsWith shownWith balanceWith byteOn addressed fed checked storedAt
-guarded-writes = refl
+guarded-writes = (refl, refl, refl)
 
 -- ── a pair's low byte is of the value whose high byte was given: 1F 10, though 0 is stored between ──
 pub pairs : entries (ran (inShip plain) (Boot ∷ cell 0x1F10 ∷ OnBus Start ∷ out 0x10 ∷ out 0x0C ∷ OnBus Start ∷ out 0x11 ∷ [])) (read ∷ cell 0 ∷ read ∷ [])
