@@ -29,7 +29,7 @@ module _ (u : Setup) where
   done [] = []
   done (e ∷ past) = cond (isDone past e) (e ∷ done past) (done past)
 
-  refuses : (past : List Event) (e : Event) → isDone past e ≡ false → stepped e (chip u past) .number ≡ 0 → ⊥
+  pub refuses : (past : List Event) (e : Event) → isDone past e ≡ false → stepped e (chip u past) .number ≡ 0 → ⊥
   refuses past e h n = true≢false (sym (eq-eqb (stepped e (chip u past) .number) 0 n) ∙ h)
 
   pub aside : (past : List Event) → chip u (done past) ≡ chip u past
@@ -77,10 +77,10 @@ module _ (u : Setup) where
       by false h same = same ∙ sym (refused-silent k past e h)
 
   -- ── the code's events, each with the counts beside it ──
-  abbrev pub Given : Type 0
-  Given = Coded × Counts
+  abbrev pub CodeEvent : Type 0
+  CodeEvent = Coded × Counts
 
-  unfoldable pub chipBy : List Given → Chip
+  unfoldable pub chipBy : List CodeEvent → Chip
   chipBy [] = inShip u
   chipBy (g ∷ past) = steppedBy (g .0) (g .1) (chipBy past) .chip
 
@@ -89,12 +89,12 @@ module _ (u : Setup) where
   withMeant unfit past = past
 
   -- what they mean, those that do not fit the part left out
-  unfoldable pub meant : List Given → List Event
+  unfoldable pub meant : List CodeEvent → List Event
   meant [] = []
   meant (g ∷ past) = withMeant (meantOf u (g .0) (g .1)) (meant past)
 
   -- so every claim over the events of the definitions is one over the events of the code
-  pub coded : (past : List Given) → chipBy past ≡ chip u (meant past)
+  pub coded : (past : List CodeEvent) → chipBy past ≡ chip u (meant past)
   unfolding chipBy chip meant
   coded [] = refl
   coded (g ∷ past) =

@@ -189,6 +189,13 @@ module _ (u : Setup) where
   Latches = (k : Fault) (later past : List Event) → up k past ≡ true → StaysAwake later past → Uncleared k later past
       → (up k (later ++ past) ≡ true) × (alerted (later ++ past) ≡ true) × (drive k (later ++ past) ≡ false)
 
+  -- It goes down by a write of a one to it, and on entering SHIP.
+  abbrev pub Lowers : Type 0
+  Lowers = (k : Fault) (past : List Event) (e : Event) → clears k (wrote u (core past) e) ≡ true → up k (e ∷ past) ≡ false
+
+  abbrev pub DownInShip : Type 0
+  DownInShip = (k : Fault) (past : List Event) → core past .awake ≡ false → up k past ≡ false
+
   -- After a time at which the bit was up its drive is on only if some event since then is a write that asks for it and finds the bit down.
   abbrev pub OnAgainOnlyAsked : Type 0
   OnAgainOnlyAsked = (k : Fault) (later past : List Event) → up k past ≡ true → drive k (later ++ past) ≡ true → Asked k later past
@@ -199,4 +206,6 @@ module _ (u : Setup) where
     pub not-postponed : NotPostponed
     pub traffic-postpones-nothing : TrafficPostponesNothing
     pub latches : Latches
+    pub lowers : Lowers
+    pub down-in-ship : DownInShip
     pub on-again-only-asked : OnAgainOnlyAsked

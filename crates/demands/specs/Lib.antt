@@ -2,10 +2,12 @@ pub mod Demand
 pub mod Refused
 pub mod Told
 pub mod History
+pub mod Ship
 pub mod Latch
 pub mod Theorem
 pub mod Aside
 pub mod Readings
+pub mod Determined
 pub mod Checked
 pub mod Bare
 pub mod Examples

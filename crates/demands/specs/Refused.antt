@@ -40,15 +40,27 @@ asleep-refused (OnBus Stop) c h = refl
 asleep-refused (OnBus (Out b)) c h = refl
 asleep-refused (OnBus (In nack)) c h = refl
 
--- numbers 3 and 4
-pub refused : (e : Event) (c : Chip) → (stepped e c .number ≡ 0 → ⊥) → next e c ≡ c
-unfolding stepped happened
-refused e c h = by (fits e) (c .awake) h
+-- number 4, of an event whose values are in range, which the code's methods speak of
+pub refused-happened : (e : Event) (c : Chip) → (happened e c .number ≡ 0 → ⊥) → happened e c .chip ≡ c
+unfolding happened
+refused-happened e c h = by (c .awake) h
   where
-    by : (f a : Bool) → (cond f (cond a (normally e c) (asleep e c)) (quiet 3 c) .number ≡ 0 → ⊥) → cond f (cond a (normally e c) (asleep e c)) (quiet 3 c) .chip ≡ c
-    by true true h = absurd (h (normal-done e c))
-    by true false h = asleep-refused e c h
-    by false a h = refl
+    by : (a : Bool) → (cond a (normally e c) (asleep e c) .number ≡ 0 → ⊥) → cond a (normally e c) (asleep e c) .chip ≡ c
+    by true h = absurd (h (normal-done e c))
+    by false h = asleep-refused e c h
+
+pub in-range : (e : Event) (c : Chip) → fits e ≡ true → stepped e c ≡ happened e c
+unfolding stepped
+in-range e c f = rw f
+
+-- numbers 3 and 4, of any event
+pub refused : (e : Event) (c : Chip) → (stepped e c .number ≡ 0 → ⊥) → next e c ≡ c
+unfolding stepped
+refused e c h = by (fits e) h
+  where
+    by : (f : Bool) → (cond f (happened e c) (quiet 3 c) .number ≡ 0 → ⊥) → cond f (happened e c) (quiet 3 c) .chip ≡ c
+    by true h = refused-happened e c h
+    by false h = refl
 
 -- and 2, of the code's event with the counts beside it
 pub refused-by : (e : Coded) (k : Counts) (c : Chip) → (steppedBy e k c .number ≡ 0 → ⊥) → steppedBy e k c .chip ≡ c

@@ -8,6 +8,8 @@ use Rattle.events.specs.declared.BusEvent.{BusEvent}
 use Rattle.events.specs.Event.{Event, OnBus, fits}
 use Rattle.events.specs.Fault.{Fault, Ov, Uv, Scd, Ocd}
 use Rattle.registers.specs.declared.Shown.{Shown}
+use Rattle.registers.specs.State.{dark}
+use Rattle.registers.specs.Fault.{bitOf}
 use Rattle.protection.specs.Streak.{lastAll-is}
 use Rattle.protection.specs.Rule.{Rule, rule, opinion, any}
 use Rattle.chip.specs.declared.Chip.{Chip}
@@ -15,8 +17,9 @@ use Rattle.chip.specs.declared.Stepped.{Stepped}
 use Rattle.chip.specs.Chip.{next}
 use Rattle.chip.specs.Core.{Core, bare}
 use Rattle.chip.specs.Moves.{normal-is, next-by, asleep-by}
-use Rattle.demands.specs.Demand.{judges, wrote, enables, traffic, chip, shown, up, drive, Accepted, core, standing, Awake, said, verdicts, delay, StaysAwake, Unjudged, Uncleared, Asked, Rises, NothingElseRaises, NotPostponed, TrafficPostponesNothing, Latches, OnAgainOnlyAsked, ThirdDemand}
+use Rattle.demands.specs.Demand.{judges, wrote, clears, enables, traffic, chip, shown, up, drive, Accepted, core, standing, Awake, said, verdicts, delay, StaysAwake, Unjudged, Uncleared, Asked, Rises, NothingElseRaises, NotPostponed, TrafficPostponesNothing, Latches, Lowers, DownInShip, OnAgainOnlyAsked, ThirdDemand}
 use Rattle.demands.specs.Refused.{normal-done}
+use Rattle.demands.specs.Ship.{in-ship-is}
 use Rattle.demands.specs.Told.{says-one}
 use Rattle.demands.specs.History.{setup-is, core-is, awake-is, accepted-fits, verdicts-are, delay-is, rises}
 use Rattle.demands.specs.Latch.{Keeps, next-keeps, alert-up}
@@ -97,15 +100,32 @@ module _ (u : Setup) where
   off : (k : Fault) (past : List Event) → up u k past ≡ true → drive u k past ≡ false
   off k past p = rw p at (off-while-up k past)
 
+  pub stays : (k : Fault) (past : List Event) (e : Event) → core u (e ∷ past) .awake ≡ true → up u k past ≡ true → clears k (wrote u (core u past) e) ≡ false → up u k (e ∷ past) ≡ true
+  unfolding Keeps
+  stays k past e a p h = one k past e .stays a p h
+
   stays-up : (k : Fault) (later past : List Event) → up u k past ≡ true → StaysAwake u later past → Uncleared u k later past → up u k (later ++ past) ≡ true
-  unfolding StaysAwake Uncleared Keeps
+  unfolding StaysAwake Uncleared
   stays-up k [] past p a h = p
-  stays-up k (e ∷ later) past p a h = one k (later ++ past) e .stays (a .1) (stays-up k later past p (a .0) (h .0)) (h .1)
+  stays-up k (e ∷ later) past p a h = stays k (later ++ past) e (a .1) (stays-up k later past p (a .0) (h .0)) (h .1)
 
   pub latched : Latches u
   latched k later past p a h =
       let v : up u k (later ++ past) ≡ true = stays-up k later past p a h in
       (v, alert-up k (shown u (later ++ past) .status) v, off k (later ++ past) v)
+
+  pub lowers : Lowers u
+  unfolding Keeps
+  lowers k past e h = one k past e .down h
+
+  pub down-in-ship : DownInShip u
+  down-in-ship k past a = ap (λ c. bitOf k (c .registers .shown .status)) (in-ship-is u past (awake-is u past ∙ a)) ∙ dark-down k
+    where
+      dark-down : (k : Fault) → bitOf k (dark .status) ≡ false
+      dark-down Ov = refl
+      dark-down Uv = refl
+      dark-down Scd = refl
+      dark-down Ocd = refl
 
   -- off, it comes on only by a write that asks for it and finds the bit down
   pub comes-back : (k : Fault) (past : List Event) (e : Event) → drive u k past ≡ false → drive u k (e ∷ past) ≡ true
@@ -137,5 +157,7 @@ third u =
       not-postponed = not-postponed u;
       traffic-postpones-nothing = traffic-postpones-nothing u;
       latches = latched u;
+      lowers = lowers u;
+      down-in-ship = down-in-ship u;
       on-again-only-asked = on-again-only-asked u;
     }
