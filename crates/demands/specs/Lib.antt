@@ -12,3 +12,7 @@ pub mod Checked
 pub mod Bare
 pub mod Examples
 pub mod Given
+pub mod Clearing
+pub mod Spoiled
+pub mod Opened
+pub mod NoTrace
