@@ -1,0 +1,107 @@
+-- DEMAND 3, refused events left aside: the events that were done, by themselves, leave the same chip and the same verdicts. And the same of the
+-- code's events, whose counts may not fit. Assumes nothing.
+use mathlib.Core.Path.{_≡_, refl, sym, ap, _∙_}
+use mathlib.Core.Bool.{Bool, true, false, cond, true≢false}
+use mathlib.Core.List.{List, [], _∷_, _++_}
+use lib.Dec.{eqb}
+use borrow.Author.Tests.{eq-eqb}
+use Rattle.events.specs.declared.Setup.{Setup}
+use Rattle.events.specs.declared.Counts.{Counts}
+use Rattle.events.specs.declared.Event.{Event as Coded}
+use Rattle.events.specs.Event.{Event, fits, Meant, means, unfit, meantOf}
+use Rattle.events.specs.Fault.{Fault}
+use Rattle.protection.specs.Rule.{rule, opinion}
+use Rattle.chip.specs.declared.Chip.{Chip}
+use Rattle.chip.specs.declared.Stepped.{Stepped}
+use Rattle.chip.specs.Chip.{inShip, stepped, next, steppedAs, steppedBy}
+use Rattle.chip.specs.Core.{Core, coreOf, coreNext}
+use Rattle.chip.specs.Moves.{normal-is}
+use Rattle.demands.specs.Demand.{chip, core, verdicts}
+use Rattle.demands.specs.Refused.{normal-done, refused}
+use Rattle.demands.specs.History.{setup-is, core-is, awake-is, asleep-none}
+
+module _ (u : Setup) where
+  abbrev pub isDone : List Event → Event → Bool
+  isDone past e = eqb (stepped e (chip u past) .number) 0
+
+  -- the events that were done
+  unfoldable pub done : List Event → List Event
+  done [] = []
+  done (e ∷ past) = cond (isDone past e) (e ∷ done past) (done past)
+
+  pub refuses : (past : List Event) (e : Event) → isDone past e ≡ false → stepped e (chip u past) .number ≡ 0 → ⊥
+  refuses past e h n = true≢false (sym (eq-eqb (stepped e (chip u past) .number) 0 n) ∙ h)
+
+  pub aside : (past : List Event) → chip u (done past) ≡ chip u past
+  unfolding chip done
+  aside [] = refl
+  aside (e ∷ past) = by (isDone past e) refl (aside past)
+    where
+      by : (b : Bool) → isDone past e ≡ b → chip u (done past) ≡ chip u past → chip u (cond b (e ∷ done past) (done past)) ≡ next e (chip u past)
+      by true h same = ap (next e) same
+      by false h same = same ∙ sym (refused e (chip u past) (refuses past e h))
+
+  core-aside : (past : List Event) → core u (done past) ≡ core u past
+  core-aside past = sym (core-is u (done past)) ∙ ap coreOf (aside past) ∙ core-is u past
+
+  -- a refused event adds no verdict and ends no spell
+  done-awake : (past : List Event) (e : Event) → isDone past e ≡ false → core u past .awake ≡ true → fits e ≡ true → ⊥
+  done-awake past e h a f = refuses past e h (ap (λ s. s .number) (normal-is e (chip u past) f (awake-is u past ∙ a)) ∙ normal-done e (chip u past))
+
+  refused-core : (past : List Event) (e : Event) → isDone past e ≡ false → core u (e ∷ past) ≡ core u past
+  unfolding chip
+  refused-core past e h = sym (core-is u (e ∷ past)) ∙ ap coreOf (refused e (chip u past) (refuses past e h)) ∙ core-is u past
+
+  refused-silent : (k : Fault) (past : List Event) (e : Event) → isDone past e ≡ false → verdicts u k (e ∷ past) ≡ verdicts u k past
+  unfolding verdicts
+  refused-silent k past e h = rw (refused-core past e h) (by (core u past .awake) (fits e) (done-awake past e h) (asleep-none u k past))
+    where
+      by : (a f : Bool) → (a ≡ true → f ≡ true → ⊥) → (a ≡ false → verdicts u k past ≡ [])
+          → cond a (cond f (opinion k (u .floor) (rule k (core u past .settings)) e) [] ++ verdicts u k past) [] ≡ verdicts u k past
+      by true true n s = absurd (n refl refl)
+      by true false n s = refl
+      by false f n s = sym (s refl)
+
+  pub verdicts-aside : (k : Fault) (past : List Event) → verdicts u k (done past) ≡ verdicts u k past
+  unfolding done verdicts core
+  verdicts-aside k [] = refl
+  verdicts-aside k (e ∷ past) = by (isDone past e) refl (verdicts-aside k past)
+    where
+      said-aside : verdicts u k (done past) ≡ verdicts u k past → verdicts u k (e ∷ done past) ≡ verdicts u k (e ∷ past)
+      said-aside same =
+          λ i. cond (coreNext u e (core-aside past i) .awake) (cond (fits e) (opinion k (u .floor) (rule k (core-aside past i .settings)) e) [] ++ same i) []
+
+      by : (b : Bool) → isDone past e ≡ b → verdicts u k (done past) ≡ verdicts u k past
+          → verdicts u k (cond b (e ∷ done past) (done past)) ≡ verdicts u k (e ∷ past)
+      by true h same = said-aside same
+      by false h same = same ∙ sym (refused-silent k past e h)
+
+  -- ── the code's events, each with the counts beside it ──
+  abbrev pub CodeEvent : Type 0
+  CodeEvent = Coded × Counts
+
+  unfoldable pub chipBy : List CodeEvent → Chip
+  chipBy [] = inShip u
+  chipBy (g ∷ past) = steppedBy (g .0) (g .1) (chipBy past) .chip
+
+  abbrev pub withMeant : Meant → List Event → List Event
+  withMeant (means e) past = e ∷ past
+  withMeant unfit past = past
+
+  -- what they mean, those that do not fit the part left out
+  unfoldable pub meant : List CodeEvent → List Event
+  meant [] = []
+  meant (g ∷ past) = withMeant (meantOf u (g .0) (g .1)) (meant past)
+
+  -- so every claim over the events of the definitions is one over the events of the code
+  pub coded : (past : List CodeEvent) → chipBy past ≡ chip u (meant past)
+  unfolding chipBy chip meant
+  coded [] = refl
+  coded (g ∷ past) =
+      (λ i. steppedAs (meantOf (coded past i .setup) (g .0) (g .1)) (coded past i) .chip)
+      ∙ (λ i. steppedAs (meantOf (setup-is u (meant past) i) (g .0) (g .1)) (chip u (meant past)) .chip)
+      ∙ by (meantOf u (g .0) (g .1))
+    where
+      by : (m : Meant) → steppedAs m (chip u (meant past)) .chip ≡ chip u (withMeant m (meant past))
+      by (means e) = refl
+      by unfit = refl

@@ -1,0 +1,189 @@
+-- Document 01's worked stream and both sides of its lines, over the whole chip, by computation. Assumes nothing.
+use mathlib.Core.Path.{_≡_, refl}
+use mathlib.Core.Bool.{Bool, true, false}
+use mathlib.Core.List.{List, [], _∷_, _++_}
+use Prim.Native.Nat.{ℕ}
+use lib.ListN.{replicate}
+use lib.IntN.{pos, negℤ}
+use Rattle.crc8.specs.Crc.{byteOn}
+use Rattle.events.specs.declared.Setup.{Setup}
+use Rattle.events.specs.declared.BusEvent.the-variants.{Start, Stop, Out, In}
+use Rattle.events.specs.Setup.{groups, inputs}
+use Rattle.events.specs.Event.{Event, Por, Boot, Pin, Xready, Scan, Sense, OnBus, fits}
+use Rattle.bus.specs.Bus.{addressed, fed, checked, outed, taken, given, owing, afterData, afterSum, keeps}
+use Rattle.settings.specs.Write.{settingsWith}
+use Rattle.settings.specs.Read.{settingsByte}
+use Rattle.registers.specs.State.{alert}
+use Rattle.registers.specs.Write.{shownWith, balanceWith}
+use Rattle.registers.specs.Read.{statusByte, readAt, lowByte, balanceByte, half, wordAt, fixedByte}
+use Rattle.protection.specs.Rule.{rule, over, under, beyond}
+use Rattle.chip.specs.declared.Chip.{Chip}
+use Rattle.chip.specs.declared.Stepped.{Stepped}
+use Rattle.chip.specs.Chip.{storedAt, inShip, happened, stepped, next}
+use Rattle.demands.specs.Checked.{ran}
+
+-- ── what an entry shows: number, bus flag and byte, SYS_STAT, pins (ALERT 4, CHG 2, DSG 1) ──
+pub record Entry : Type 0 where
+  pub number : ℕ
+  pub flag : Bool
+  pub byte : ℕ
+  pub status : ℕ
+  pub alerts : Bool
+  pub chg : Bool
+  pub dsg : Bool
+
+abbrev entry : Stepped → Entry
+entry s =
+    record {
+      number = s .number;
+      flag = s .flag;
+      byte = s .byte;
+      status = statusByte (s .chip .registers .shown .status);
+      alerts = alert (s .chip .registers .shown .status);
+      chg = s .chip .registers .shown .chg;
+      dsg = s .chip .registers .shown .dsg;
+    }
+
+-- the entries of events as they come
+abbrev entries : Chip → List Event → List Entry
+entries c [] = []
+entries c (e ∷ es) = entry (stepped e c) ∷ entries (next e c) es
+
+abbrev quietly : ℕ → Entry
+quietly n = record { number = n; flag = false; byte = 0; status = 0; alerts = false; chg = false; dsg = false }
+
+abbrev gave : ℕ → Entry
+gave b = record { number = 0; flag = true; byte = b; status = 0; alerts = false; chg = false; dsg = false }
+
+-- SYS_STAT after these events
+abbrev status : Setup → List Event → ℕ
+status u es = statusByte (ran (inShip u) es .registers .shown .status)
+
+-- ── the setups and the frames ──
+abbrev plain : Setup
+plain = record { part = 1; crc = false; address = 8; gain = 10; offset = 30; floor = 1000 }
+
+abbrev guarded : Setup
+guarded = record { part = 1; crc = true; address = 8; gain = 10; offset = 30; floor = 1000 }
+
+abbrev out : ℕ → Event
+out b = OnBus (Out b)
+
+abbrev read : Event
+read = OnBus (In false)
+
+-- write v at a
+abbrev write : ℕ → ℕ → List Event
+write a v = OnBus Start ∷ out 0x10 ∷ out a ∷ out v ∷ []
+
+-- a scan whose other cells are neither over nor under; times over
+abbrev cell : ℕ → Event
+cell x = Scan (x ∷ 9000 ∷ 9000 ∷ 9000 ∷ 9000 ∷ [])
+
+abbrev tick : ℕ → Event
+tick drop = Sense (negℤ (pos drop))
+
+abbrev times : ℕ → Event → List Event
+times n e = replicate n e
+
+-- ── the stream that document 01 prints ──
+pub printed : entries (inShip plain) (Boot ∷ write 0x05 0x03 ++ OnBus Stop ∷ Xready ∷ [])
+    ≡ quietly 0
+    ∷ quietly 0
+    ∷ gave 0
+    ∷ gave 0
+    ∷ record { number = 0; flag = true; byte = 0; status = 0; alerts = false; chg = true; dsg = true }
+    ∷ record { number = 0; flag = false; byte = 0; status = 0; alerts = false; chg = true; dsg = true }
+    ∷ record { number = 0; flag = false; byte = 0; status = 0x20; alerts = true; chg = false; dsg = false }
+    ∷ []
+unfolding stepped happened fits outed settingsWith shownWith balanceWith addressed fed checked storedAt
+printed = refl
+
+-- ── cases: events after BOOT, and the SYS_STAT that they leave (UV 8, OV 4, SCD 2, OCD 1) ──
+abbrev pub Case : Type 0
+Case = List Event × ℕ
+
+abbrev found : List Case → List ℕ
+found [] = []
+found (c ∷ cs) = status plain (Boot ∷ c .0) ∷ found cs
+
+abbrev wanted : List Case → List ℕ
+wanted [] = []
+wanted (c ∷ cs) = c .1 ∷ wanted cs
+
+-- both sides of each line
+abbrev pub lines : List Case
+lines =
+    (times 4 (cell 10952), 0)
+    ∷ (times 3 (cell 10953), 0)
+    ∷ (times 4 (cell 10953), 4)
+    ∷ (times 4 (cell 6512), 0)
+    ∷ (times 3 (cell 6511), 0)
+    ∷ (times 4 (cell 6511), 8)
+    ∷ (times 4 (cell 1000), 8)
+    ∷ (times 4 (cell 999), 0)
+    ∷ (times 3 (tick 18500), 0)
+    ∷ (times 2 (tick 18501), 0)
+    ∷ (times 3 (tick 18501), 2)
+    ∷ (times 256 (tick 9500), 0)
+    ∷ (times 255 (tick 9501), 0)
+    ∷ (times 256 (tick 9501), 1)
+    ∷ []
+
+pub lines-hold : found lines ≡ wanted lines
+unfolding stepped happened fits rule over under beyond
+lines-hold = refl
+
+-- what ends a run, and what does not: three over scans, the named events, then one over scan
+abbrev between : List Event → List Event
+between es = times 3 (cell 10953) ++ es ++ cell 10953 ∷ []
+
+abbrev pub spells : List Case
+spells =
+    (between (cell 10952 ∷ []), 0)
+    ∷ (between (Por ∷ Boot ∷ []), 0)
+    ∷ (between (write 0x04 0x11 ++ write 0x04 0x12 ++ Boot ∷ []), 0)
+    ∷ (between (write 0x04 0x00 ++ cell 10953 ∷ write 0x04 0x10), 0)
+    ∷ (between (Boot ∷ []), 4)
+    ∷ (between (cell 16384 ∷ []), 4)
+    ∷ (between (write 0x04 0x00 ++ write 0x04 0x10), 4)
+    ∷ (between (write 0x00 0xFF), 4)
+    ∷ (between (cell 10953 ∷ write 0x00 0xFF), 4)
+    ∷ []
+
+-- with DELAY_DIS one scan is enough, not one tick; a longer delay asks for eight scans
+abbrev pub delays : List Case
+delays =
+    (write 0x05 0x80 ++ cell 10953 ∷ [], 4)
+    ∷ (write 0x05 0x80 ++ times 2 (tick 18501), 0)
+    ∷ (write 0x08 0x10 ++ times 7 (cell 10953), 0)
+    ∷ (write 0x08 0x10 ++ times 8 (cell 10953), 4)
+    ∷ []
+
+-- PIN with SYS_STAT 0, and with OV up
+abbrev pub pins : List Case
+pins = (Pin ∷ [], 0x10) ∷ (times 4 (cell 10953) ++ Pin ∷ [], 4) ∷ []
+
+pub spells-hold : found (spells ++ delays ++ pins) ≡ wanted (spells ++ delays ++ pins)
+unfolding stepped happened fits outed settingsWith shownWith balanceWith addressed fed checked storedAt rule over under beyond
+spells-hold = refl
+
+-- ── with CRC on: EA is the CRC of 10 05 03, and with another nothing is driven ──
+abbrev charges : List Event → Bool
+charges es = ran (inShip guarded) (Boot ∷ write 0x05 0x03 ++ es) .registers .shown .chg
+
+pub guarded-writes : (charges (out 0xEA ∷ []) ≡ true) × (charges (out 0xEB ∷ []) ≡ false) × (charges [] ≡ false)
+unfolding stepped happened fits outed settingsWith shownWith balanceWith byteOn addressed fed checked storedAt
+guarded-writes = (refl, refl, refl)
+
+-- ── a pair's low byte is of the value whose high byte was given: 1F 10, though 0 is stored between ──
+pub pairs : entries (ran (inShip plain) (Boot ∷ cell 0x1F10 ∷ OnBus Start ∷ out 0x10 ∷ out 0x0C ∷ OnBus Start ∷ out 0x11 ∷ [])) (read ∷ cell 0 ∷ read ∷ [])
+    ≡ gave 0x1F ∷ quietly 0 ∷ gave 0x10 ∷ []
+unfolding stepped happened fits outed taken given owing readAt lowByte balanceByte half wordAt fixedByte settingsByte groups inputs byteOn rule over under addressed fed checked afterData afterSum keeps storedAt
+pairs = refl
+
+-- ── the byte that ships is acknowledged; then the bus is idle and XREADY is refused with 4 ──
+pub shipping : entries (ran (inShip plain) (Boot ∷ write 0x04 0x11 ++ OnBus Start ∷ out 0x10 ∷ out 0x04 ∷ [])) (out 0x12 ∷ out 0x00 ∷ Xready ∷ [])
+    ≡ gave 0 ∷ gave 1 ∷ quietly 4 ∷ []
+unfolding stepped happened fits outed settingsWith shownWith balanceWith byteOn addressed fed checked storedAt
+shipping = refl

@@ -1,0 +1,71 @@
+-- DEMAND 1: a refused event leaves the chip as it stood, whatever its number; of the definitions' events and of the code's. Assumes nothing.
+use mathlib.Core.Path.{_≡_, refl}
+use mathlib.Core.Bool.{Bool, true, false, cond}
+use Rattle.events.specs.declared.Counts.{Counts}
+use Rattle.events.specs.declared.BusEvent.the-variants.{Start, Stop, Out, In}
+use Rattle.events.specs.declared.Event.{Event as Coded}
+use Rattle.events.specs.Event.{Event, Por, Boot, Pin, Xready, Scan, Temp, Count, Sense, Load, OnBus, fits, Meant, means, unfit, meantOf}
+use Rattle.chip.specs.declared.Chip.{Chip}
+use Rattle.chip.specs.declared.Stepped.{Stepped}
+use Rattle.chip.specs.Chip.{quiet, normally, asleep, happened, stepped, next, steppedAs, steppedBy}
+
+-- in NORMAL nothing in range is refused
+pub normal-done : (e : Event) (c : Chip) → normally e c .number ≡ 0
+normal-done Por c = refl
+normal-done Boot c = refl
+normal-done Pin c = refl
+normal-done Xready c = refl
+normal-done (Scan xs) c = refl
+normal-done (Temp xs) c = refl
+normal-done (Count n) c = refl
+normal-done (Sense v) c = refl
+normal-done (Load l) c = refl
+normal-done (OnBus Start) c = refl
+normal-done (OnBus Stop) c = refl
+normal-done (OnBus (Out b)) c = refl
+normal-done (OnBus (In nack)) c = refl
+
+asleep-refused : (e : Event) (c : Chip) → (asleep e c .number ≡ 0 → ⊥) → asleep e c .chip ≡ c
+asleep-refused Por c h = absurd (h refl)
+asleep-refused Boot c h = absurd (h refl)
+asleep-refused Pin c h = refl
+asleep-refused Xready c h = refl
+asleep-refused (Scan xs) c h = refl
+asleep-refused (Temp xs) c h = refl
+asleep-refused (Count n) c h = refl
+asleep-refused (Sense v) c h = refl
+asleep-refused (Load l) c h = refl
+asleep-refused (OnBus Start) c h = refl
+asleep-refused (OnBus Stop) c h = refl
+asleep-refused (OnBus (Out b)) c h = refl
+asleep-refused (OnBus (In nack)) c h = refl
+
+-- number 4, of an event whose values are in range, which the code's methods speak of
+pub refused-happened : (e : Event) (c : Chip) → (happened e c .number ≡ 0 → ⊥) → happened e c .chip ≡ c
+unfolding happened
+refused-happened e c h = by (c .awake) h
+  where
+    by : (a : Bool) → (cond a (normally e c) (asleep e c) .number ≡ 0 → ⊥) → cond a (normally e c) (asleep e c) .chip ≡ c
+    by true h = absurd (h (normal-done e c))
+    by false h = asleep-refused e c h
+
+pub in-range : (e : Event) (c : Chip) → fits e ≡ true → stepped e c ≡ happened e c
+unfolding stepped
+in-range e c f = rw f
+
+-- numbers 3 and 4, of any event
+pub refused : (e : Event) (c : Chip) → (stepped e c .number ≡ 0 → ⊥) → next e c ≡ c
+unfolding stepped
+refused e c h = by (fits e) h
+  where
+    by : (f : Bool) → (cond f (happened e c) (quiet 3 c) .number ≡ 0 → ⊥) → cond f (happened e c) (quiet 3 c) .chip ≡ c
+    by true h = refused-happened e c h
+    by false h = refl
+
+-- and 2, of the code's event with the counts beside it
+pub refused-by : (e : Coded) (k : Counts) (c : Chip) → (steppedBy e k c .number ≡ 0 → ⊥) → steppedBy e k c .chip ≡ c
+refused-by e k c = by (meantOf (c .setup) e k)
+  where
+    by : (m : Meant) → (steppedAs m c .number ≡ 0 → ⊥) → steppedAs m c .chip ≡ c
+    by (means e) h = refused e c h
+    by unfit h = refl
