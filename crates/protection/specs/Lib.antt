@@ -4,3 +4,4 @@ pub mod Rule
 pub mod Sag
 pub mod Judged
 pub mod Tables
+pub mod Laws

@@ -8,13 +8,13 @@ use borrow.Author.Tests.{eqb-true, ltb-true, ne-eqb}
 use Rattle.events.specs.declared.Setup.{Setup}
 use Rattle.events.specs.Setup.{groups}
 use Rattle.settings.specs.declared.Settings.{Settings}
-use Rattle.settings.specs.Write.{settingsWith}
+use Rattle.settings.specs.Write.{protect1Of, protect2Of, protect3Of, cfgOf, settingsWith}
 use Rattle.settings.specs.Read.{settingsByte}
 use Rattle.registers.specs.declared.Shown.{Shown}
 use Rattle.registers.specs.declared.Balance.{Balance}
 use Rattle.registers.specs.declared.Registers.{Registers}
 use Rattle.registers.specs.State.{withStatus}
-use Rattle.registers.specs.Write.{statusOf, without, driven, shownWith, balanceWith, written}
+use Rattle.registers.specs.Write.{statusOf, without, driven, fiveOf, shownWith, balanceWith, written}
 use Rattle.registers.specs.Read.{statusByte, ctrl1Byte, ctrl2Byte, balanceByte, lowByte, readAt}
 use Rattle.settings.specs.Laws.{cond-by, settings-by, clash}
 
@@ -59,7 +59,7 @@ module _ (u : Setup) (a v : ℕ) (r : Registers) where
       cond-by P (eqb a 0x01 && leb 1 (groups u)) (clash-and (leb 1 (groups u)) (differ 0x01 h)) (cond-by P (eqb a 0x02 && leb 2 (groups u)) (λ e. refl) (cond-by P (eqb a 0x03 && leb 3 (groups u)) (λ e. refl) refl))
     where
       P : Balance → Type 0
-      P t = cond (leb 1 (groups u)) (t .one) 0 ≡ cond (leb 1 (groups u)) (r .balance .one) 0
+      P t = cond (leb 1 (groups u)) (fiveOf (t .one)) 0 ≡ cond (leb 1 (groups u)) (fiveOf (r .balance .one)) 0
 
   still-2 : Still 0x02
   unfolding readAt lowByte balanceByte balanceWith
@@ -67,7 +67,7 @@ module _ (u : Setup) (a v : ℕ) (r : Registers) where
       cond-by P (eqb a 0x01 && leb 1 (groups u)) (λ e. refl) (cond-by P (eqb a 0x02 && leb 2 (groups u)) (clash-and (leb 2 (groups u)) (differ 0x02 h)) (cond-by P (eqb a 0x03 && leb 3 (groups u)) (λ e. refl) refl))
     where
       P : Balance → Type 0
-      P t = cond (leb 2 (groups u)) (t .two) 0 ≡ cond (leb 2 (groups u)) (r .balance .two) 0
+      P t = cond (leb 2 (groups u)) (fiveOf (t .two)) 0 ≡ cond (leb 2 (groups u)) (fiveOf (r .balance .two)) 0
 
   still-3 : Still 0x03
   unfolding readAt lowByte balanceByte balanceWith
@@ -75,7 +75,7 @@ module _ (u : Setup) (a v : ℕ) (r : Registers) where
       cond-by P (eqb a 0x01 && leb 1 (groups u)) (λ e. refl) (cond-by P (eqb a 0x02 && leb 2 (groups u)) (λ e. refl) (cond-by P (eqb a 0x03 && leb 3 (groups u)) (clash-and (leb 3 (groups u)) (differ 0x03 h)) refl))
     where
       P : Balance → Type 0
-      P t = cond (leb 3 (groups u)) (t .three) 0 ≡ cond (leb 3 (groups u)) (r .balance .three) 0
+      P t = cond (leb 3 (groups u)) (fiveOf (t .three)) 0 ≡ cond (leb 3 (groups u)) (fiveOf (r .balance .three)) 0
 
   -- the registers with other settings and another thing shown
   abbrev of : Settings → Shown → Registers
@@ -95,15 +95,15 @@ module _ (u : Setup) (a v : ℕ) (r : Registers) where
 
   still-6 : Still 0x06
   unfolding readAt lowByte settingsByte
-  still-6 h g = settings-by (λ t. t .protect1 ≡ r .settings .protect1) a v (r .settings) (λ e. refl) (λ e. refl) (clash (differ 0x06 h)) (λ e. refl) (λ e. refl) (λ e. refl) (λ e. refl) (λ e. refl) refl
+  still-6 h g = settings-by (λ t. protect1Of (t .protect1) ≡ protect1Of (r .settings .protect1)) a v (r .settings) (λ e. refl) (λ e. refl) (clash (differ 0x06 h)) (λ e. refl) (λ e. refl) (λ e. refl) (λ e. refl) (λ e. refl) refl
 
   still-7 : Still 0x07
   unfolding readAt lowByte settingsByte
-  still-7 h g = settings-by (λ t. t .protect2 ≡ r .settings .protect2) a v (r .settings) (λ e. refl) (λ e. refl) (λ e. refl) (clash (differ 0x07 h)) (λ e. refl) (λ e. refl) (λ e. refl) (λ e. refl) refl
+  still-7 h g = settings-by (λ t. protect2Of (t .protect2) ≡ protect2Of (r .settings .protect2)) a v (r .settings) (λ e. refl) (λ e. refl) (λ e. refl) (clash (differ 0x07 h)) (λ e. refl) (λ e. refl) (λ e. refl) (λ e. refl) refl
 
   still-8 : Still 0x08
   unfolding readAt lowByte settingsByte
-  still-8 h g = settings-by (λ t. t .protect3 ≡ r .settings .protect3) a v (r .settings) (λ e. refl) (λ e. refl) (λ e. refl) (λ e. refl) (clash (differ 0x08 h)) (λ e. refl) (λ e. refl) (λ e. refl) refl
+  still-8 h g = settings-by (λ t. protect3Of (t .protect3) ≡ protect3Of (r .settings .protect3)) a v (r .settings) (λ e. refl) (λ e. refl) (λ e. refl) (λ e. refl) (clash (differ 0x08 h)) (λ e. refl) (λ e. refl) (λ e. refl) refl
 
   still-9 : Still 0x09
   unfolding readAt lowByte settingsByte
@@ -115,7 +115,7 @@ module _ (u : Setup) (a v : ℕ) (r : Registers) where
 
   still-B : Still 0x0B
   unfolding readAt lowByte settingsByte
-  still-B h g = settings-by (λ t. t .cfg ≡ r .settings .cfg) a v (r .settings) (λ e. refl) (λ e. refl) (λ e. refl) (λ e. refl) (λ e. refl) (λ e. refl) (λ e. refl) (clash (differ 0x0B h)) refl
+  still-B h g = settings-by (λ t. cfgOf (t .cfg) ≡ cfgOf (r .settings .cfg)) a v (r .settings) (λ e. refl) (λ e. refl) (λ e. refl) (λ e. refl) (λ e. refl) (λ e. refl) (λ e. refl) (clash (differ 0x0B h)) refl
 
   still-high : (b : ℕ) → ltb b 0x0C ≡ false → readAt u (written u a v r) b ≡ readAt u r b
   unfolding readAt

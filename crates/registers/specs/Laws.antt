@@ -93,15 +93,15 @@ pub data Plain (u : Setup) : ℕ → (ℕ → ℕ) → Type 0 where
 
 pub plain-back : {u : Setup} {a : ℕ} {bits : ℕ → ℕ} → Plain u a bits → (v : ℕ) (r : Registers) → readAt u (written u a v r) a ≡ bits v
 unfolding readAt lowByte balanceByte balanceWith settingsByte settingsWith
-plain-back {u} (cellbal1 h) v r = simp (le-leb 1 (groups u) h)
-plain-back {u} (cellbal2 h) v r = simp (le-leb 2 (groups u) h)
-plain-back {u} (cellbal3 h) v r = simp (le-leb 3 (groups u) h)
-plain-back protect1 v r = refl
-plain-back protect2 v r = refl
-plain-back protect3 v r = refl
+plain-back {u} (cellbal1 h) v r = simp (le-leb 1 (groups u) h) (omega arith)
+plain-back {u} (cellbal2 h) v r = simp (le-leb 2 (groups u) h) (omega arith)
+plain-back {u} (cellbal3 h) v r = simp (le-leb 3 (groups u) h) (omega arith)
+plain-back protect1 v r = omega arith
+plain-back protect2 v r = omega arith
+plain-back protect3 v r = omega arith
 plain-back ovTrip v r = refl
 plain-back uvTrip v r = refl
-plain-back ccCfg v r = refl
+plain-back ccCfg v r = omega arith
 
 -- and SYS_STAT holds what the ones written did not clear
 pub status-back : (u : Setup) (v : ℕ) (r : Registers) → readAt u (written u 0x00 v r) 0x00 ≡ statusByte (without (statusOf v) (r .shown .status))

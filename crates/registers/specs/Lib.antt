@@ -5,4 +5,5 @@ pub mod Fault
 pub mod Judging
 pub mod Laws
 pub mod Elsewhere
+pub mod Named
 pub mod Drives

@@ -11,17 +11,18 @@ use Rattle.registers.specs.declared.Status.{Status}
 use Rattle.registers.specs.declared.Balance.{Balance}
 use Rattle.registers.specs.declared.Measured.{Measured}
 use Rattle.registers.specs.declared.Registers.{Registers}
+use Rattle.registers.specs.Write.{fiveOf}
 
 -- 0x00 SYS_STAT: CC_READY 7, XREADY 5, OVRD_ALERT 4, UV 3, OV 2, SCD 1, OCD 0
 abbrev pub statusByte : Status → ℕ
 statusByte t = weighed (t .ready) 128 + weighed (t .xready) 32 + weighed (t .ovrd) 16 + weighed (t .uv) 8 + weighed (t .ov) 4 + weighed (t .scd) 2 + weighed (t .ocd) 1
 
--- 0x01 to 0x03 CELLBAL, for the inputs that the part has
+-- 0x01 to 0x03 CELLBAL: bits 4 to 0, for the inputs that the part has
 unfoldable pub balanceByte : Setup → Balance → ℕ → ℕ
 balanceByte u b a =
-    cond (eqb a 0x01 && leb 1 (groups u)) (b .one)
-    (cond (eqb a 0x02 && leb 2 (groups u)) (b .two)
-    (cond (eqb a 0x03 && leb 3 (groups u)) (b .three)
+    cond (eqb a 0x01 && leb 1 (groups u)) (fiveOf (b .one))
+    (cond (eqb a 0x02 && leb 2 (groups u)) (fiveOf (b .two))
+    (cond (eqb a 0x03 && leb 3 (groups u)) (fiveOf (b .three))
     0))
 
 -- 0x04 SYS_CTRL1: LOAD_PRESENT 7 (load level 1 and CHG_ON 0), ADC_EN 4, TEMP_SEL 3, the pair

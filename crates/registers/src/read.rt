@@ -28,13 +28,13 @@ impl Balance {
     {
         let groups = setup.groups();
         if (a == 0x01) & (1 <= groups) {
-            return self.one;
+            return self.one % 32;
         }
         if (a == 0x02) & (2 <= groups) {
-            return self.two;
+            return self.two % 32;
         }
         if (a == 0x03) & (3 <= groups) {
-            return self.three;
+            return self.three % 32;
         }
         0
     }

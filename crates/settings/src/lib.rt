@@ -3,7 +3,7 @@ ghost use mathlib.Core.Path.{_≡_};
 ghost use Prim.Native.Nat.{_≤_};
 ghost use Rattle.settings.specs.Bit.{bit as bitSpec, weighed};
 ghost use Rattle.settings.specs.State.{resetSettings};
-ghost use Rattle.settings.specs.Write.{ships as shipsSpec, settingsWith};
+ghost use Rattle.settings.specs.Write.{ships as shipsSpec, protect1Of, protect2Of, protect3Of, cfgOf, settingsWith};
 ghost use Rattle.settings.specs.Read.{settingsByte};
 
 pub struct Settings {
@@ -38,6 +38,31 @@ pub fn weigh(up: bool, w: u8) -> u8
     ensures { λ r. ⌜ (r ≡ weighed up w) × (r ≤ w) ⌝ }
 {
     if up { w } else { 0 }
+}
+
+// The bits that 0x06, 0x07, 0x08 and 0x0B have: the others are neither kept nor read.
+fn protect1_of(v: u8) -> u8
+    ensures { λ r. ⌜ r ≡ protect1Of v ⌝ }
+{
+    v / 128 * 128 + v % 32
+}
+
+fn protect2_of(v: u8) -> u8
+    ensures { λ r. ⌜ r ≡ protect2Of v ⌝ }
+{
+    v % 128
+}
+
+fn protect3_of(v: u8) -> u8
+    ensures { λ r. ⌜ r ≡ protect3Of v ⌝ }
+{
+    v / 16 * 16
+}
+
+fn cfg_of(v: u8) -> u8
+    ensures { λ r. ⌜ r ≡ cfgOf v ⌝ }
+{
+    v % 64
 }
 
 // The settings on entering SHIP.
@@ -84,15 +109,15 @@ impl Settings {
                 self
             }
             0x06 => Settings {
-                protect1: v / 128 * 128 + v % 32,
+                protect1: protect1_of(v),
                 ..self
             },
             0x07 => Settings {
-                protect2: v % 128,
+                protect2: protect2_of(v),
                 ..self
             },
             0x08 => Settings {
-                protect3: v / 16 * 16,
+                protect3: protect3_of(v),
                 ..self
             },
             0x09 => Settings {
@@ -104,7 +129,7 @@ impl Settings {
                 ..self
             },
             0x0B => Settings {
-                cfg: v % 64,
+                cfg: cfg_of(v),
                 ..self
             },
             _ => self,
@@ -116,12 +141,12 @@ impl Settings {
         ensures { λ r. ⌜ r ≡ settingsByte self a ⌝ }
     {
         match a {
-            0x06 => self.protect1,
-            0x07 => self.protect2,
-            0x08 => self.protect3,
+            0x06 => protect1_of(self.protect1),
+            0x07 => protect2_of(self.protect2),
+            0x08 => protect3_of(self.protect3),
             0x09 => self.overtrip,
             0x0A => self.undertrip,
-            0x0B => self.cfg,
+            0x0B => cfg_of(self.cfg),
             _ => 0,
         }
     }

@@ -6,15 +6,15 @@ use Rattle.registers.proofs.Balance.byte.Tie as tie
 
 returns : tie.Need-returns
 unfolding balanceByte
-returns c = simp (rw (c .before .groups .ensures) at (c .if1 .taken))
+returns c = simp (rw (c .before .before .groups .ensures) at (c .before .if1 .taken))
 
 returns-2 : tie.Need-returns-2
 unfolding balanceByte
-returns-2 c = simp (rw (c .before .before .groups .ensures) at (c .before .if1 .left), rw (c .before .before .groups .ensures) at (c .if2 .taken))
+returns-2 c = simp (rw (c .before .before .before .groups .ensures) at (c .before .before .if1 .left), rw (c .before .before .before .groups .ensures) at (c .before .if2 .taken))
 
 returns-3 : tie.Need-returns-3
 unfolding balanceByte
-returns-3 c = let g = c .before .before .before .groups .ensures in simp (rw g at (c .before .before .if1 .left), rw g at (c .before .if2 .left), rw g at (c .if3 .taken))
+returns-3 c = let g = c .before .before .before .before .groups .ensures in simp (rw g at (c .before .before .before .if1 .left), rw g at (c .before .before .if2 .left), rw g at (c .before .if3 .taken))
 
 returns-4 : tie.Need-returns-4
 unfolding balanceByte

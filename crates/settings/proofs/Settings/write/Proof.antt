@@ -7,7 +7,7 @@ use Rattle.settings.proofs.Settings.write.Tie as tie
 
 returns : tie.Need-returns
 unfolding settingsWith
-returns c = let u = c .before .before .before in simp (u .before .before .match .keys1, c .bit4 .ensures, c .before .bit3 .ensures, c .before .before .bit2 .ensures, u .bit .ensures)
+returns c = simp (c .before .before .before .before .before .match .keys1, c .bit4 .ensures, c .before .bit3 .ensures, c .before .before .bit2 .ensures, c .before .before .before .bit .ensures)
 
 returns-2 : tie.Need-returns-2
 unfolding settingsWith
@@ -15,15 +15,15 @@ returns-2 c = simp (c .before .before .match .keys2, c .bit6 .ensures, c .before
 
 returns-3 : tie.Need-returns-3
 unfolding settingsWith
-returns-3 c = simp (c .match .keys3)
+returns-3 c = simp (c .before .match .keys3, c .protect1-of .ensures)
 
 returns-4 : tie.Need-returns-4
 unfolding settingsWith
-returns-4 c = simp (c .match .keys4)
+returns-4 c = simp (c .before .match .keys4, c .protect2-of .ensures)
 
 returns-5 : tie.Need-returns-5
 unfolding settingsWith
-returns-5 c = simp (c .match .keys5)
+returns-5 c = simp (c .before .match .keys5, c .protect3-of .ensures)
 
 returns-6 : tie.Need-returns-6
 unfolding settingsWith
@@ -35,13 +35,11 @@ returns-7 c = simp (c .match .keys7)
 
 returns-8 : tie.Need-returns-8
 unfolding settingsWith
-returns-8 c = simp (c .match .keys8)
+returns-8 c = simp (c .before .match .keys8, c .cfg-of .ensures)
 
 returns-9 : tie.Need-returns-9
 unfolding settingsWith
-returns-9 c =
-    let r = c .match .rest in
-    simp (ne-eqb _ _ (r .1), ne-eqb _ _ (r .0 .1), ne-eqb _ _ (r .0 .0 .1), ne-eqb _ _ (r .0 .0 .0 .1), ne-eqb _ _ (r .0 .0 .0 .0 .1), ne-eqb _ _ (r .0 .0 .0 .0 .0 .1), ne-eqb _ _ (r .0 .0 .0 .0 .0 .0 .1), ne-eqb _ _ (r .0 .0 .0 .0 .0 .0 .0 .1))
+returns-9 c = let r = c .match .rest in simp (ne-eqb _ _ (r .1), ne-eqb _ _ (r .0 .1), ne-eqb _ _ (r .0 .0 .1), ne-eqb _ _ (r .0 .0 .0 .1), ne-eqb _ _ (r .0 .0 .0 .0 .1), ne-eqb _ _ (r .0 .0 .0 .0 .0 .1), ne-eqb _ _ (r .0 .0 .0 .0 .0 .0 .1), ne-eqb _ _ (r .0 .0 .0 .0 .0 .0 .0 .1))
 
 pub write-spec : {M : Type 1} → statement M
 write-spec =
@@ -53,9 +51,10 @@ write-spec =
     (λ c κs. search needs)
     (λ c κs. search needs)
     (λ c κs. search needs)
-    (λ c. search needs)
-    (λ c. search needs)
-    (λ c. search needs)
+    (λ c κs. search needs)
+    (λ c κs. search needs)
+    (λ c κs. search needs)
+    (λ c κs. search needs)
     returns
     returns-2
     returns-3
