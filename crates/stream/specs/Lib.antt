@@ -3,3 +3,4 @@ pub mod Frames
 pub mod Counted
 pub mod Convert
 pub mod Forecast
+pub mod Prefix
