@@ -18,7 +18,7 @@ use events::Setup;
 use protection::Runs;
 use registers::Registers;
 
-mod outward;
+pub mod outward;
 
 pub struct Chip {
     pub setup: Setup,
