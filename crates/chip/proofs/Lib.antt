@@ -1,4 +1,4 @@
 pub mod Modes
 pub mod Judged
 pub mod Told
-pub mod Voltage
+pub mod Steps

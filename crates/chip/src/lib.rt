@@ -4,7 +4,7 @@ ghost use lib.ListN.{take};
 ghost use Rattle.events.specs.Setup.{groups, inputs};
 ghost use Rattle.events.specs.Event.{Por, Boot, Pin, Xready, Scan, Temp, Count, Sense, Load, OnBus};
 ghost use Rattle.events.specs.declared.BusEvent.the-variants.{Start, Out, In, Stop};
-ghost use Rattle.chip.specs.Chip.{quiet as quietSpec, answered as answeredSpec, inShip as inShipSpec, moved as movedSpec, accepted as acceptedSpec, stored as storedSpec, storedAt, nacked as nackedSpec, given as fetchedSpec, happened, happenedBy};
+ghost use Rattle.chip.specs.Chip.{quiet as quietSpec, answered as answeredSpec, inShip as inShipSpec, moved as movedSpec, accepted as acceptedSpec, stored as storedSpec, storedAt, nacked as nackedSpec, given as fetchedSpec, happened, happenedBy, steppedBy};
 ghost use Rattle.bus.specs.Bus.{wanted};
 use bus::Bus;
 use bus::Line;
@@ -12,12 +12,13 @@ use bus::Store;
 use bus::Taken;
 use bus::Want;
 use events::BusEvent;
+use events::Counts;
 use events::Event;
 use events::Setup;
 use protection::Runs;
 use registers::Registers;
 
-mod outward;
+pub mod outward;
 
 pub use outward::CellAnswer;
 pub use outward::ForecastAnswer;
@@ -359,5 +360,17 @@ impl Chip {
             Event::Xready => self.xready(),
             Event::OnBus(bus) => self.on_bus(bus),
         }
+    }
+
+    // An event made by hand, with its counts: 2, then 3, then 4 (asleep), and a refused chip stays as it was.
+    pub fn step(self, event: Event, counts: Counts) -> Stepped
+        ensures { λ r. ⌜ r ≡ steppedBy event counts self ⌝ }
+    {
+        let number = checks::refusal(self.setup, event, counts);
+        if number != 0 {
+            return quiet(number, self);
+        }
+        let of = counts.of;
+        self.happen(event, of)
     }
 }

@@ -1,18 +1,15 @@
 -- Signed numbers: each operation's `toZ w (ofZ w z)` is z where z fits, and the rest is by cases on the sign, on natural numbers.
 -- Assumes nothing.
-use mathlib.Core.Path.{_≡_, refl, ap, sym, _∙_}
+use mathlib.Core.Path.{_≡_, refl, ap, _∙_}
 use Prim.Native.Nat.{ℕ, suc, _+_, _-_, _%_, _<_, _^_}
-use mathlib.Core.Bool.{Bool, true, false, not, _&&_}
 use native.Mathlib.Omega.{arith}
-use lib.Dec.{T, leb, ltb}
+use lib.Dec.{T}
 use lib.IntN.{ℤ, pos, negsuc, _+ℤ_, natAbs}
-use lib.Signed.{leZ, nonNeg}
+use lib.Signed.{nonNeg}
 use mir.Syntax.{w32, w64}
 use mir.Val.{toZ, ofZ, SFits, Fits}
 use mir.Facts.{toZ-ofZ, sfits-widen}
-use borrow.Author.Tests.{le-ltb, lt-ltb, leb-true, leb-false}
-use Rattle.events.specs.Event.{senseFits}
-use Rattle.records.specs.Ranges.{fits-pos, fits-neg}
+use borrow.Author.Tests.{le-ltb}
 use Rattle.writer.specs.Write.{bits32}
 
 -- 2 ^ 32 more than a number
@@ -51,23 +48,3 @@ module _ (v : ℤ) (f : SFits w32 v) where
 
   pub sum-bits : natAbs (toZ w64 (ofZ w64 (toZ w64 (ofZ w64 (toZ w32 (ofZ w32 v))) +ℤ pos 4294967296))) % 4294967296 ≡ bits32 v
   sum-bits = rw sum-is (sum-of v f .2)
-
--- a test of order and the other's denial
-not-above : (a n : ℕ) (t : Bool) → leb n a ≡ t → t ≡ not (ltb a n)
-not-above a n true e = sym (ap not (le-ltb a n (leb-true n a e)))
-not-above a n false e = sym (ap not (lt-ltb a n (leb-false n a e)))
-
-and-true : (b : Bool) → b && true ≡ b
-and-true true = refl
-and-true false = refl
-
-in-range : (v : ℤ) → leZ (negsuc 499999) v && leZ v (pos 500000) ≡ senseFits v
-in-range (pos n) = not-above 500000 n (leb n 500000) refl ∙ sym (fits-pos n)
-in-range (negsuc n) = and-true (leb n 499999) ∙ below n (leb n 499999) refl ∙ sym (fits-neg n)
-  where
-    below : (n : ℕ) (t : Bool) → leb n 499999 ≡ t → t ≡ not (ltb 500000 (suc n))
-    below n true e = sym (ap not (le-ltb 500000 (suc n) (omega (arith, leb-true n 499999 e))))
-    below n false e = sym (ap not (lt-ltb 500000 (suc n) (omega (arith, leb-false n 499999 e))))
-
-pub range-is : (v : ℤ) → SFits w32 v → leZ (negsuc 499999) (toZ w32 (ofZ w32 v)) && leZ (toZ w32 (ofZ w32 v)) (pos 500000) ≡ senseFits v
-range-is v f = ap (λ (z : ℤ). leZ (negsuc 499999) z && leZ z (pos 500000)) (same v f) ∙ in-range v

@@ -1,35 +1,25 @@
--- What is known of an event that was taken apart, put to use; and the loop over counts.
+-- What is known of an event that was taken apart, put to use.
 -- Assumes nothing.
 use mathlib.Core.Path.{_≡_, refl, ap, sym, _∙_, subst}
-use Prim.Native.Nat.{ℕ, zero, suc, _+_, _<_, _≤_}
+use Prim.Native.Nat.{ℕ}
 use mathlib.Core.List.{List, [], _∷_}
 use mathlib.Core.Bool.{Bool, true, false, cond, _&&_}
-use native.Mathlib.Omega.{arith}
-use native.Mathlib.Numerals.{add-one}
-use lib.ListN.{length, getD, take, drop}
 use lib.IntN.{ℤ}
 use lib.Dec.{leb}
-use lib.Seq.{drop-cons}
-use borrow.Author.Tests.{le-leb, lt-leb, leb-true, ne-eqb, eq-eqb}
-use Rattle.events.specs.Event.{within, countsWanted, countsFit}
+use borrow.Author.Tests.{ne-eqb, eq-eqb}
+use Rattle.events.specs.Event.{countsFit}
 use Rattle.events.specs.declared.Setup.{Setup}
 use Rattle.events.specs.declared.Counts.{Counts}
 use Rattle.events.specs.declared.BusEvent.{BusEvent}
 use Rattle.events.specs.declared.BusEvent.the-variants.{Start, Out, In, Stop}
 use Rattle.events.specs.declared.Event.{Event}
-use Rattle.events.specs.declared.Event.the-variants.{OnBus}
+use Rattle.events.specs.declared.Event.the-variants.{Setup as SetupEvent, OnBus}
 use Rattle.records.specs.Numbers.{bitOf}
-use Rattle.records.specs.Record.{setupGood, standing, noCounts}
-use Rattle.writer.specs.Write.{recordOf, recordFor, bytes32, bits32, partFor, valueRefusal, refusalFor, Writes, Puts}
+use Rattle.records.specs.Record.{setupGood, noCounts}
+use Rattle.writer.specs.Write.{recordOf, recordFor, bytes32, bits32, valueRefusal, refusalFor, Writes, Puts}
+use Rattle.writer.specs.Checked.{refusalAt, other, refusal-is}
 use Rattle.writer.specs.declared.Wrote.{Wrote}
 use Rattle.writer.specs.declared.Wrote.the-variants.{Refused}
-
--- a turn of the loop over counts: one above the most ends it, and another is passed
-pub fit-not : (most : ℕ) (cs : List ℕ) (i : ℕ) → i < length cs → most < getD cs i 0 → within most (drop i cs) ≡ false
-fit-not most cs i h g = rw (drop-cons cs i 0 h) (simp (lt-leb (getD cs i 0) most g))
-
-pub fit-next : (most : ℕ) (cs : List ℕ) (i : ℕ) → i < length cs → getD cs i 0 ≤ most → within most (drop (i + 1) cs) ≡ within most (drop i cs)
-fit-next most cs i h g = rw (add-one i, drop-cons cs i 0 h) (simp (le-leb (getD cs i 0) most g))
 
 -- a switch is always 0 or 1
 bit-fits : (t : Bool) → leb (bitOf t) 1 ≡ true
@@ -47,9 +37,6 @@ good-is v =
     ap (λ (t : Bool). t && leb 0x08 (v .address) && leb (v .address) 0x77 && leb (v .gain) 31 && leb (v .floor) 4095) (sym e)
 
 -- what follows for an event from what follows for the one it was found to be
-pub at-value : (k : Counts) {r : ℕ} {e e′ : Event} → e ≡ e′ → r ≡ valueRefusal e′ k → r ≡ valueRefusal e k
-at-value k q p = p ∙ ap (λ (e : Event). valueRefusal e k) (sym q)
-
 pub at-record : (k : Counts) (old : List ℕ) {r : Wrote} {new : List ℕ} {e e′ : Event} → e ≡ e′ → Writes (recordFor e′ k) old r new → Writes (recordFor e k) old r new
 at-record k old {r} {new} q p = subst (λ (e : Event). Writes (recordFor e k) old r new) (sym q) p
 
@@ -69,34 +56,26 @@ bus-any Stop k = refl
 pub at-bus : (b : BusEvent) (k : Counts) (old : List ℕ) {r : Wrote} {new : List ℕ} → Writes (recordFor (OnBus b) noCounts) old r new → Writes (recordFor (OnBus b) k) old r new
 at-bus b k old {r} {new} p = subst (λ (l : List ℕ). Writes l old r new) (bus-any b k) p
 
--- a test that is known, as the definition picks by it
-pub pick-true : (n : ℕ) {t u : Bool} → t ≡ u → t ≡ true → 0 ≡ cond u 0 n
-pick-true n e h = ap (λ (t : Bool). cond t 0 n) (sym h ∙ e)
+pub at-refusal : (k : Counts) (part : ℕ) {r : ℕ} {e e′ : Event} → e ≡ e′ → other e′ ≡ true → r ≡ refusalAt e k part → r ≡ refusalFor e k part
+at-refusal k part {r} {e} {e′} q o p =
+    let d : other e ≡ true = ap other q ∙ o in
+    p ∙ refusal-is e k part d
 
-pub pick-false : (n : ℕ) {t u : Bool} → t ≡ u → t ≡ false → n ≡ cond u 0 n
-pick-false n e h = ap (λ (t : Bool). cond t 0 n) (sym h ∙ e)
-
--- where every place after n is 0, the first n are within a bound just where all are
-zero-first : (most x : ℕ) (l m t : Bool) → leb x 0 ≡ t → (l ≡ true → m ≡ true) → t && l ≡ true → leb x most && m ≡ true
-zero-first most x l m true e f g = simp (le-leb x most (omega (arith, leb-true x 0 e))) (f g)
-zero-first most x l m false e f g = absurd (let z : _≡_ {A = ℕ} 0 1 = cc in omega arith)
-
-zeros-within : (most : ℕ) (xs : List ℕ) → within 0 xs ≡ true → within most xs ≡ true
-zeros-within most [] h = refl
-zeros-within most (x ∷ xs) h = zero-first most x (within 0 xs) (within most xs) (leb x 0) refl (zeros-within most xs) h
-
-pub within-take : (most n : ℕ) (xs : List ℕ) → within 0 (drop n xs) ≡ true → within most xs ≡ within most (take n xs)
-within-take most zero xs h = zeros-within most xs h
-within-take most (suc n) [] h = refl
-within-take most (suc n) (x ∷ xs) h = ap (λ (t : Bool). leb x most && t) (within-take most n xs h)
-
--- the refusal from the answers of the three looks
-pub refusal-of : (e : Event) (k : Counts) (part own wanted : ℕ) (fit : Bool) {r : ℕ} → own ≡ partFor e part → wanted ≡ countsWanted (standing part) e → fit ≡ countsFit wanted k
-    → r ≡ cond (leb 1 own && leb own 3) (cond fit (valueRefusal e k) 2) 1 → r ≡ refusalFor e k part
+-- SETUP's number says nothing of the part that stands
+pub at-setup : (k : Counts) (part : ℕ) {r : ℕ} {e : Event} (v : Setup) → e ≡ SetupEvent v → r ≡ refusalFor (SetupEvent v) k 0 → r ≡ refusalFor e k part
 unfolding refusalFor
-refusal-of e k part own wanted fit o w f h =
-    h ∙ ap (λ (own : ℕ). cond (leb 1 own && leb own 3) (cond fit (valueRefusal e k) 2) 1) o
-    ∙ ap (λ (fit : Bool). cond (leb 1 (partFor e part) && leb (partFor e part) 3) (cond fit (valueRefusal e k) 2) 1) (f ∙ ap (λ (n : ℕ). countsFit n k) w)
+at-setup k part v q p = p ∙ ap (λ (e : Event). refusalFor e k part) (sym q)
+
+-- SETUP's number from the answers of the three looks
+pub setup-number : (v : Setup) (k : Counts) (p f g : Bool) → leb 1 (v .part) && leb (v .part) 3 ≡ p → f ≡ countsFit 0 k → g ≡ setupGood v → cond p (cond f (cond g 0 1) 2) 1 ≡ refusalFor (SetupEvent v) k 0
+unfolding refusalFor valueRefusal
+setup-number v k p f g hp hf hg =
+    ap (λ (p : Bool). number p f g) (sym hp)
+    ∙ ap (λ (f : Bool). number (leb 1 (v .part) && leb (v .part) 3) f g) hf
+    ∙ ap (λ (g : Bool). number (leb 1 (v .part) && leb (v .part) 3) (countsFit 0 k) g) hg
+  where
+    number : Bool → Bool → Bool → ℕ
+    number p f g = cond p (cond f (cond g 0 1) 2) 1
 
 -- an event that is refused, and one that is not
 pub refused-puts : (k j : ℕ) (bytes old : List ℕ) → j ≡ k → (j ≡ 0 → ⊥) → Puts k bytes old (Refused j) old

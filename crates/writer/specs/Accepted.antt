@@ -1,29 +1,19 @@
 -- What the writer does not refuse: its part and counts fit, and its values are in range. Assumes nothing.
-use mathlib.Core.Path.{_≡_, refl, sym, subst, _∙_}
+use mathlib.Core.Path.{_≡_, refl, sym, _∙_}
 use Prim.Native.Nat.{ℕ, _≤_}
 use mathlib.Core.List.{List}
 use mathlib.Core.Bool.{Bool, true, false, cond, _&&_}
 use native.Mathlib.Omega.{arith}
-use lib.Dec.{leb, eqb}
-use lib.ListN.{drop}
-use borrow.Author.Tests.{eqb-true}
-use Rattle.events.specs.Event.{within, countsWanted, countsFit}
+use lib.Dec.{leb}
+use Rattle.events.specs.Event.{countsWanted, countsFit}
 use Rattle.events.specs.declared.Counts.{Counts}
 use Rattle.events.specs.declared.Event.{Event}
 use Rattle.events.specs.declared.Event.the-variants.{Setup as Setup-, Por, Boot, Scan, Temp, Count, Sense, Pin, Load, Xready, OnBus}
+use Rattle.checks.specs.Counted.{fit-is}
 use Rattle.records.specs.Record.{standing}
 use Rattle.records.specs.Counted.{few-groups, few-inputs}
 use Rattle.writer.specs.Write.{partFor, valueRefusal, refusalFor, Puts}
 use Rattle.writer.specs.declared.Wrote.{Wrote}
-
--- counts that fit are as many as wanted, with 0 after them
-fit-by : (n : ℕ) (k : Counts) (t : Bool) → eqb (k .many) n ≡ t → t && within 0 (drop n (k .of)) ≡ true → (k .many ≡ n) × (within 0 (drop (k .many) (k .of)) ≡ true)
-fit-by n k true e h = let m : k .many ≡ n = eqb-true _ _ e in (m, subst (λ (i : ℕ). within 0 (drop i (k .of)) ≡ true) (sym m) h)
-fit-by n k false e h = absurd (let z : _≡_ {A = ℕ} 0 1 = cc in omega arith)
-
-pub fit-is : (n : ℕ) (k : Counts) → countsFit n k ≡ true → (k .many ≡ n) × (within 0 (drop (k .many) (k .of)) ≡ true)
-unfolding countsFit
-fit-is n k h = fit-by n k (eqb (k .many) n) refl h
 
 pub wanted-few : (part : ℕ) (e : Event) → countsWanted (standing part) e ≤ 15
 wanted-few part (Setup- v) = omega arith

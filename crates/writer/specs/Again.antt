@@ -29,7 +29,8 @@ use Rattle.records.specs.declared.Payload.the-variants.{Whole, Unfit}
 use Rattle.records.specs.declared.Read.the-variants.{Record}
 use Rattle.writer.specs.Write.{bytes16, wordBytes, recordOf, kindFor, payloadFor, countBytes, recordFor, partFor, valueRefusal, refusalFor}
 use Rattle.writer.specs.Bytes.{Bytes, byte-first, byte-rest, bytes-drop, bytes-take, low-forth, high-forth, words-forth, none-forth, one-forth, two-forth, four-forth}
-use Rattle.writer.specs.Accepted.{fit-is, Accepted, not-refused}
+use Rattle.checks.specs.Counted.{fit-is}
+use Rattle.writer.specs.Accepted.{Accepted, not-refused}
 
 -- ── a payload's kind and bytes are those of its event ──
 abbrev Same : List ℕ → ℕ → Payload → Type 0

@@ -30,7 +30,8 @@ use Rattle.records.specs.declared.Taken.{Taken}
 use Rattle.writer.specs.Write.{bits32, wordBytes, recordOf, kindFor, payloadFor, countBytes, recordFor, valueRefusal, refusalFor, writtenOf, Puts}
 use Rattle.writer.specs.declared.Wrote.the-variants.{Done, Refused}
 use Rattle.writer.specs.Bytes.{back16, back32, words-length, words-back, bit-same, sense-back}
-use Rattle.writer.specs.Accepted.{fit-is, wanted-few, Accepted, accepted}
+use Rattle.checks.specs.Counted.{fit-is}
+use Rattle.writer.specs.Accepted.{wanted-few, Accepted, accepted}
 
 -- the part that stands when an event's record is read: none yet for SETUP
 abbrev pub standsFor : Event → ℕ → ℕ
@@ -152,7 +153,7 @@ of-back xs = ap (filled 15) (words-back xs)
 
 module _ (k : Counts) (n : ℕ) (f : countsFit n k ≡ true) (fifteen : length (k .of) ≡ 15) where
   fill : filled 15 (take (k .many) (k .of)) ≡ k .of
-  fill = subst (λ (m : ℕ). filled m (take (k .many) (k .of)) ≡ k .of) fifteen (filled-back (k .many) (k .of) (fit-is n k f .1))
+  fill = subst (λ (m : ℕ). filled m (take (k .many) (k .of)) ≡ k .of) fifteen (filled-back (k .many) (k .of) (subst (λ (i : ℕ). within 0 (drop i (k .of)) ≡ true) (sym (fit-is n k f .0)) (fit-is n k f .1)))
 
   none-back : n ≡ 0 → noCounts ≡ k
   none-back z =

@@ -2,19 +2,16 @@
 ghost use mathlib.Core.Path.{_≡_};
 ghost use Prim.Native.Nat.{_*_, _≤_};
 ghost use mathlib.Core.List.{[], _∷_};
-ghost use mathlib.Core.Bool.{true};
-ghost use lib.ListN.{length, take, drop};
-ghost use Rattle.events.specs.Event.{within, senseFits, countsWanted, countsFit};
-ghost use Rattle.events.specs.declared.Event.the-variants.{OnBus};
+ghost use lib.ListN.{length, take};
+ghost use Rattle.events.specs.declared.Event.the-variants.{Setup as SetupEvent, OnBus};
 ghost use Rattle.records.specs.Numbers.{bitOf};
 ghost use Rattle.records.specs.Record.{setupGood, standing, noCounts};
-ghost use Rattle.writer.specs.Write.{bits32, bytes16, bytes32, wordBytes, writtenOf, recordOf, recordFor, partFor, valueRefusal, refusalFor, setupBytes, Writes, Puts};
+ghost use Rattle.writer.specs.Write.{bits32, bytes16, bytes32, wordBytes, writtenOf, recordOf, recordFor, refusalFor, setupBytes, Writes, Puts};
+ghost use Rattle.writer.specs.Checked.{refusalAt};
 use events::BusEvent;
 use events::Counts;
 use events::Event;
 use events::Setup;
-use records::groups_at;
-use records::inputs_at;
 
 // What writing gives: how many bytes it wrote, or the number it is refused with.
 pub enum Wrote {
@@ -35,13 +32,6 @@ fn bits_of(v: i32) -> u32
     ((v as i64 + 4294967296) as u64 % 4294967296) as u32
 }
 
-// Whether a SENSE value is in range.
-fn sense_fits(v: i32) -> bool
-    ensures { λ r. ⌜ r ≡ senseFits v ⌝ }
-{
-    (-500000 <= v) & (v <= 500000)
-}
-
 // Whether a SETUP's values are in range.
 fn setup_good(v: Setup) -> bool
     ensures { λ r. ⌜ r ≡ setupGood v ⌝ }
@@ -52,21 +42,6 @@ fn setup_good(v: Setup) -> bool
         & (v.address <= 0x77)
         & (v.gain <= 31)
         & (v.floor <= 4095)
-}
-
-// Whether each count from a place on is at most a number.
-fn within_from(of: [u16; 15], from: usize, most: u16) -> bool
-    requires { ⌜ from ≤ 15 ⌝ }
-    ensures { λ r. ⌜ r ≡ within most (drop from of) ⌝ }
-{
-    let mut i = from;
-    while i < 15 {
-        if most < of[i] {
-            return false;
-        }
-        i += 1;
-    }
-    true
 }
 
 // A record with no payload.
@@ -184,90 +159,63 @@ fn write_counts(out: &mut [u8], kind: u16, counts: Counts) -> Wrote
     Wrote::Done(4 + 2 * n)
 }
 
-// The part that counts: SETUP's own for SETUP.
-fn part_for(event: Event, part: u8) -> u8
-    ensures { λ r. ⌜ r ≡ partFor event part ⌝ }
+// A part alone, as a setup.
+fn standing_at(part: u8) -> Setup
+    ensures { λ r. ⌜ r ≡ standing part ⌝ }
 {
-    match event {
-        Event::Setup(setup) => setup.part,
-        Event::Por => part,
-        Event::Boot => part,
-        Event::Scan => part,
-        Event::Temp => part,
-        Event::Count(_) => part,
-        Event::Sense(_) => part,
-        Event::Pin => part,
-        Event::Load(_) => part,
-        Event::Xready => part,
-        Event::OnBus(_) => part,
+    Setup {
+        part,
+        crc: false,
+        address: 0,
+        gain: 0,
+        offset: 0,
+        floor: 0,
     }
 }
 
-// How many counts stand beside an event at a part.
-fn wanted_at(event: Event, part: u8) -> u8
-    ensures { λ r. ⌜ r ≡ countsWanted (standing part) event ⌝ }
+// SETUP's own part, its counts and its values, in this order.
+fn setup_refusal(v: Setup, counts: Counts) -> u8
+    ensures { λ r. ⌜ r ≡ refusalFor (SetupEvent v) counts 0 ⌝ }
 {
-    match event {
-        Event::Setup(_) => 0,
-        Event::Por => 0,
-        Event::Boot => 0,
-        Event::Scan => inputs_at(part),
-        Event::Temp => groups_at(part),
-        Event::Count(_) => 0,
-        Event::Sense(_) => 0,
-        Event::Pin => 0,
-        Event::Load(_) => 0,
-        Event::Xready => 0,
-        Event::OnBus(_) => 0,
+    if (1 <= v.part) & (v.part <= 3) {
+        if checks::counts_fit(0, counts) {
+            if setup_good(v) {
+                return 0;
+            }
+            return 1;
+        }
+        return 2;
     }
+    1
 }
 
-// Whether there are as many counts as wanted, and 0 after them.
-fn counts_fit(wanted: u8, counts: Counts) -> bool
-    requires { ⌜ wanted ≤ 15 ⌝ }
-    ensures { λ r. ⌜ r ≡ countsFit wanted counts ⌝ }
+// The part, and what another event is refused with where it stands.
+fn refusal_at(event: Event, counts: Counts, part: u8) -> u8
+    ensures { λ r. ⌜ r ≡ refusalAt event counts part ⌝ }
 {
-    let of = counts.of;
-    if counts.many != wanted {
-        return false;
+    if (1 <= part) & (part <= 3) {
+        return checks::refusal(standing_at(part), event, counts);
     }
-    within_from(of, wanted as usize, 0)
-}
-
-// 1 for a value of SETUP out of range, 3 for another, or 0. What stands after the counts is 0.
-fn value_refusal(event: Event, counts: Counts) -> u8
-    requires { ⌜ within 0 (drop (counts .many) (counts .of)) ≡ true ⌝ }
-    ensures { λ r. ⌜ r ≡ valueRefusal event counts ⌝ }
-{
-    let of = counts.of;
-    match event {
-        Event::Setup(setup) => if setup_good(setup) { 0 } else { 1 },
-        Event::Por => 0,
-        Event::Boot => 0,
-        Event::Scan => if within_from(of, 0, 16383) { 0 } else { 3 },
-        Event::Temp => if within_from(of, 0, 16383) { 0 } else { 3 },
-        Event::Count(_) => 0,
-        Event::Sense(v) => if sense_fits(v) { 0 } else { 3 },
-        Event::Pin => 0,
-        Event::Load(_) => 0,
-        Event::Xready => 0,
-        Event::OnBus(_) => 0,
-    }
+    1
 }
 
 // The number that an event is refused with at a part, or 0.
 fn refusal(event: Event, counts: Counts, part: u8) -> u8
     ensures { λ r. ⌜ r ≡ refusalFor event counts part ⌝ }
 {
-    let own = part_for(event, part);
-    if (1 <= own) & (own <= 3) {
-        let wanted = wanted_at(event, part);
-        if counts_fit(wanted, counts) {
-            return value_refusal(event, counts);
-        }
-        return 2;
+    match event {
+        Event::Setup(setup) => setup_refusal(setup, counts),
+        Event::Por => refusal_at(event, counts, part),
+        Event::Boot => refusal_at(event, counts, part),
+        Event::Scan => refusal_at(event, counts, part),
+        Event::Temp => refusal_at(event, counts, part),
+        Event::Count(_) => refusal_at(event, counts, part),
+        Event::Sense(_) => refusal_at(event, counts, part),
+        Event::Pin => refusal_at(event, counts, part),
+        Event::Load(_) => refusal_at(event, counts, part),
+        Event::Xready => refusal_at(event, counts, part),
+        Event::OnBus(_) => refusal_at(event, counts, part),
     }
-    1
 }
 
 fn put_bus(event: BusEvent, out: &mut [u8]) -> Wrote

@@ -1,52 +1,77 @@
--- `refusal` looks at the part, the counts and the values in this order (Refusals: refusal-of).
-use mathlib.Core.Path.{refl, sym, _∙_}
-use native.Mathlib.Omega.{arith}
-use Rattle.events.specs.Event.{countsWanted, countsFit}
-use Rattle.records.specs.Record.{standing}
-use Rattle.writer.specs.Accepted.{wanted-few, fit-is}
-use Rattle.writer.proofs.Refusals.{refusal-of}
+-- `refusal` asks SETUP's looks or those of every other event, case by case.
+use mathlib.Core.Path.{refl}
+use Rattle.writer.proofs.Refusals.{at-setup, at-refusal}
 use borrow.Author.Needs.{needs}
 use Rattle.writer.proofs.refusal.Statement.{statement}
 use Rattle.writer.proofs.refusal.Tie as tie
 
-counts-fit-requires : tie.Need-counts-fit-requires
-counts-fit-requires c κs =
-    let a = c .before .before .before .args in
-    omega (arith, c .wanted-at .ensures, wanted-few (a .part) (a .event))
-
-value-refusal-requires : tie.Need-value-refusal-requires
-value-refusal-requires c κs = fit-is (c .before .before .wanted-at .result) (c .before .before .before .before .before .args .counts) (sym (c .before .counts-fit .ensures) ∙ c .if2 .taken) .1
-
 returns : tie.Need-returns
-returns c =
-    let f = c .before .before in
-    let w = f .before in
-    let o = w .before .before in
-    let a = o .before .args in
-    refusal-of (a .event) (a .counts) (a .part) (o .part-for .result) (w .wanted-at .result) (f .counts-fit .result) (o .part-for .ensures) (w .wanted-at .ensures) (f .counts-fit .ensures) (simp (w .before .if1 .taken, c .before .if2 .taken) (c .value-refusal .ensures))
+returns c = let a = c .before .before .before .before in at-setup (a .args .counts) (a .args .part) _ (c .before .before .event .given .1) (c .setup-refusal .ensures)
 
 returns-2 : tie.Need-returns-2
-returns-2 c =
-    let f = c .before in
-    let w = f .before in
-    let o = w .before .before in
-    let a = o .before .args in
-    refusal-of (a .event) (a .counts) (a .part) (o .part-for .result) (w .wanted-at .result) (f .counts-fit .result) (o .part-for .ensures) (w .wanted-at .ensures) (f .counts-fit .ensures) (simp (w .before .if1 .taken, c .if2 .left))
+returns-2 c = let a = c .before .before .before in at-refusal (a .args .counts) (a .args .part) (c .before .enum-told .given .1) refl (c .refusal-at .ensures)
 
 returns-3 : tie.Need-returns-3
-returns-3 c =
-    let o = c .before in
-    let a = o .before .args in
-    refusal-of (a .event) (a .counts) (a .part) (o .part-for .result) (countsWanted (standing (a .part)) (a .event)) (countsFit (countsWanted (standing (a .part)) (a .event)) (a .counts)) (o .part-for .ensures) refl refl (simp (c .if1 .left))
+returns-3 c = let a = c .before .before .before in at-refusal (a .args .counts) (a .args .part) (c .before .enum-told2 .given .1) refl (c .refusal-at2 .ensures)
+
+returns-4 : tie.Need-returns-4
+returns-4 c = let a = c .before .before .before in at-refusal (a .args .counts) (a .args .part) (c .before .enum-told3 .given .1) refl (c .refusal-at3 .ensures)
+
+returns-5 : tie.Need-returns-5
+returns-5 c = let a = c .before .before .before in at-refusal (a .args .counts) (a .args .part) (c .before .enum-told4 .given .1) refl (c .refusal-at4 .ensures)
+
+returns-6 : tie.Need-returns-6
+returns-6 c = let a = c .before .before .before in at-refusal (a .args .counts) (a .args .part) (c .before .enum-told5 .given .1) refl (c .refusal-at5 .ensures)
+
+returns-7 : tie.Need-returns-7
+returns-7 c = let a = c .before .before .before in at-refusal (a .args .counts) (a .args .part) (c .before .enum-told6 .given .1) refl (c .refusal-at6 .ensures)
+
+returns-8 : tie.Need-returns-8
+returns-8 c = let a = c .before .before .before in at-refusal (a .args .counts) (a .args .part) (c .before .enum-told7 .given .1) refl (c .refusal-at7 .ensures)
+
+returns-9 : tie.Need-returns-9
+returns-9 c = let a = c .before .before .before in at-refusal (a .args .counts) (a .args .part) (c .before .enum-told8 .given .1) refl (c .refusal-at8 .ensures)
+
+returns-10 : tie.Need-returns-10
+returns-10 c = let a = c .before .before .before in at-refusal (a .args .counts) (a .args .part) (c .before .enum-told9 .given .1) refl (c .refusal-at9 .ensures)
+
+returns-11 : tie.Need-returns-11
+returns-11 c = let a = c .before .before .before in at-refusal (a .args .counts) (a .args .part) (c .before .enum-told10 .given .1) refl (c .refusal-at10 .ensures)
 
 pub refusal-spec : {M : Type 1} → statement M
 refusal-spec =
     tie.close
     (tie.spec
+    (λ c. search needs)
     (λ c κs. search needs)
+    (λ c. search needs)
     (λ c κs. search needs)
-    counts-fit-requires
-    value-refusal-requires
+    (λ c. search needs)
+    (λ c κs. search needs)
+    (λ c. search needs)
+    (λ c κs. search needs)
+    (λ c. search needs)
+    (λ c κs. search needs)
+    (λ c. search needs)
+    (λ c κs. search needs)
+    (λ c. search needs)
+    (λ c κs. search needs)
+    (λ c. search needs)
+    (λ c κs. search needs)
+    (λ c. search needs)
+    (λ c κs. search needs)
+    (λ c. search needs)
+    (λ c κs. search needs)
+    (λ c. search needs)
+    (λ c κs. search needs)
     returns
     returns-2
-    returns-3)
+    returns-3
+    returns-4
+    returns-5
+    returns-6
+    returns-7
+    returns-8
+    returns-9
+    returns-10
+    returns-11)

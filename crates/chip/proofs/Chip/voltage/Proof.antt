@@ -1,7 +1,7 @@
 -- A voltage: by the mode and the cell's number.
 use mathlib.Core.Path.{ap, _∙_}
 use borrow.Author.Tests.{not-true, not-false}
-use Rattle.chip.proofs.Voltage.{asleep-said, zero-said, above-said, cell-said}
+use Rattle.chip.specs.Voltage.{asleep-said, zero-said, above-said, cell-said}
 use Rattle.values.specs.Values.{gives}
 use lib.IntN.{ℤ}
 use borrow.Author.Needs.{needs}

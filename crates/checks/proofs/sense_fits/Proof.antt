@@ -1,7 +1,7 @@
 -- `sense_fits` is SENSE's range, by the sign of the value (Ints).
-use Rattle.writer.proofs.Ints.{range-is}
-use Rattle.writer.proofs.sense_fits.Statement.{statement}
-use Rattle.writer.proofs.sense_fits.Tie as tie
+use Rattle.checks.proofs.Looks.{range-is}
+use Rattle.checks.proofs.sense_fits.Statement.{statement}
+use Rattle.checks.proofs.sense_fits.Tie as tie
 
 returns : tie.Need-returns
 returns c = range-is (c .args .v) (c .fits .v)

@@ -3,8 +3,8 @@ use native.Mathlib.Omega.{arith}
 use borrow.Author.Tests.{eq-eqb, ne-eqb}
 use Rattle.events.specs.Event.{countsFit}
 use borrow.Author.Needs.{needs}
-use Rattle.writer.proofs.counts_fit.Statement.{statement}
-use Rattle.writer.proofs.counts_fit.Tie as tie
+use Rattle.checks.proofs.counts_fit.Statement.{statement}
+use Rattle.checks.proofs.counts_fit.Tie as tie
 
 returns : tie.Need-returns
 unfolding countsFit
