@@ -19,6 +19,9 @@ use registers::Registers;
 
 mod outward;
 
+pub use outward::CellAnswer;
+pub use outward::ForecastAnswer;
+
 pub struct Chip {
     pub setup: Setup,
     pub awake: bool,

@@ -1,3 +1,5 @@
 pub mod Steps
 pub mod Loop
 pub mod Counting
+pub mod Given
+pub mod Doubles

@@ -1,3 +1,6 @@
 pub mod Stream
 pub mod Frames
 pub mod Counted
+pub mod Convert
+pub mod Forecast
+pub mod Prefix

@@ -13,6 +13,9 @@ use events::Event;
 use events::Setup;
 use records::Read;
 
+mod convert;
+mod forecast;
+
 // What a record gives.
 pub struct Entry {
     pub number: u8,

@@ -1,0 +1,48 @@
+-- Forecasting's call, by the chip that stands at the stream's end.
+use mathlib.Core.Path.{subst}
+use native.Mathlib.Omega.{arith}
+use lib.ListN.{length-set}
+use Rattle.chip.specs.Outward.{Forecasts}
+use Rattle.stream.proofs.Doubles.{read-none, read-asleep, read-short, read-given}
+use borrow.Author.Needs.{needs}
+use Rattle.stream.proofs.forecast.toralinge_reading.Statement.{statement}
+use Rattle.stream.proofs.forecast.toralinge_reading.Tie as tie
+
+returns : tie.Need-returns
+returns c = let a = c .before .before .before .before .before .before .before .before .before .args in read-none (a .stream .now) (a .reading .now) (c .before .before .before .before .before .run .result) (c .before .before .before .before .before .run .ensures .chip) (c .first-number .result) (c .before .if1 .taken) (c .first-number .ensures)
+
+returns-2 : tie.Need-returns-2
+returns-2 c = let a = c .before .before .before .before .before .before .before .before .before .before .before .args in read-asleep (a .stream .now) (a .reading .now) (c .before .before .before .before .before .before .before .run .result) (c .before .before .before .before .before .before .before .run .ensures .chip) (c .before .before .before .if1 .left) (subst (Forecasts (c .before .before .before .before .before .before .before .run .result)) (c .enum-told .given .1) (c .before .before .forecast .ensures))
+
+returns-3 : tie.Need-returns-3
+returns-3 c = let a = c .before .before .before .before .before .before .before .before .before .before .before .before .before .args in read-short (a .stream .now) (a .reading .now) (c .before .before .before .before .before .before .before .before .before .run .result) (c .before .before .before .before .before .before .before .before .before .run .ensures .chip) (c .before .before .before .before .before .if1 .left) (subst (Forecasts (c .before .before .before .before .before .before .before .before .before .run .result)) (c .before .before .answer .given .1) (c .before .before .before .before .forecast .ensures) .0) (c .if2 .taken)
+
+slice-write-reading-2 : tie.Need-slice-write-reading-2
+slice-write-reading-2 c = simp length-set (omega arith)
+
+slice-write-reading-3 : tie.Need-slice-write-reading-3
+slice-write-reading-3 c = simp length-set (omega arith)
+
+returns-4 : tie.Need-returns-4
+returns-4 c = let a = c .before .before .before .before .before .before .before .before .before .before .before .before .before .args in let f = subst (Forecasts (c .before .before .before .before .before .before .before .before .before .run .result)) (c .before .before .answer .given .1) (c .before .before .before .before .forecast .ensures) in read-given (a .stream .now) (a .reading .now) (c .before .before .before .before .before .before .before .before .before .run .result) (c .before .before .before .before .before .before .before .before .before .run .ensures .chip) (c .before .before .before .before .before .if1 .left) (f .0) (c .if2 .left) _ (f .1)
+
+pub toralinge-reading-spec : {M : Type 1} → statement M
+toralinge-reading-spec =
+    tie.close
+    (tie.spec
+    (λ c. search needs)
+    (λ c. search needs)
+    (λ c κs. search needs)
+    (λ c κs. search needs)
+    returns
+    (λ c κs. search needs)
+    (λ c. search needs)
+    (λ c. search needs)
+    returns-2
+    returns-3
+    (λ c. search needs)
+    slice-write-reading-2
+    slice-write-reading-3
+    (λ c. search needs)
+    (λ c. search needs)
+    returns-4)
