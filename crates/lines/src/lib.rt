@@ -8,7 +8,7 @@ ghost use Rattle.lines.specs.Line.{leading, decimal, hexGlyph, hexByte, 
 ghost use Rattle.lines.specs.Text.{tooLong, linesFrom, textOf, mostText, Holds, entryIn, Puts};
 use stream::Entry;
 
-// A byte at a place, where the buffer reaches it.
+// A byte at a place, where the buffer reaches it. Each of these answers the place after what it put: a variable is named for what comes there.
 fn put(out: &mut [u8], at: usize, b: u8) -> usize
     requires { ⌜ at < 1000000 ⌝ }
     ensures { λ r. ⌜ Puts 1 (b ∷ []) at (now (out .entry)) r (now (out .exit)) ⌝ }
@@ -59,11 +59,11 @@ fn put_decimal(out: &mut [u8], at: usize, n: usize) -> usize
     requires { ⌜ at < 800000 ⌝ }
     ensures { λ r. ⌜ Puts 5 (decimal n) at (now (out .entry)) r (now (out .exit)) ⌝ }
 {
-    let a = put_leading(out, at, n, 10000);
-    let b = put_leading(out, a, n, 1000);
-    let c = put_leading(out, b, n, 100);
-    let d = put_leading(out, c, n, 10);
-    put(out, d, 48 + (n % 10) as u8)
+    let thousands = put_leading(out, at, n, 10000);
+    let hundreds = put_leading(out, thousands, n, 1000);
+    let tens = put_leading(out, hundreds, n, 100);
+    let ones = put_leading(out, tens, n, 10);
+    put(out, ones, 48 + (n % 10) as u8)
 }
 
 // The kind of the record that the rest begins with.
@@ -93,9 +93,9 @@ fn put_pins(out: &mut [u8], at: usize, pins: u8) -> usize
     requires { ⌜ at < 800000 ⌝ }
     ensures { λ r. ⌜ Puts 3 (pinsText pins) at (now (out .entry)) r (now (out .exit)) ⌝ }
 {
-    let a = put(out, at, 48 + pins / 4 % 2);
-    let b = put(out, a, 48 + pins / 2 % 2);
-    put(out, b, 48 + pins % 2)
+    let charge = put(out, at, 48 + pins / 4 % 2);
+    let discharge = put(out, charge, 48 + pins / 2 % 2);
+    put(out, discharge, 48 + pins % 2)
 }
 
 // The record number and the kind, each with a space after it.
@@ -103,10 +103,10 @@ fn put_record(out: &mut [u8], at: usize, n: usize, rest: &[u8]) -> usize
     requires { ⌜ at < 600000 ⌝ }
     ensures { λ r. ⌜ Puts 11 (recordText n (now (rest .entry))) at (now (out .entry)) r (now (out .exit)) ⌝ }
 {
-    let a = put_decimal(out, at, n);
-    let b = put(out, a, b' ');
-    let c = put_kind(out, b, rest);
-    put(out, c, b' ')
+    let gap = put_decimal(out, at, n);
+    let kind = put(out, gap, b' ');
+    let end = put_kind(out, kind, rest);
+    put(out, end, b' ')
 }
 
 // The number and the bus answer, each with a space after it.
@@ -114,10 +114,10 @@ fn put_answer(out: &mut [u8], at: usize, e: Entry) -> usize
     requires { ⌜ at < 600000 ⌝ }
     ensures { λ r. ⌜ Puts 9 (answerText e) at (now (out .entry)) r (now (out .exit)) ⌝ }
 {
-    let a = put_decimal(out, at, e.number as usize);
-    let b = put(out, a, b' ');
-    let c = put_bus(out, b, e.flag, e.byte);
-    put(out, c, b' ')
+    let gap = put_decimal(out, at, e.number as usize);
+    let bus = put(out, gap, b' ');
+    let end = put_bus(out, bus, e.flag, e.byte);
+    put(out, end, b' ')
 }
 
 // SYS_STAT and the pins, with the line's end after them.
@@ -125,10 +125,10 @@ fn put_state(out: &mut [u8], at: usize, e: Entry) -> usize
     requires { ⌜ at < 600000 ⌝ }
     ensures { λ r. ⌜ Puts 7 (stateText e) at (now (out .entry)) r (now (out .exit)) ⌝ }
 {
-    let a = put_hex(out, at, e.stat);
-    let b = put(out, a, b' ');
-    let c = put_pins(out, b, e.pins);
-    put(out, c, b'\n')
+    let gap = put_hex(out, at, e.stat);
+    let pins = put(out, gap, b' ');
+    let end = put_pins(out, pins, e.pins);
+    put(out, end, b'\n')
 }
 
 // The line of the record that the rest begins with.
@@ -136,28 +136,28 @@ fn put_line(out: &mut [u8], at: usize, n: usize, rest: &[u8], e: Entry) -> usize
     requires { ⌜ at < 500000 ⌝ }
     ensures { λ r. ⌜ Puts 27 (lineOf n (now (rest .entry)) e) at (now (out .entry)) r (now (out .exit)) ⌝ }
 {
-    let a = put_record(out, at, n, rest);
-    let b = put_answer(out, a, e);
-    put_state(out, b, e)
+    let answer = put_record(out, at, n, rest);
+    let state = put_answer(out, answer, e);
+    put_state(out, state, e)
 }
 
 fn put_four(out: &mut [u8], at: usize, p: u8, q: u8, r: u8, s: u8) -> usize
     requires { ⌜ at < 900000 ⌝ }
     ensures { λ next. ⌜ Puts 4 (p ∷ q ∷ r ∷ s ∷ []) at (now (out .entry)) next (now (out .exit)) ⌝ }
 {
-    let a = put(out, at, p);
-    let b = put(out, a, q);
-    let c = put(out, b, r);
-    put(out, c, s)
+    let second = put(out, at, p);
+    let third = put(out, second, q);
+    let fourth = put(out, third, r);
+    put(out, fourth, s)
 }
 
 // The one line for an input that has too many bytes.
 fn put_too_long(out: &mut [u8]) -> usize
     ensures { λ r. ⌜ Puts 9 tooLong 0 (now (out .entry)) r (now (out .exit)) ⌝ }
 {
-    let a = put_four(out, 0, b't', b'o', b'o', b' ');
-    let b = put_four(out, a, b'l', b'o', b'n', b'g');
-    put(out, b, b'\n')
+    let word = put_four(out, 0, b't', b'o', b'o', b' ');
+    let end = put_four(out, word, b'l', b'o', b'n', b'g');
+    put(out, end, b'\n')
 }
 
 // The entry at a place among five bytes each.
