@@ -1,0 +1,40 @@
+-- The line for too many bytes, or the entries of the C call with a line each.
+use Rattle.lines.proofs.Putting.{as-text}
+use Rattle.lines.proofs.Held.{played-cast, played-holds}
+use native.Mathlib.Omega.{arith}
+use Prim.Native.Nat.{ℕ}
+use lib.ListN.{length-replicate}
+use borrow.Author.Tests.{lt-ltb, le-ltb}
+use Rattle.lines.specs.Text.{textOf}
+use borrow.Author.Needs.{needs}
+use Rattle.lines.proofs.text.Statement.{statement}
+use Rattle.lines.proofs.text.Tie as tie
+
+returns : tie.Need-returns
+unfolding textOf
+returns c = as-text (simp (lt-ltb _ _ (c .before .before .before .before .if1 .taken))) (omega arith) (c .before .before .put-too-long .ensures)
+
+cast-n : tie.Need-cast-n
+cast-n c = played-cast _ _ _ _ (c .before .toralinge-play .ensures) (length-replicate {A = ℕ} 81920 0) (c .before .before .before .if1 .left)
+
+put-lines-requires : tie.Need-put-lines-requires
+put-lines-requires c κs = played-holds _ _ _ _ (c .before .before .before .toralinge-play .ensures) (length-replicate {A = ℕ} 81920 0) (c .before .before .before .before .before .if1 .left)
+
+returns-2 : tie.Need-returns-2
+unfolding textOf
+returns-2 c = as-text (simp (le-ltb _ _ (c .before .before .before .before .before .before .before .before .if1 .left))) (omega arith) (c .before .before .put-lines .ensures)
+
+pub text-spec : {M : Type 1} → statement M
+text-spec =
+    tie.close
+    (tie.spec
+    (λ c κs. search needs)
+    (λ c. search needs)
+    returns
+    (λ c. search needs)
+    (λ c κs. search needs)
+    cast-n
+    (λ c. search needs)
+    put-lines-requires
+    (λ c. search needs)
+    returns-2)
