@@ -4,3 +4,4 @@ pub mod Counted
 pub mod Convert
 pub mod Forecast
 pub mod Prefix
+pub mod Standing
