@@ -16,3 +16,4 @@ pub mod Clearing
 pub mod Spoiled
 pub mod Opened
 pub mod NoTrace
+pub mod Streams

@@ -30,7 +30,8 @@ use Rattle.chip.specs.declared.Chip.{Chip}
 use Rattle.chip.specs.declared.Stepped.{Stepped}
 use Rattle.chip.specs.Chip.{inShip, stepped, steppedAs, steppedBy}
 use Rattle.chip.specs.Moves.{setup-next}
-use Rattle.stream.specs.Stream.{none, acted, turned, turnOf, stands, lastChip}
+use Rattle.stream.specs.declared.Turn.{Turn}
+use Rattle.stream.specs.Stream.{none, entryOf, bornOf, acted, turned, turnOf, runs, stands, entries, lastChip}
 use Rattle.stream.specs.Forecast.{readingNumber, isGiven}
 
 -- ── a record that means an event steps the chip by it ──
@@ -103,6 +104,15 @@ first-stands (b ∷ s) v next q =
     let n : length s ≡ length (b ∷ s) - 1 = omega arith in
     ap (λ (x : Read). cond (turned none (b ∷ s) x .last) (turned none (b ∷ s) x .chip) (stands (length s) (turned none (b ∷ s) x .chip) (drop (turned none (b ∷ s) x .next) (b ∷ s)))) q
     ∙ ap (λ (f : ℕ). stands f (inShip v) (drop next (b ∷ s))) n
+
+pub first-entries : (s : List ℕ) (v : SetupValues) (next : ℕ) → readOf 0 s ≡ Record (Setup v) next
+    → entries s ≡ entryOf (bornOf v) ∷ runs (length s - 1) (inShip v) (drop next s)
+unfolding entries turnOf acted readOf
+first-entries [] v next q = let z : _≡_ {A = ℕ} 0 1 = cc in absurd (omega arith)
+first-entries (b ∷ s) v next q =
+    let n : length s ≡ length (b ∷ s) - 1 = omega arith in
+    ap (λ (x : Read). turned none (b ∷ s) x .entry ∷ cond (turned none (b ∷ s) x .last) [] (runs (length s) (turned none (b ∷ s) x .chip) (drop (turned none (b ∷ s) x .next) (b ∷ s)))) q
+    ∙ ap (λ (f : ℕ). entryOf (bornOf v) ∷ runs f (inShip v) (drop next (b ∷ s))) n
 
 pub first-setup-stays : (s : List ℕ) (v : SetupValues) (next : ℕ) → readOf 0 s ≡ Record (Setup v) next → lastChip s .setup ≡ v
 first-setup-stays s v next q =
