@@ -5,3 +5,4 @@ pub mod Convert
 pub mod Forecast
 pub mod Prefix
 pub mod Standing
+pub mod Same

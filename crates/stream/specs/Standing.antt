@@ -30,7 +30,6 @@ use Rattle.chip.specs.declared.Chip.{Chip}
 use Rattle.chip.specs.declared.Stepped.{Stepped}
 use Rattle.chip.specs.Chip.{inShip, stepped, steppedAs, steppedBy}
 use Rattle.chip.specs.Moves.{setup-next}
-use Rattle.stream.specs.declared.Turn.{Turn}
 use Rattle.stream.specs.Stream.{none, entryOf, bornOf, acted, turned, turnOf, runs, stands, entries, lastChip}
 use Rattle.stream.specs.Forecast.{readingNumber, isGiven}
 
