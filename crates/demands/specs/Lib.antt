@@ -17,3 +17,5 @@ pub mod Spoiled
 pub mod Opened
 pub mod NoTrace
 pub mod Streams
+pub mod Latches
+pub mod Between
