@@ -12,6 +12,7 @@ use Rattle.registers.specs.State.{alert}
 use Rattle.registers.specs.Read.{cellAt}
 use Rattle.values.specs.Values.{Said, gives, refuses, cellMicrovolts}
 use Rattle.values.specs.Forecast.{IsReading}
+use Rattle.values.specs.declared.Reading.{Reading}
 use Rattle.chip.specs.declared.Chip.{Chip}
 use Rattle.chip.specs.declared.outward.CellAnswer.{CellAnswer}
 use Rattle.chip.specs.declared.outward.CellAnswer.the-variants as Cell
@@ -37,8 +38,15 @@ saidCell (Cell.Is v) = gives (v .0)
 saidCell Cell.Asleep = refuses 4
 saidCell Cell.NoCell = refuses 6
 
+abbrev pub saidForecast : ForecastAnswer → Said Reading
+saidForecast (Forecast.Is r) = gives r
+saidForecast Forecast.Asleep = refuses 4
+
 -- least, greatest and total cell µV, and CC in hundredths, of the registers; 4 asleep
-abbrev pub Forecasts : Chip → ForecastAnswer → Type 0
-Forecasts c (Forecast.Is r) =
+abbrev pub ForecastSaid : Chip → Said Reading → Type 0
+ForecastSaid c (gives r) =
     (c .awake ≡ true) × IsReading (c .setup .gain) (c .setup .offset) (inputs (c .setup)) (c .registers .measured .cells) (c .registers .measured .cc) r
-Forecasts c Forecast.Asleep = c .awake ≡ false
+ForecastSaid c (refuses n) = (c .awake ≡ false) × (n ≡ 4)
+
+abbrev pub Forecasts : Chip → ForecastAnswer → Type 0
+Forecasts c r = ForecastSaid c (saidForecast r)

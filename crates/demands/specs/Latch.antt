@@ -32,14 +32,14 @@ pub and-false : (a : Bool) → a && false ≡ false
 and-false true = refl
 and-false false = refl
 
-or-left : (a b : Bool) → a ≡ true → a || b ≡ true
+pub or-left : (a b : Bool) → a ≡ true → a || b ≡ true
 or-left a b h = rw h
 
-or-right : (a b : Bool) → b ≡ true → a || b ≡ true
+pub or-right : (a b : Bool) → b ≡ true → a || b ≡ true
 or-right true b h = refl
 or-right false b h = h
 
-cut : (u m d : Bool) → u && d ≡ false → (u && not m) && d ≡ false
+pub cut : (u m d : Bool) → u && d ≡ false → (u && not m) && d ≡ false
 cut true true d h = refl
 cut true false d h = h
 cut false m d h = refl
@@ -157,7 +157,7 @@ writes k x a v on s =
     (λ h. by-cond (Keeps k x (At a v) on s) (eqb a 0x05) (driven v s) s (λ i. driving k x a v on s (eqb-true a 0x05 i)) (λ i. same k x (At a v) on s (rw h)))
 
 -- ── each event ──
-when-true : {A : Type 0} (b : Bool) (x y : A) → b ≡ true → cond b x y ≡ x
+pub when-true : {A : Type 0} (b : Bool) (x y : A) → b ≡ true → cond b x y ≡ x
 when-true b x y h = rw h
 
 -- an event that does not judge k raises nothing of it
@@ -210,7 +210,7 @@ normal-keeps k (Load l) c a = stays-as k (Load l) c Nothing refl
 normal-keeps k (OnBus b) c a = bus-keeps k b c a
 
 -- in SHIP, and out of range, nothing is written
-wrote-asleep : (u : Setup) (c : Core) (e : Event) → c .awake ≡ false → wrote u c e ≡ Nothing
+pub wrote-asleep : (u : Setup) (c : Core) (e : Event) → c .awake ≡ false → wrote u c e ≡ Nothing
 wrote-asleep u c Por a = refl
 wrote-asleep u c Boot a = refl
 wrote-asleep u c Pin a = refl
@@ -225,7 +225,7 @@ wrote-asleep u c (OnBus Stop) a = refl
 wrote-asleep u c (OnBus (Out b)) a = rw a
 wrote-asleep u c (OnBus (In nack)) a = refl
 
-wrote-unfit : (u : Setup) (c : Core) (e : Event) → fits e ≡ false → wrote u c e ≡ Nothing
+pub wrote-unfit : (u : Setup) (c : Core) (e : Event) → fits e ≡ false → wrote u c e ≡ Nothing
 unfolding fits
 wrote-unfit u c Por f = refl
 wrote-unfit u c Boot f = refl

@@ -16,3 +16,6 @@ pub mod Clearing
 pub mod Spoiled
 pub mod Opened
 pub mod NoTrace
+pub mod Streams
+pub mod Latches
+pub mod Between

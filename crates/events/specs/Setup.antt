@@ -19,6 +19,11 @@ unfoldable pub checkedOf : ℕ → ℕ → ℕ → ℕ → ℕ → ℕ → Check
 checkedOf part crc address gain offset floor =
     cond (setupFits part crc address gain floor) (Good (setupOf part crc address gain offset floor)) Bad
 
+-- the paper's number of each answer
+abbrev pub setupNumber : Checked → ℕ
+setupNumber (Good v) = 0
+setupNumber Bad = 1
+
 -- five inputs for part 1, ten for part 2, fifteen for part 3: that many groups of five
 unfoldable pub groups : Setup → ℕ
 groups u = cond (ltb (u .part) 3) (u .part) 3

@@ -4,7 +4,7 @@ use mathlib.Core.List.{List}
 use mathlib.Core.Bool.{Bool, false, cond}
 use lib.ListN.{length, getD, take, drop, replicate}
 use lib.Dec.{ltb, leb, eqb}
-use Rattle.events.specs.Setup.{setupFits, checkedOf, groups, inputs}
+use Rattle.events.specs.Setup.{setupFits, checkedOf, setupNumber, groups, inputs}
 use Rattle.events.specs.Event.{countMost, within, senseFits}
 use Rattle.events.specs.declared.Setup.{Setup as SetupValues}
 use Rattle.events.specs.declared.Counts.{Counts}
@@ -25,7 +25,7 @@ use Rattle.records.specs.declared.Taken.{Taken}
 -- part, CRC, address, gain code, offset (1 each), floor (2)
 abbrev pub checkedIn : Checked → Payload
 checkedIn (Good v) = Whole (Setup v)
-checkedIn Bad = Unfit 1
+checkedIn Bad = Unfit (setupNumber Bad)
 
 abbrev pub setupGood : SetupValues → Bool
 setupGood v = setupFits (v .part) (bitOf (v .crc)) (v .address) (v .gain) (v .floor)

@@ -1,16 +1,19 @@
 -- Document 01, "Registers": laws of reading and writing, for every value of the registers. Assumes nothing.
-use mathlib.Core.Path.{_≡_, refl}
-use mathlib.Core.Bool.{Bool, true, false, not, _&&_, cond}
+use mathlib.Core.Path.{_≡_, refl, sym, ap}
+use mathlib.Core.Bool.{Bool, true, false, not, _&&_, _||_, cond}
 use Prim.Native.Nat.{ℕ, _+_, _*_, _-_, _/_, _%_, _<_, _≤_}
 use native.Mathlib.Omega.{arith}
 use lib.Dec.{eqb, leb}
 use borrow.Author.Tests.{eqb-true, ne-eqb, lt-ltb, le-ltb, le-leb, lt-leb}
 use Rattle.events.specs.declared.Setup.{Setup}
 use Rattle.events.specs.Setup.{groups, inputs}
+use Rattle.settings.specs.Bit.{weighed}
 use Rattle.settings.specs.Write.{protect1Of, protect2Of, protect3Of, cfgOf, settingsWith}
 use Rattle.settings.specs.Read.{settingsByte}
+use Rattle.registers.specs.declared.Status.{Status}
 use Rattle.registers.specs.declared.Balance.{Balance}
 use Rattle.registers.specs.declared.Registers.{Registers}
+use Rattle.registers.specs.State.{alert}
 use Rattle.registers.specs.Write.{statusOf, without, fiveOf, shownWith, balanceWith, written}
 use Rattle.registers.specs.Read.{statusByte, balanceByte, lowByte, half, wordAt, fixedByte, readAt}
 
@@ -107,3 +110,17 @@ plain-back ccCfg v r = omega arith
 pub status-back : (u : Setup) (v : ℕ) (r : Registers) → readAt u (written u 0x00 v r) 0x00 ≡ statusByte (without (statusOf v) (r .shown .status))
 unfolding readAt lowByte shownWith
 status-back u v r = refl
+
+-- ── ALERT is up when SYS_STAT is not 0 ──
+some-bit : (a b c d e f g : Bool) → a || b || c || d || e || f || g ≡ not (eqb (weighed a 128 + weighed b 32 + weighed c 16 + weighed d 8 + weighed e 4 + weighed f 2 + weighed g 1) 0)
+some-bit true b c d e f g = sym (ap not (ne-eqb (128 + weighed b 32 + weighed c 16 + weighed d 8 + weighed e 4 + weighed f 2 + weighed g 1) 0 (λ z. omega (arith, z))))
+some-bit false true c d e f g = sym (ap not (ne-eqb (0 + 32 + weighed c 16 + weighed d 8 + weighed e 4 + weighed f 2 + weighed g 1) 0 (λ z. omega (arith, z))))
+some-bit false false true d e f g = sym (ap not (ne-eqb (0 + 0 + 16 + weighed d 8 + weighed e 4 + weighed f 2 + weighed g 1) 0 (λ z. omega (arith, z))))
+some-bit false false false true e f g = sym (ap not (ne-eqb (0 + 0 + 0 + 8 + weighed e 4 + weighed f 2 + weighed g 1) 0 (λ z. omega (arith, z))))
+some-bit false false false false true f g = sym (ap not (ne-eqb (0 + 0 + 0 + 0 + 4 + weighed f 2 + weighed g 1) 0 (λ z. omega (arith, z))))
+some-bit false false false false false true g = sym (ap not (ne-eqb (0 + 0 + 0 + 0 + 0 + 2 + weighed g 1) 0 (λ z. omega (arith, z))))
+some-bit false false false false false false true = refl
+some-bit false false false false false false false = refl
+
+pub alert-is : (t : Status) → alert t ≡ not (eqb (statusByte t) 0)
+alert-is t = some-bit (t .ready) (t .xready) (t .ovrd) (t .uv) (t .ov) (t .scd) (t .ocd)

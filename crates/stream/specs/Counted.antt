@@ -1,34 +1,34 @@
 -- The entries of a stream are as many as its records up to the cut or the refused first one: no made-up count. Assumes nothing.
-use mathlib.Core.Path.{_≡_, refl, ap, sym, _∙_, subst}
-use mathlib.Core.Bool.{Bool, true, false, cond, _&&_}
+use mathlib.Core.Path.{_≡_, refl, ap, sym, _∙_}
+use mathlib.Core.Bool.{Bool, true, false, cond}
 use mathlib.Core.Logic.{_≢_}
 use mathlib.Core.List.{List, [], _∷_}
-use Prim.Native.Nat.{ℕ, zero, suc, _+_, _-_, _*_, _<_, _≤_}
+use Prim.Native.Nat.{ℕ, zero, suc, _+_, _-_, _≤_}
 use native.Mathlib.Omega.{arith}
-use lib.Dec.{eqb, ltb, leb}
+use lib.Dec.{eqb, ltb}
 use lib.ListN.{length, take, drop}
-use borrow.Author.Tests.{eq-eqb, ne-eqb, ltb-false, leb-true}
+use borrow.Author.Tests.{ne-eqb, ltb-false}
 use Rattle.events.specs.declared.Setup.{Setup as SetupValues}
 use Rattle.events.specs.declared.Counts.{Counts}
 use Rattle.events.specs.declared.Event.{Event}
 use Rattle.events.specs.declared.Event.the-variants.{Setup, Por, Boot, Scan, Temp, Count, Sense, Pin, Load, Xready, OnBus}
-use Rattle.events.specs.Event.{Event as Happening, Meant, means, unfit, meantOf, countsFit}
+use Rattle.events.specs.Event.{Event as Happening, means, meantOf}
 use Rattle.records.specs.declared.Payload.{Payload}
 use Rattle.records.specs.declared.Payload.the-variants.{Whole, Unfit}
 use Rattle.records.specs.declared.Read.{Read}
 use Rattle.records.specs.declared.Read.the-variants.{Record, Refused, Cut}
-use Rattle.records.specs.Numbers.{le16, bitOf}
+use Rattle.records.specs.Numbers.{le16}
 use Rattle.records.specs.Frame.{frameOf}
 use Rattle.records.specs.Record.{setupGood, payloadOf, asRead, readOf, countsBeside}
 use Rattle.records.specs.Sound.{IsSetup, first-setup, Meaning, later-means}
 use Rattle.chip.specs.declared.Chip.{Chip}
 use Rattle.chip.specs.declared.Stepped.{Stepped}
-use Rattle.chip.specs.Chip.{inShip, steppedAs}
+use Rattle.chip.specs.Chip.{inShip}
 use Rattle.chip.specs.Moves.{setup-next}
-use Rattle.stream.specs.declared.Entry.{Entry}
 use Rattle.stream.specs.declared.Turn.{Turn}
 use Rattle.stream.specs.Stream.{none, acted, turned, turnOf, runs, entries}
 use Rattle.stream.specs.Frames.{frames, framesAfter, framesOf}
+use Rattle.stream.specs.Standing.{acted-is, good-part}
 
 -- ── the frame of what was read ──
 abbrev Framed : List ℕ → Read → Type 0
@@ -63,27 +63,8 @@ frame-place r h = by (readOf 0 r) (framed 0 r)
     by Cut f = absurd (h f)
 
 -- ── the part stays: no record that is read later is a SETUP ──
-no-setup : (t : Bool) (e : Happening) → cond t unfit unfit ≡ means e → ⊥
-no-setup true e h = let z : _≡_ {A = ℕ} 0 1 = cc in omega arith
-no-setup false e h = let z : _≡_ {A = ℕ} 0 1 = cc in omega arith
-
-no-setup-read : (v : SetupValues) (k : Counts) (c : Chip) (ev : Happening) → meantOf (c .setup) (Setup v) k ≡ means ev → ⊥
-unfolding meantOf
-no-setup-read v k c ev m = no-setup (countsFit 0 k) ev m
-
 stays : (e : Event) (k : Counts) (c : Chip) (ev : Happening) → meantOf (c .setup) e k ≡ means ev → acted e k c .chip .setup ≡ c .setup
-unfolding acted
-stays (Setup v) k c ev m = absurd (no-setup-read v k c ev m)
-stays Por k c ev m = ap (λ (x : Meant). steppedAs x c .chip .setup) m ∙ setup-next ev c
-stays Boot k c ev m = ap (λ (x : Meant). steppedAs x c .chip .setup) m ∙ setup-next ev c
-stays Scan k c ev m = ap (λ (x : Meant). steppedAs x c .chip .setup) m ∙ setup-next ev c
-stays Temp k c ev m = ap (λ (x : Meant). steppedAs x c .chip .setup) m ∙ setup-next ev c
-stays (Count n) k c ev m = ap (λ (x : Meant). steppedAs x c .chip .setup) m ∙ setup-next ev c
-stays (Sense v) k c ev m = ap (λ (x : Meant). steppedAs x c .chip .setup) m ∙ setup-next ev c
-stays Pin k c ev m = ap (λ (x : Meant). steppedAs x c .chip .setup) m ∙ setup-next ev c
-stays (Load l) k c ev m = ap (λ (x : Meant). steppedAs x c .chip .setup) m ∙ setup-next ev c
-stays Xready k c ev m = ap (λ (x : Meant). steppedAs x c .chip .setup) m ∙ setup-next ev c
-stays (OnBus b) k c ev m = ap (λ (x : Meant). steppedAs x c .chip .setup) m ∙ setup-next ev c
+stays e k c ev m = ap (λ (s : Stepped). s .chip .setup) (acted-is e k c ev m) ∙ setup-next ev c
 
 -- ── once a part stands, there is an entry for each frame ──
 abbrev Stands : Chip → Type 0
@@ -119,13 +100,7 @@ frames-are (suc f) c (b ∷ s) p = turn-frames f c (b ∷ s) p (λ c s p. frames
 
 -- ── the first record ──
 part-stands : (v : SetupValues) → setupGood v ≡ true → v .part ≢ 0
-part-stands v h z =
-    let one : leb 1 (v .part) ≡ true = first (leb 1 (v .part)) (leb (v .part) 3) (leb (bitOf (v .crc)) 1) (leb 0x08 (v .address)) (leb (v .address) 0x77) (leb (v .gain) 31) (leb (v .floor) 4095) h in
-    omega (arith, leb-true 1 (v .part) one, z)
-  where
-    first : (a b c d e f g : Bool) → a && b && c && d && e && f && g ≡ true → a ≡ true
-    first true b c d e f g h = refl
-    first false b c d e f g h = h
+part-stands v h z = omega (arith, good-part v h .0, z)
 
 first-frames : (b : ℕ) (s : List ℕ) (x : Read) → readOf 0 (b ∷ s) ≡ x
     → length (turned none (b ∷ s) x .entry ∷ cond (turned none (b ∷ s) x .last) [] (runs (length s) (turned none (b ∷ s) x .chip) (drop (turned none (b ∷ s) x .next) (b ∷ s)))) ≡ framesAfter (b ∷ s) x

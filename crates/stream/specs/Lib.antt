@@ -4,3 +4,5 @@ pub mod Counted
 pub mod Convert
 pub mod Forecast
 pub mod Prefix
+pub mod Standing
+pub mod Same

@@ -32,7 +32,7 @@ reason-number Thermistor = refl
 reason-number Window = refl
 
 -- two answers that say the same are the same, where some answer can be told from what it says
-settled : {A B : Type 0} (said : A → B) (told : B → A) → ((a : A) → told (said a) ≡ a) → (a b : A) → said a ≡ said b → a ≡ b
+pub settled : {A B : Type 0} (said : A → B) (told : B → A) → ((a : A) → told (said a) ≡ a) → (a b : A) → said a ≡ said b → a ≡ b
 settled said told back a b e = sym (back a) ∙ ap told e ∙ back b
 
 pub same-refusal : (a b : Refusal) → numberOf a ≡ numberOf b → a ≡ b

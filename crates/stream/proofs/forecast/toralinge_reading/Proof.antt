@@ -12,7 +12,7 @@ returns : tie.Need-returns
 returns c = let a = c .before .before .before .before .before .before .before .before .before .args in read-none (a .stream .now) (a .reading .now) (c .before .before .before .before .before .run .result) (c .before .before .before .before .before .run .ensures .chip) (c .first-number .result) (c .before .if1 .taken) (c .first-number .ensures)
 
 returns-2 : tie.Need-returns-2
-returns-2 c = let a = c .before .before .before .before .before .before .before .before .before .before .before .args in read-asleep (a .stream .now) (a .reading .now) (c .before .before .before .before .before .before .before .run .result) (c .before .before .before .before .before .before .before .run .ensures .chip) (c .before .before .before .if1 .left) (subst (Forecasts (c .before .before .before .before .before .before .before .run .result)) (c .enum-told .given .1) (c .before .before .forecast .ensures))
+returns-2 c = let a = c .before .before .before .before .before .before .before .before .before .before .before .args in read-asleep (a .stream .now) (a .reading .now) (c .before .before .before .before .before .before .before .run .result) (c .before .before .before .before .before .before .before .run .ensures .chip) (c .before .before .before .if1 .left) (subst (Forecasts (c .before .before .before .before .before .before .before .run .result)) (c .enum-told .given .1) (c .before .before .forecast .ensures) .0)
 
 returns-3 : tie.Need-returns-3
 returns-3 c = let a = c .before .before .before .before .before .before .before .before .before .before .before .before .before .args in read-short (a .stream .now) (a .reading .now) (c .before .before .before .before .before .before .before .before .before .run .result) (c .before .before .before .before .before .before .before .before .before .run .ensures .chip) (c .before .before .before .before .before .if1 .left) (subst (Forecasts (c .before .before .before .before .before .before .before .before .before .run .result)) (c .before .before .answer .given .1) (c .before .before .before .before .forecast .ensures) .0) (c .if2 .taken)

@@ -1,0 +1,203 @@
+-- Whether a chip stands: a first record that is read with success makes one, whose part stays 1 to 3; else the first record's number is not 0,
+-- so that no reading is done with nothing given. Assumes nothing.
+use mathlib.Core.Path.{_≡_, refl, ap, sym, _∙_, subst}
+use mathlib.Core.Bool.{Bool, true, false, cond, _&&_, not}
+use mathlib.Core.Logic.{_≢_}
+use mathlib.Core.List.{List, [], _∷_}
+use Prim.Native.Nat.{ℕ, zero, suc, _+_, _-_, _≤_}
+use native.Mathlib.Omega.{arith}
+use lib.Dec.{eqb, ltb, leb}
+use lib.ListN.{length, getD, take, drop}
+use borrow.Author.Tests.{eqb-true, leb-true}
+use Rattle.events.specs.declared.Setup.{Setup as SetupValues}
+use Rattle.events.specs.declared.Counts.{Counts}
+use Rattle.events.specs.declared.Checked.{Checked}
+use Rattle.events.specs.declared.Checked.the-variants.{Good, Bad}
+use Rattle.events.specs.declared.Event.{Event}
+use Rattle.events.specs.declared.Event.the-variants.{Setup, Por, Boot, Scan, Temp, Count, Sense, Pin, Load, Xready, OnBus}
+use Rattle.events.specs.Setup.{checkedOf}
+use Rattle.events.specs.Event.{Event as Happening, Meant, means, unfit, meantOf, countsFit}
+use Rattle.records.specs.declared.Payload.{Payload}
+use Rattle.records.specs.declared.Payload.the-variants.{Whole, Unfit}
+use Rattle.records.specs.declared.Read.{Read}
+use Rattle.records.specs.declared.Read.the-variants.{Record, Refused, Cut}
+use Rattle.records.specs.Numbers.{le16, bitOf}
+use Rattle.records.specs.Kind.{SETUP}
+use Rattle.records.specs.Record.{setupGood, checkedIn, setupIn, payloadOf, asRead, readOf, numberOf, countsBeside}
+use Rattle.records.specs.Reading.{cond-by}
+use Rattle.records.specs.Sound.{and-left, and-right, IsSetup, first-setup, Meaning, later-means}
+use Rattle.chip.specs.declared.Chip.{Chip}
+use Rattle.chip.specs.declared.Stepped.{Stepped}
+use Rattle.chip.specs.Chip.{inShip, stepped, steppedAs, steppedBy}
+use Rattle.chip.specs.Moves.{setup-next}
+use Rattle.stream.specs.Stream.{none, entryOf, bornOf, acted, turned, turnOf, runs, stands, entries, lastChip}
+use Rattle.stream.specs.Forecast.{readingNumber, isGiven}
+
+-- ── a record that means an event steps the chip by it ──
+no-setup : (t : Bool) (e : Happening) → cond t unfit unfit ≡ means e → ⊥
+no-setup true e h = let z : _≡_ {A = ℕ} 0 1 = cc in omega arith
+no-setup false e h = let z : _≡_ {A = ℕ} 0 1 = cc in omega arith
+
+no-setup-read : (v : SetupValues) (k : Counts) (c : Chip) (ev : Happening) → meantOf (c .setup) (Setup v) k ≡ means ev → ⊥
+unfolding meantOf
+no-setup-read v k c ev m = no-setup (countsFit 0 k) ev m
+
+acted-by : (e : Event) (k : Counts) (c : Chip) (ev : Happening) → meantOf (c .setup) e k ≡ means ev → acted e k c ≡ steppedBy e k c
+unfolding acted
+acted-by (Setup v) k c ev m = absurd (no-setup-read v k c ev m)
+acted-by Por k c ev m = refl
+acted-by Boot k c ev m = refl
+acted-by Scan k c ev m = refl
+acted-by Temp k c ev m = refl
+acted-by (Count n) k c ev m = refl
+acted-by (Sense v) k c ev m = refl
+acted-by Pin k c ev m = refl
+acted-by (Load l) k c ev m = refl
+acted-by Xready k c ev m = refl
+acted-by (OnBus b) k c ev m = refl
+
+pub acted-is : (e : Event) (k : Counts) (c : Chip) (ev : Happening) → meantOf (c .setup) e k ≡ means ev → acted e k c ≡ stepped ev c
+acted-is e k c ev m = acted-by e k c ev m ∙ ap (λ (x : Meant). steppedAs x c) m
+
+-- ── the setup of a chip that stands stays ──
+setup-turned : (c : Chip) (r : List ℕ) → c .setup .part ≢ 0 → (x : Read) → readOf (c .setup .part) r ≡ x → turned c r x .chip .setup ≡ c .setup
+setup-turned c r p (Record e next) q =
+    let m : Meaning (c .setup) e (countsBeside r (Record e next)) = later-means (c .setup) r e next p q in
+    ap (λ (s : Stepped). s .chip .setup) (acted-is e (countsBeside r (Record e next)) c (m .event) (m .meant)) ∙ setup-next (m .event) c
+setup-turned c r p (Refused k next) q = refl
+setup-turned c r p Cut q = refl
+
+setup-turn : (c : Chip) (r : List ℕ) → c .setup .part ≢ 0 → turnOf c r .chip .setup ≡ c .setup
+unfolding turnOf
+setup-turn c r p = setup-turned c r p (readOf (c .setup .part) r) refl
+
+pub setup-stands : (f : ℕ) (c : Chip) (s : List ℕ) → c .setup .part ≢ 0 → stands f c s .setup ≡ c .setup
+setup-stands zero c s p = refl
+setup-stands (suc f) c [] p = refl
+setup-stands (suc f) c (b ∷ s) p =
+    let d : Chip = turnOf c (b ∷ s) .chip in
+    let rest : List ℕ = drop (turnOf c (b ∷ s) .next) (b ∷ s) in
+    let same : d .setup ≡ c .setup = setup-turn c (b ∷ s) p in
+    by (turnOf c (b ∷ s) .last) d (stands f d rest) same (setup-stands f d rest (λ z. p (ap (λ (v : SetupValues). v .part) (sym same) ∙ z)) ∙ same)
+  where
+    by : (t : Bool) (d e : Chip) → d .setup ≡ c .setup → e .setup ≡ c .setup → cond t d e .setup ≡ c .setup
+    by true d e x y = x
+    by false d e x y = y
+
+-- ── the first record ──
+pub good-part : (v : SetupValues) → setupGood v ≡ true → (1 ≤ v .part) × (v .part ≤ 3)
+good-part v h =
+    let both : leb 1 (v .part) && leb (v .part) 3 ≡ true = first (leb 1 (v .part)) (leb (v .part) 3) (leb (bitOf (v .crc)) 1) (leb 0x08 (v .address)) (leb (v .address) 0x77) (leb (v .gain) 31) (leb (v .floor) 4095) h in
+    (leb-true 1 (v .part) (and-left (leb 1 (v .part)) (leb (v .part) 3) both), leb-true (v .part) 3 (and-right (leb 1 (v .part)) (leb (v .part) 3) both))
+  where
+    first : (a b c d e f g : Bool) → a && b && c && d && e && f && g ≡ true → a && b ≡ true
+    first true true c d e f g h = refl
+    first true false c d e f g h = h
+    first false b c d e f g h = h
+
+-- it makes the chip, and no later record another
+pub first-stands : (s : List ℕ) (v : SetupValues) (next : ℕ) → readOf 0 s ≡ Record (Setup v) next → lastChip s ≡ stands (length s - 1) (inShip v) (drop next s)
+unfolding lastChip turnOf acted readOf
+first-stands [] v next q = let z : _≡_ {A = ℕ} 0 1 = cc in absurd (omega arith)
+first-stands (b ∷ s) v next q =
+    let n : length s ≡ length (b ∷ s) - 1 = omega arith in
+    ap (λ (x : Read). cond (turned none (b ∷ s) x .last) (turned none (b ∷ s) x .chip) (stands (length s) (turned none (b ∷ s) x .chip) (drop (turned none (b ∷ s) x .next) (b ∷ s)))) q
+    ∙ ap (λ (f : ℕ). stands f (inShip v) (drop next (b ∷ s))) n
+
+pub first-entries : (s : List ℕ) (v : SetupValues) (next : ℕ) → readOf 0 s ≡ Record (Setup v) next
+    → entries s ≡ entryOf (bornOf v) ∷ runs (length s - 1) (inShip v) (drop next s)
+unfolding entries turnOf acted readOf
+first-entries [] v next q = let z : _≡_ {A = ℕ} 0 1 = cc in absurd (omega arith)
+first-entries (b ∷ s) v next q =
+    let n : length s ≡ length (b ∷ s) - 1 = omega arith in
+    ap (λ (x : Read). turned none (b ∷ s) x .entry ∷ cond (turned none (b ∷ s) x .last) [] (runs (length s) (turned none (b ∷ s) x .chip) (drop (turned none (b ∷ s) x .next) (b ∷ s)))) q
+    ∙ ap (λ (f : ℕ). entryOf (bornOf v) ∷ runs f (inShip v) (drop next (b ∷ s))) n
+
+pub first-setup-stays : (s : List ℕ) (v : SetupValues) (next : ℕ) → readOf 0 s ≡ Record (Setup v) next → lastChip s .setup ≡ v
+first-setup-stays s v next q =
+    let g : (1 ≤ v .part) × (v .part ≤ 3) = good-part v (first-setup s (Setup v) next q) in
+    ap (λ (c : Chip). c .setup) (first-stands s v next q) ∙ setup-stands (length s - 1) (inShip v) (drop next s) (λ z. omega (arith, g .0))
+
+-- refused, its number is not 0
+abbrev Numbered : Payload → Type 0
+Numbered (Whole e) = Unit
+Numbered (Unfit k) = k ≢ 0
+
+numbered-checked : (x : Checked) → Numbered (checkedIn x)
+numbered-checked (Good v) = tt
+numbered-checked Bad = λ z. omega (arith, z)
+
+two : _≢_ {A = ℕ} 2 0
+two z = omega (arith, z)
+
+numbered : (kind : ℕ) (b : List ℕ) → Numbered (payloadOf kind 0 b)
+unfolding payloadOf setupIn
+numbered kind b =
+    cond-by Numbered (eqb kind SETUP) _ (Unfit 2)
+    (λ k. cond-by Numbered (eqb (length b) 7) _ (Unfit 2) (λ l. numbered-checked (checkedOf (getD b 0 0) (getD b 1 0) (getD b 2 0) (getD b 3 0) (getD b 4 0) (le16 b 5))) two)
+    two
+
+abbrev Said-why : Read → Type 0
+Said-why (Record e next) = Unit
+Said-why (Refused k next) = k ≢ 0
+Said-why Cut = Unit
+
+why-as : (n : ℕ) (p : Payload) → Numbered p → Said-why (asRead n p)
+why-as n (Whole e) h = tt
+why-as n (Unfit k) h = h
+
+why : (r : List ℕ) → Said-why (readOf 0 r)
+unfolding readOf
+why r = by (ltb (length r) 4) (ltb (length r - 4) (le16 r 0))
+  where
+    by : (t u : Bool) → Said-why (cond t Cut (cond u Cut (asRead (4 + le16 r 0) (payloadOf (le16 r 2) 0 (take (le16 r 0) (drop 4 r))))))
+    by true u = tt
+    by false true = tt
+    by false false = why-as (4 + le16 r 0) (payloadOf (le16 r 2) 0 (take (le16 r 0) (drop 4 r))) (numbered (le16 r 2) (take (le16 r 0) (drop 4 r)))
+
+-- ── number 0 of the first record is a SETUP, and a chip ──
+pub record Made (s : List ℕ) : Type 0 where
+  pub setup : SetupValues
+  pub next : ℕ
+  pub first : readOf 0 s ≡ Record (Setup setup) next
+
+made-by : (s : List ℕ) (x : Read) → readOf 0 s ≡ x → Said-why x → numberOf x ≡ 0 → Made s
+made-by s (Record e next) q w h = by e q (first-setup s e next q)
+  where
+    by : (e : Event) → readOf 0 s ≡ Record e next → IsSetup e → Made s
+    by (Setup v) q g = record { setup = v; next = next; first = q }
+    by Por q g = absurd g
+    by Boot q g = absurd g
+    by Scan q g = absurd g
+    by Temp q g = absurd g
+    by (Count n) q g = absurd g
+    by (Sense v) q g = absurd g
+    by Pin q g = absurd g
+    by (Load l) q g = absurd g
+    by Xready q g = absurd g
+    by (OnBus x) q g = absurd g
+made-by s (Refused k next) q w h = absurd (w h)
+made-by s Cut q w h = absurd (omega (arith, h))
+
+pub made : (s : List ℕ) → numberOf (readOf 0 s) ≡ 0 → Made s
+made s h = made-by s (readOf 0 s) refl (why s) h
+
+-- A CHIP STANDS where the first record's number is 0, and its part stays 1 to 3
+pub chip-stands : (s : List ℕ) → numberOf (readOf 0 s) ≡ 0 → (1 ≤ lastChip s .setup .part) × (lastChip s .setup .part ≤ 3)
+chip-stands s h =
+    let m : Made s = made s h in
+    subst (λ (v : SetupValues). (1 ≤ v .part) × (v .part ≤ 3)) (sym (first-setup-stays s (m .setup) (m .next) (m .first))) (good-part (m .setup) (first-setup s (Setup (m .setup)) (m .next) (m .first)))
+
+-- .. and where none stands the number is not 0
+pub no-chip : (s : List ℕ) → lastChip s .setup .part ≡ 0 → numberOf (readOf 0 s) ≢ 0
+no-chip s z h = omega (arith, chip-stands s h .0, z)
+
+-- so a reading that is done is given
+pub done-gives : (s : List ℕ) (room : ℕ) → readingNumber s (lastChip s) room ≡ 0 → isGiven (lastChip s) room ≡ true
+done-gives s room h = by (eqb (lastChip s .setup .part) 0) (lastChip s .awake) (ltb room 4) (λ e. no-chip s (eqb-true (lastChip s .setup .part) 0 e)) h
+  where
+    by : (n a t : Bool) → (n ≡ true → numberOf (readOf 0 s) ≢ 0) → cond n (numberOf (readOf 0 s)) (cond a (cond t 5 0) 4) ≡ 0 → not n && a && not t ≡ true
+    by true a t f h = absurd (f refl h)
+    by false true true f h = absurd (omega (arith, h))
+    by false true false f h = refl
+    by false false t f h = absurd (omega (arith, h))
