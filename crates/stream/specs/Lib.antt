@@ -1,3 +1,4 @@
 pub mod Stream
+pub mod Often
 pub mod Frames
 pub mod Counted
