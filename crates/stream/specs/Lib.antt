@@ -1,4 +1,5 @@
 pub mod Stream
+pub mod Often
 pub mod Frames
 pub mod Counted
 pub mod Convert

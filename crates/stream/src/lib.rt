@@ -5,10 +5,13 @@ ghost use lib.ListN.{length};
 ghost use Rattle.records.specs.Record.{readOf, countsBeside};
 ghost use Rattle.records.specs.declared.Read.the-variants.{Record};
 ghost use Rattle.stream.specs.Stream.{none, entryOf, bornOf, acted, turn, turnedBack, noted, Ran, Played};
-ghost use Rattle.chip.specs.Chip.{quiet};
+ghost use mathlib.Core.Bool.{false, _&&_};
+ghost use Rattle.chip.specs.Chip.{quiet, busAsleep, happenedBy};
 ghost use Rattle.stream.specs.Frames.{framesOf};
+ghost use Rattle.stream.specs.Often.{often};
 use chip::Chip;
 use chip::Stepped;
+use events::BusEvent;
 use events::Event;
 use events::Setup;
 use records::Read;
@@ -73,15 +76,67 @@ fn turn_of(s: Stepped, next: usize, last: bool) -> Turn
     }
 }
 
+// The bus of a chip in SHIP: idle, even after START.
+fn doze(chip: Chip, event: BusEvent) -> Stepped
+    ensures { λ r. ⌜ r ≡ busAsleep event chip ⌝ }
+{
+    match event {
+        BusEvent::Start => refused(0, chip),
+        BusEvent::Out(_) => Stepped {
+            chip,
+            number: 0,
+            flag: true,
+            byte: 1,
+        },
+        BusEvent::In(_) => Stepped {
+            chip,
+            number: 0,
+            flag: true,
+            byte: 0xFF,
+        },
+        BusEvent::Stop => refused(0, chip),
+    }
+}
+
+// What happens to a chip in SHIP, or seldom.
+fn seldom(chip: Chip, event: Event, counts: [u16; 15]) -> Stepped
+    requires { ⌜ (chip .awake && often event) ≡ false ⌝ }
+    ensures { λ r. ⌜ r ≡ happenedBy event counts chip ⌝ }
+{
+    match event {
+        Event::Setup(_) => refused(2, chip),
+        Event::Por => chip.por(),
+        Event::Boot => chip.boot(),
+        Event::Scan => refused(4, chip),
+        Event::Temp => chip.temp(counts),
+        Event::Count(cc) => chip.count(cc),
+        Event::Sense(_) => refused(4, chip),
+        Event::Pin => chip.pin(),
+        Event::Load(level) => chip.load(level),
+        Event::Xready => chip.xready(),
+        Event::OnBus(bus) => doze(chip, bus),
+    }
+}
+
+// The counts beside an event that was read.
+fn counted(part: u8, event: Event, rest: &[u8], next: usize) -> [u16; 15]
+    requires { ⌜ readOf part (now rest) ≡ Record event next ⌝ }
+    ensures { λ r. ⌜ r ≡ countsBeside (now (rest .entry)) (Record event next) .of ⌝ }
+{
+    let counts = records::counts_in(event, &rest[4..next]);
+    counts.of
+}
+
 // A record that was read, done: SETUP makes the chip, every other event happens to it.
 fn act(chip: Chip, event: Event, rest: &[u8], next: usize) -> Stepped
     requires { ⌜ readOf (chip .setup .part) (now rest) ≡ Record event next ⌝ }
+    requires { ⌜ (chip .awake && often event) ≡ false ⌝ }
     ensures { λ r. ⌜ r ≡ acted event (countsBeside (now (rest .entry)) (Record event next)) chip ⌝ }
 {
     let Event::Setup(setup) = event else {
-        let counts = records::counts_in(event, &rest[4..next]);
-        let of = counts.of;
-        return chip.happen(event, of);
+        let setup = chip.setup;
+        let counts = counted(setup.part, event, rest, next);
+        return seldom(chip, event, counts);
     };
     born(setup)
 }
@@ -137,41 +192,59 @@ fn note(out: &mut [u8], n: usize, e: Entry)
     }
 }
 
-// The chip at the stream's end. The entries are written where all of them fit.
+// The chip at the stream's end. The entries are written where all of them fit. What is often done has an arm of its own, which
+// moves only what it has to.
 fn run(s: &[u8], out: &mut [u8]) -> Chip
     ensures { λ r. ⌜ Ran (now (s .entry)) (now (out .entry)) r (now (out .exit)) ⌝ }
 {
-    let mut chip = no_chip();
+    let mut step = refused(0, no_chip());
     let mut at = 0;
     let mut n = 0;
     while at < s.len() {
+        let chip = step.chip;
         let setup = chip.setup;
-        let part = setup.part;
         let rest = &s[at..];
-        let read = records::read_rest(rest, part);
+        let read = records::read_rest(rest, setup.part);
         let Read::Record { event, next } = read else {
             let back = turn_back(chip, read);
             let entry = back.entry;
             note(out, n, entry);
             n = n + 1;
-            let kept = back.chip;
             let last = back.last;
             if last {
-                return kept;
+                return chip;
             }
             at = at + back.next;
-            chip = kept;
             continue;
         };
-        let turn = turn_of(act(chip, event, rest, next), next, false);
-        let entry = turn.entry;
+        if chip.awake {
+            match event {
+                Event::Scan => step = chip.scan(counted(setup.part, event, rest, next)),
+                Event::Sense(value) => step = chip.sense(value),
+                Event::OnBus(bus) => match bus {
+                    BusEvent::Start => step = chip.start(),
+                    BusEvent::Out(byte) => step = chip.out(byte),
+                    BusEvent::In(nack) => step = chip.take(nack),
+                    BusEvent::Stop => step = chip.stop(),
+                },
+                Event::Setup(_)
+                | Event::Por
+                | Event::Boot
+                | Event::Temp
+                | Event::Count(_)
+                | Event::Pin
+                | Event::Load(_)
+                | Event::Xready => step = act(chip, event, rest, next),
+            }
+        } else {
+            step = act(chip, event, rest, next);
+        }
+        let entry = entry_of(step);
         note(out, n, entry);
         n = n + 1;
-        at = at + turn.next;
-        let after = turn.chip;
-        chip = after;
+        at = at + next;
     }
-    chip
+    step.chip
 }
 
 // How many entries a stream has, by its framing and its first record alone.
