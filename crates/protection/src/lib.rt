@@ -108,10 +108,12 @@ fn scd_limit(protect1: u8) -> u32
     ensures { λ r. ⌜ r ≡ getD (scdLimit (bit protect1 128)) (protect1 % 8) 0 ⌝ }
 {
     let code = (protect1 % 8) as usize;
+    let low = SCD_LOW[code];
+    let high = SCD_HIGH[code];
     if settings::bit(protect1, 128) {
-        SCD_HIGH[code]
+        high
     } else {
-        SCD_LOW[code]
+        low
     }
 }
 
@@ -119,10 +121,12 @@ fn ocd_limit(protect1: u8, protect2: u8) -> u32
     ensures { λ r. ⌜ r ≡ getD (ocdLimit (bit protect1 128)) (protect2 % 16) 0 ⌝ }
 {
     let code = (protect2 % 16) as usize;
+    let low = OCD_LOW[code];
+    let high = OCD_HIGH[code];
     if settings::bit(protect1, 128) {
-        OCD_HIGH[code]
+        high
     } else {
-        OCD_LOW[code]
+        low
     }
 }
 

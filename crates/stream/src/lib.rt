@@ -50,16 +50,23 @@ fn no_chip() -> Chip
     })
 }
 
+// ALERT is up where SYS_STAT is not 0.
 fn entry_of(s: Stepped) -> Entry
     ensures { λ r. ⌜ r ≡ entryOf s ⌝ }
 {
     let chip = s.chip;
+    let registers = chip.registers;
+    let shown = registers.shown;
+    let stat = chip.status();
+    let pins = settings::weigh(stat != 0, 4)
+        + settings::weigh(shown.chg, 2)
+        + settings::weigh(shown.dsg, 1);
     Entry {
         number: s.number,
         flag: settings::weigh(s.flag, 1),
         byte: s.byte,
-        stat: chip.status(),
-        pins: chip.pins(),
+        stat,
+        pins,
     }
 }
 
