@@ -4,6 +4,7 @@ ghost use Rattle.registers.specs.Read.{statusByte};
 ghost use Rattle.chip.specs.Outward.{pinsOf, saidCell, voltageSaid, Forecasts};
 use crate::Chip;
 use values::Microvolts;
+use values::RawCount;
 use values::Reading;
 
 pub enum CellAnswer {
@@ -61,7 +62,7 @@ impl Chip {
         let registers = self.registers;
         let measured = registers.measured;
         let count = measured.cell(setup, cell - 1);
-        CellAnswer::Is(values::cell_microvolts(setup.gain, setup.offset, count))
+        CellAnswer::Is(values::cell_microvolts(setup.gain, setup.offset, RawCount(count)))
     }
 
     // Forecasting's reading.

@@ -67,10 +67,10 @@ fn cell(code: u8, offset: u8, count: u16) -> i64
 }
 
 // The same in its unit, for a chip whose setup and counts were judged before.
-pub fn cell_microvolts(code: u8, offset: u8, count: u16) -> Microvolts
-    ensures { λ r. ⌜ r .0 ≡ cellMicrovolts code offset count ⌝ }
+pub fn cell_microvolts(code: u8, offset: u8, count: RawCount) -> Microvolts
+    ensures { λ r. ⌜ r .0 ≡ cellMicrovolts code offset (count .0) ⌝ }
 {
-    Microvolts(cell(code, offset, count))
+    Microvolts(cell(code, offset, count.0))
 }
 
 // A cell's voltage on bare numbers, which are judged.

@@ -150,7 +150,7 @@ fn cell_line(code: u8, offset: u8, count: u16) {
         CellVoltage::Is(v) => put_signed(v.0),
         CellVoltage::No(why) => put_refusal(why),
     }
-    let plain = values::cell_microvolts(code, offset, count);
+    let plain = values::cell_microvolts(code, offset, RawCount(count));
     put_signed(plain.0);
     io::write_all(STDOUT_FILENO, b"\n");
 }
