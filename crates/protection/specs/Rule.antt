@@ -45,12 +45,9 @@ delayCode Uv s = s .protect3 / 64 % 4
 delayCode Scd s = s .protect1 / 8 % 4
 delayCode Ocd s = s .protect2 / 16 % 8
 
--- with DELAY_DIS, for OV and UV only, one scan
+-- with DELAY_DIS one scan, or one tick (request M-101: for all four)
 abbrev pub short : Fault → Settings → Bool
-short Ov s = s .hasty
-short Uv s = s .hasty
-short Scd s = false
-short Ocd s = false
+short k s = s .hasty
 
 -- ── thresholds in µV, RSNS 0 then 1, code 0 first ──
 abbrev pub scdLimit : Bool → List ℕ

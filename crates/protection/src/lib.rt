@@ -145,6 +145,9 @@ fn uv_scans(s: Settings) -> u16
 fn scd_ticks(s: Settings) -> u16
     ensures { λ r. ⌜ r ≡ rule Scd s .need ⌝ }
 {
+    if s.hasty {
+        return 1;
+    }
     SCD_TICKS[(s.protect1 / 8 % 4) as usize]
 }
 
@@ -162,6 +165,9 @@ fn ticks_at(code: u8) -> u16
 fn ocd_ticks(s: Settings) -> u16
     ensures { λ r. ⌜ r ≡ rule Ocd s .need ⌝ }
 {
+    if s.hasty {
+        return 1;
+    }
     ticks_at(s.protect2 / 16 % 8)
 }
 
