@@ -347,7 +347,7 @@ impl Chip {
             Fault::Scd => (self.page[6] >> 3 & 3, &[3, 4, 7, 13]),
             Fault::Ocd => (self.page[7] >> 4, &[256, 640, 1_280, 2_560, 5_120, 10_240, 20_480, 40_960]),
         };
-        let by_scans = matches!(fault, Fault::Ov | Fault::Uv) || self.planted(Plant::DelayDisForCurrents);
+        let by_scans = matches!(fault, Fault::Ov | Fault::Uv) || !self.planted(Plant::DelayDisForScansOnly);
         if self.page[5] & DELAY_DIS != 0 && by_scans && !self.planted(Plant::DelayDisForgotten(fault)) {
             return 1;
         }

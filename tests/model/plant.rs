@@ -34,7 +34,7 @@ pub enum Plant {
     DelayLonger(Fault, u8),
     DelayShorter(Fault, u8),
     DelayDisForgotten(Fault),
-    DelayDisForCurrents,
+    DelayDisForScansOnly,
     SetBitStopsRun(Fault),
     ShorterDelayActsAtOnce,
     SilentScanKeepsRuns,
@@ -162,7 +162,7 @@ use Plant::*;
 const PLAIN: &[Plant] = &[
     WriteBeforeCrc, AddressInEveryWriteCrc, AddressInEveryReadCrc, LowByteReadAgain,
     OverAtLine, UnderAtLine, FloorItselfLeftOut, UnderIgnoresFloor, UnderByTwoCells, OnlyFirstInputJudged,
-    LastInputNotJudged, DelayDisForCurrents, ShorterDelayActsAtOnce, SilentScanKeepsRuns, SilentScanEndsCurrentRuns,
+    LastInputNotJudged, DelayDisForScansOnly, ShorterDelayActsAtOnce, SilentScanKeepsRuns, SilentScanEndsCurrentRuns,
     SilentScanStores, AdcOffEndsRuns, ThresholdWriteEndsRuns, RefusedScanEndsRuns, RefusedSenseEndsRuns,
     RunsOutliveShip, TripAtOldSetting, BatRoundedUp, BatOfFirstFive, TempWithAdcOff, SenseNegativeMeansCharge,
     OvPutsOffDischarge, OvLeavesCharge, UvLeavesDischarge, OcdLeavesDischarge, ScdLeavesDischarge,

@@ -151,11 +151,13 @@ spells =
     ∷ (between (cell 10953 ∷ write 0x00 0xFF), 4)
     ∷ []
 
--- with DELAY_DIS one scan is enough, not one tick; a longer delay asks for eight scans
+-- with DELAY_DIS one scan is enough, and one tick; a longer delay asks for eight scans
 abbrev pub delays : List Case
 delays =
     (write 0x05 0x80 ++ cell 10953 ∷ [], 4)
-    ∷ (write 0x05 0x80 ++ times 2 (tick 18501), 0)
+    ∷ (write 0x05 0x80 ++ times 1 (tick 18501), 3)
+    ∷ (write 0x05 0x80 ++ times 1 (tick 18500), 1)
+    ∷ (write 0x05 0x80 ++ times 1 (tick 9500), 0)
     ∷ (write 0x08 0x10 ++ times 7 (cell 10953), 0)
     ∷ (write 0x08 0x10 ++ times 8 (cell 10953), 4)
     ∷ []

@@ -56,7 +56,7 @@ module _ (u : Setup) (past : List Event) where
     pub ocd-after-tick : Accepted u past (Sense v) → (up u Ocd (Sense v ∷ past) ≡ true) ↔ ((up u Ocd past ≡ true) ∨₁ Due u Ocd (Sense v ∷ past))
     ocd-after-tick n = rising u Ocd past (Sense v) refl n
 
-  -- ── the delays now set: scans, with DELAY_DIS one; ticks ──
+  -- ── the delays now set: scans and ticks, with DELAY_DIS one ──
   pub ov-delay : delay u Ov past ≡ cond (standing u past .hasty) 1 (getD (4 ∷ 8 ∷ 16 ∷ 32 ∷ []) (standing u past .protect3 / 16 % 4) 0)
   unfolding rule
   ov-delay = refl
@@ -65,10 +65,10 @@ module _ (u : Setup) (past : List Event) where
   unfolding rule
   uv-delay = refl
 
-  pub scd-delay : delay u Scd past ≡ getD (3 ∷ 4 ∷ 7 ∷ 13 ∷ []) (standing u past .protect1 / 8 % 4) 0
+  pub scd-delay : delay u Scd past ≡ cond (standing u past .hasty) 1 (getD (3 ∷ 4 ∷ 7 ∷ 13 ∷ []) (standing u past .protect1 / 8 % 4) 0)
   unfolding rule
   scd-delay = refl
 
-  pub ocd-delay : delay u Ocd past ≡ getD (256 ∷ 640 ∷ 1280 ∷ 2560 ∷ 5120 ∷ 10240 ∷ 20480 ∷ 40960 ∷ []) (standing u past .protect2 / 16 % 8) 0
+  pub ocd-delay : delay u Ocd past ≡ cond (standing u past .hasty) 1 (getD (256 ∷ 640 ∷ 1280 ∷ 2560 ∷ 5120 ∷ 10240 ∷ 20480 ∷ 40960 ∷ []) (standing u past .protect2 / 16 % 8) 0)
   unfolding rule
   ocd-delay = refl

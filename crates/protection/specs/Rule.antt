@@ -1,7 +1,7 @@
 -- Document 01, "Judging": the rule of a fault as the settings now have it, the verdict of a scan or tick, and the runs. Assumes nothing.
 use mathlib.Core.Bool.{Bool, true, false, _&&_, cond}
 use mathlib.Core.List.{List, [], _∷_}
-use Prim.Native.Nat.{ℕ, _+_, _*_, _/_, _%_, max}
+use Prim.Native.Nat.{ℕ, zero, suc, _+_, _*_, _/_, _%_, max}
 use lib.ListN.{getD}
 use lib.Dec.{leb}
 use lib.IntN.{ℤ, pos, negℤ}
@@ -14,6 +14,15 @@ use Rattle.scan.specs.Scan.{someAbove, someBetween}
 use Rattle.protection.specs.Streak.{bumps}
 use Rattle.protection.specs.declared.Runs.{Runs}
 use Rattle.protection.specs.Fault.{runOf, runsOf}
+
+-- OCD ticks: code 0 gives 256, code k from 1 to 7 gives 640 doubled k − 1 times
+abbrev pub doubled : ℕ → ℕ → ℕ
+doubled zero x = x
+doubled (suc n) x = 2 * doubled n x
+
+abbrev pub ocdTicks : ℕ → ℕ
+ocdTicks zero = 256
+ocdTicks (suc k) = doubled k 640
 
 -- ── delays: scans needed for OV and UV, ticks for SCD and OCD, and the longest of each, where a run stops ──
 abbrev pub delayTable : Fault → List ℕ
@@ -36,12 +45,9 @@ delayCode Uv s = s .protect3 / 64 % 4
 delayCode Scd s = s .protect1 / 8 % 4
 delayCode Ocd s = s .protect2 / 16 % 8
 
--- with DELAY_DIS, for OV and UV only, one scan
+-- with DELAY_DIS one scan, or one tick (request M-101: for all four)
 abbrev pub short : Fault → Settings → Bool
-short Ov s = s .hasty
-short Uv s = s .hasty
-short Scd s = false
-short Ocd s = false
+short k s = s .hasty
 
 -- ── thresholds in µV, RSNS 0 then 1, code 0 first ──
 abbrev pub scdLimit : Bool → List ℕ

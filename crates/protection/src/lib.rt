@@ -1,12 +1,12 @@
 // Limits and delays by register code, the verdict of a tick, and the four runs.
 ghost use mathlib.Core.Path.{_≡_};
-ghost use Prim.Native.Nat.{_%_};
+ghost use Prim.Native.Nat.{_%_, _<_};
 ghost use lib.ListN.{getD};
 ghost use Rattle.events.specs.Fault.{Ov, Uv, Scd, Ocd};
 ghost use Rattle.settings.specs.Bit.{bit};
 ghost use Rattle.protection.specs.Streak.{bump};
 ghost use Rattle.protection.specs.Fault.{noRuns};
-ghost use Rattle.protection.specs.Rule.{scdLimit, ocdLimit, rule, beyond};
+ghost use Rattle.protection.specs.Rule.{ocdTicks, scdLimit, ocdLimit, rule, beyond};
 ghost use Rattle.protection.specs.Judged.{scanJudged, tickJudged};
 ghost use Rattle.protection.specs.Sag.{sag};
 use events::Faults;
@@ -61,8 +61,6 @@ const OV_SCANS: [u16; 4] = [4, 8, 16, 32];
 const UV_SCANS: [u16; 4] = [4, 16, 32, 64];
 
 const SCD_TICKS: [u16; 4] = [3, 4, 7, 13];
-
-const OCD_TICKS: [u16; 8] = [256, 640, 1280, 2560, 5120, 10240, 20480, 40960];
 
 // How many scans or ticks in a row were over or under; each stops at its longest delay.
 pub struct Runs {
@@ -151,13 +149,30 @@ fn uv_scans(s: Settings) -> u16
 fn scd_ticks(s: Settings) -> u16
     ensures { λ r. ⌜ r ≡ rule Scd s .need ⌝ }
 {
+    if s.hasty {
+        return 1;
+    }
     SCD_TICKS[(s.protect1 / 8 % 4) as usize]
+}
+
+// The over-current ticks of a code: 256, then 640 doubled with each code more. No table: the pack tester has no room for one.
+fn ticks_at(code: u8) -> u16
+    requires { ⌜ code < 8 ⌝ }
+    ensures { λ r. ⌜ r ≡ ocdTicks code ⌝ }
+{
+    if code == 0 {
+        return 256;
+    }
+    640 << (code - 1)
 }
 
 fn ocd_ticks(s: Settings) -> u16
     ensures { λ r. ⌜ r ≡ rule Ocd s .need ⌝ }
 {
-    OCD_TICKS[(s.protect2 / 16 % 8) as usize]
+    if s.hasty {
+        return 1;
+    }
+    ticks_at(s.protect2 / 16 % 8)
 }
 
 // How far a tick's value lies below 0; the least i32 too.
