@@ -26,8 +26,10 @@ use Rattle.chip.specs.declared.Chip.{Chip}
 use Rattle.chip.specs.Chip.{stored, onBus, normally, next}
 use Rattle.chip.specs.Core.{coreOf}
 use Rattle.chip.specs.Moves.{next-by, stored-by, asleep-by}
-use Rattle.demands.specs.Demand.{wrote, clears, chip, shown, alerted, core, StaysAwake}
-use Rattle.demands.specs.History.{setup-is, core-is}
+use Rattle.demands.specs.Demand.{wrote, clears, chip, shown, drive, alerted, core, StaysAwake, Asked}
+use Rattle.demands.specs.Ship.{in-ship-is}
+use Rattle.demands.specs.History.{setup-is, core-is, awake-is}
+use Rattle.demands.specs.Theorem.{asked-since}
 use Rattle.demands.specs.Latch.{Keeps, next-keeps, alert-up, and-false, or-left, or-right, cut, by-cond, when-true, wrote-asleep, wrote-unfit}
 
 -- ── the seven bits ──
@@ -273,6 +275,19 @@ module _ (u : Setup) where
   unfolding Latching
   bit-lowers b past e h = one b past e .down h
 
+  -- .. and on entering SHIP
+  pub bit-down-in-ship : (b : StatusBit) (past : List Event) → core u past .awake ≡ false → upAt b past ≡ false
+  bit-down-in-ship b past a = ap (λ c. bitAt b (c .registers .shown .status)) (in-ship-is u past (awake-is u past ∙ a)) ∙ dark-down b
+    where
+      dark-down : (b : StatusBit) → bitAt b (dark .status) ≡ false
+      dark-down CcReady = refl
+      dark-down XreadyBit = refl
+      dark-down OvrdAlert = refl
+      dark-down (FaultBit Ov) = refl
+      dark-down (FaultBit Uv) = refl
+      dark-down (FaultBit Scd) = refl
+      dark-down (FaultBit Ocd) = refl
+
   -- neither drive is on
   neither : (a b : Bool) → a || b ≡ false → (a ≡ false) × (b ≡ false)
   neither false b h = (refl, h)
@@ -284,3 +299,16 @@ module _ (u : Setup) where
 
   pub xready-holds-both : (past : List Event) → upAt XreadyBit past ≡ true → (shown u past .chg ≡ false) × (shown u past .dsg ≡ false)
   xready-holds-both past p = neither (shown u past .chg) (shown u past .dsg) (rw p at (off-while-up XreadyBit past))
+
+  -- a drive that either held comes on again only if some event since then is a write that asks for it
+  drive-off : (k : Fault) (past : List Event) → (shown u past .chg ≡ false) × (shown u past .dsg ≡ false) → drive u k past ≡ false
+  drive-off Ov past h = h .0
+  drive-off Uv past h = h .1
+  drive-off Scd past h = h .1
+  drive-off Ocd past h = h .1
+
+  pub ovrd-on-only-asked : (k : Fault) (later past : List Event) → upAt OvrdAlert past ≡ true → drive u k (later ++ past) ≡ true → Asked u k later past
+  ovrd-on-only-asked k later past p o = asked-since u k later past (drive-off k past (ovrd-holds-both past p)) o
+
+  pub xready-on-only-asked : (k : Fault) (later past : List Event) → upAt XreadyBit past ≡ true → drive u k (later ++ past) ≡ true → Asked u k later past
+  xready-on-only-asked k later past p o = asked-since u k later past (drive-off k past (xready-holds-both past p)) o

@@ -133,7 +133,7 @@ module _ (u : Setup) where
   unfolding Keeps
   comes-back k past e o p = one k past e .back o p
 
-  asked-since : (k : Fault) (later past : List Event) → drive u k past ≡ false → drive u k (later ++ past) ≡ true → Asked u k later past
+  pub asked-since : (k : Fault) (later past : List Event) → drive u k past ≡ false → drive u k (later ++ past) ≡ true → Asked u k later past
   asked-since k [] past o p = absurd (true≢false (sym p ∙ o))
   asked-since k (e ∷ later) past o p = by (drive u k (later ++ past)) refl (asked-since k later past o)
     where
