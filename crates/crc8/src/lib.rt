@@ -1,12 +1,15 @@
 // CRC-8 with x^8 + x^2 + x + 1: start 0, high bit first, nothing inverted.
 ghost use mathlib.Core.Path.{_≡_};
-ghost use Rattle.crc8.specs.Crc.{turn, byteOn, crcOn};
+ghost use Rattle.crc8.specs.Crc.{turns, byteOn, crcOn};
 
-// The remainder times x.
-fn crc_turn(c: u8) -> u8
-    ensures { λ r. ⌜ r ≡ turn c ⌝ }
+// The remainder times x^8. Since x^8 is x^2 + x + 1 here, that is the remainder times x^2 + x + 1, and again for what passes x^7.
+fn crc_turns(c: u8) -> u8
+    ensures { λ r. ⌜ r ≡ turns c ⌝ }
 {
-    if c < 128 { c * 2 } else { (c - 128) * 2 ^ 7 }
+    let wide = c as u16;
+    let product = wide ^ wide * 2 ^ wide * 4;
+    let over = product / 256 % 4;
+    ((product % 256 ^ over ^ over * 2 ^ over * 4) % 256) as u8
 }
 
 // One byte taken into a running CRC.
@@ -14,14 +17,7 @@ pub fn crc_byte(c: u8, b: u8) -> u8
     ensures { λ r. ⌜ r ≡ byteOn c b ⌝ }
 {
     let x = c ^ b;
-    let x = crc_turn(x);
-    let x = crc_turn(x);
-    let x = crc_turn(x);
-    let x = crc_turn(x);
-    let x = crc_turn(x);
-    let x = crc_turn(x);
-    let x = crc_turn(x);
-    crc_turn(x)
+    crc_turns(x)
 }
 
 // The bytes of s taken into a running CRC: from 0, the CRC of s.
