@@ -641,6 +641,9 @@ impl Maker {
         let (at, limits) = if fault == Fault::Scd { (0x06, 0x9F) } else { (0x07, 0x1F) };
         let value = self.rng.byte() & limits;
         self.write(at, &[value]);
+        if !self.rng.once_in(4) {
+            self.write(0x05, &[0x03]);
+        }
         if self.rng.once_in(2) {
             self.write(0x00, &[0xFF]);
             self.drives_on();
@@ -648,7 +651,7 @@ impl Maker {
         self.sense(0);
         let needed = self.chip().needed(fault);
         let many = self.rng.pick(&[needed - 1, needed, needed + 1]);
-        let disturbed = if self.rng.once_in(2) { self.rng.below(many) } else { usize::MAX };
+        let disturbed = if self.rng.once_in(2) { self.rng.below(many.max(1)) } else { usize::MAX };
         for tick in 0..many {
             if tick == disturbed {
                 self.disturb_current(fault);
