@@ -41,16 +41,16 @@ started l = lineOf Address (l .pointer)
 abbrev pub stopped : Line → Line
 stopped l = lineOf Idle (l .pointer)
 
--- ── OUT ──
+-- ── OUT: the byte given back is 0 where it is acknowledged, 1 where it is not ──
 abbrev pub goes : Phase → ℕ → Outed
-goes p a = record { line = lineOf p a; acked = true; store = Nothing }
+goes p a = record { line = lineOf p a; acked = true; byte = 0; store = Nothing }
 
 abbrev pub refuses : ℕ → Outed
-refuses a = record { line = lineOf Idle a; acked = false; store = Nothing }
+refuses a = record { line = lineOf Idle a; acked = false; byte = 1; store = Nothing }
 
 -- the pointer grows after each accepted data byte; the CRC of later ones has the data only
 abbrev pub stores : ℕ → ℕ → Outed
-stores a v = record { line = lineOf (Writing 0) (grown a); acked = true; store = At a v }
+stores a v = record { line = lineOf (Writing 0) (grown a); acked = true; byte = 0; store = At a v }
 
 unfoldable pub addressed : Setup → ℕ → ℕ → Outed
 addressed u a b =

@@ -43,10 +43,11 @@ pub enum Store {
     At(u8, u8),
 }
 
-// What OUT does: the line after it, the acknowledgement, and at most one accepted store.
+// What OUT does: the line after it, the acknowledgement and the byte that says it (0, or 1 for none), and at most one accepted store.
 pub struct Outed {
     pub line: Line,
     pub acked: bool,
+    pub byte: u8,
     pub store: Store,
 }
 
@@ -77,6 +78,7 @@ fn goes(phase: Phase, pointer: u8) -> Outed
     Outed {
         line,
         acked: true,
+        byte: 0,
         store,
     }
 }
@@ -90,6 +92,7 @@ fn refuses(pointer: u8) -> Outed
     Outed {
         line,
         acked: false,
+        byte: 1,
         store,
     }
 }
@@ -107,6 +110,7 @@ fn stores(pointer: u8, value: u8) -> Outed
     Outed {
         line,
         acked: true,
+        byte: 0,
         store,
     }
 }

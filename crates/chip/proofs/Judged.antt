@@ -1,9 +1,10 @@
--- What SCAN and SENSE put together is what their definitions say: one look, one judgement, one rise. Assumes nothing.
-use mathlib.Core.Path.{_≡_, refl, sym, ap, _∙_}
+-- What SCAN, SENSE and the bus put together is what their definitions say. Assumes nothing.
+use mathlib.Core.Path.{_≡_, ap, _∙_}
 use mathlib.Core.List.{List}
 use Prim.Native.Nat.{ℕ}
 use lib.IntN.{ℤ}
-use Rattle.events.specs.Event.{Event, Scan, Sense}
+use Rattle.events.specs.declared.BusEvent.{BusEvent}
+use Rattle.events.specs.Event.{Scan, Sense, OnBus}
 use Rattle.events.specs.Fault.{Ov, Uv, among}
 use Rattle.scan.specs.declared.Looked.{Looked}
 use Rattle.scan.specs.Scan.{lookedAt}
@@ -13,26 +14,32 @@ use Rattle.registers.specs.Fault.{raised}
 use Rattle.registers.specs.Judging.{scanKept}
 use Rattle.protection.specs.declared.Judged.{Judged}
 use Rattle.protection.specs.Rule.{rule}
-use Rattle.protection.specs.Judged.{judgedBy, scanJudged, tickJudged, scan-judged, tick-judged}
+use Rattle.protection.specs.Judged.{scanJudged, scan-judged, tickJudged}
 use Rattle.chip.specs.declared.Chip.{Chip}
+use Rattle.chip.specs.declared.Heard.{Heard}
 use Rattle.chip.specs.declared.Stepped.{Stepped}
-use Rattle.chip.specs.Chip.{quiet, withRegisters, withRuns, normally}
+use Rattle.chip.specs.Chip.{quiet, withBus, withRegisters, withRuns, normally}
+use Rattle.chip.specs.Parts.{raisedBy, heardOf, landed, told, tick-parts, bus-parts}
 
--- a chip with registers raised and runs gone on
-abbrev raisedTo : Registers → Judged → Chip → Stepped
-raisedTo r j c = quiet 0 (withRuns (j .runs) (withRegisters (withShown (raised (among (j .risen)) (r .shown)) r) c))
-
-pub scan-done : {s : Stepped} (c : Chip) (xs : List ℕ) (l : Looked) (j : Judged) (r : Registers)
+pub scan-done : {d : Chip} (c : Chip) (xs : List ℕ) (l : Looked) (j : Judged) (r : Registers)
     → l ≡ lookedAt (rule Ov (c .registers .settings) .limit) (c .setup .floor) (rule Uv (c .registers .settings) .limit) xs
     → j ≡ scanJudged (c .registers .settings) (l .over) (l .under) (c .runs)
     → r ≡ scanKept (l .cells) (l .sum) (c .registers)
-    → s ≡ raisedTo r j c
-    → s ≡ normally (Scan xs) c
+    → d ≡ withRuns (j .runs) (withRegisters (withShown (raised (among (j .risen)) (r .shown)) r) c)
+    → d ≡ normally (Scan xs) c .chip
 unfolding lookedAt
 scan-done c xs l j r hl hj hr h = h ∙ simp (hj, hr, hl, scan-judged)
 
-pub sense-done : {s : Stepped} (c : Chip) (v : ℤ) (j : Judged)
+pub sense-done : {s : Stepped} (c : Chip) (v : ℤ) (j : Judged) (d : Chip)
     → j ≡ tickJudged (c .registers .settings) v (c .runs)
-    → s ≡ raisedTo (c .registers) j c
+    → d ≡ raisedBy (j .risen) (withRuns (j .runs) c)
+    → s ≡ quiet 0 d
     → s ≡ normally (Sense v) c
-sense-done c v j hj h = h ∙ simp (hj, tick-judged (c .setup .floor))
+sense-done c v j d hj hd h = h ∙ ap (quiet 0) (hd ∙ ap (λ (j : Judged). raisedBy (j .risen) (withRuns (j .runs) c)) hj) ∙ tick-parts v c
+
+pub bus-done : {s : Stepped} (e : BusEvent) (c : Chip) (h : Heard) (d : Chip)
+    → h ≡ heardOf e c
+    → d ≡ landed (h .store) (withBus (h .bus) c)
+    → s ≡ record { chip = d; number = 0; flag = h .flag; byte = h .byte }
+    → s ≡ normally (OnBus e) c
+bus-done e c h d hh hd q = q ∙ ap (λ (d : Chip). record { chip = d; number = 0; flag = h .flag; byte = h .byte }) hd ∙ ap (λ (h : Heard). told h c) hh ∙ bus-parts e c

@@ -76,12 +76,8 @@ abbrev pub stored : Line → Store → Chip → Chip
 stored l Nothing c = moved l c
 stored l (At a v) c = storedAt l a v c
 
--- 0 acknowledged, 1 not
-abbrev pub nacked : Bool → ℕ
-nacked acked = cond acked 0 1
-
 abbrev pub sent : Outed → Chip → Stepped
-sent o c = answered (nacked (o .acked)) (stored (o .line) (o .store) c)
+sent o c = answered (o .byte) (stored (o .line) (o .store) c)
 
 abbrev pub reads : Chip → ℕ → ℕ
 reads c a = readAt (c .setup) (c .registers) a

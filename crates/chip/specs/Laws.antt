@@ -33,7 +33,7 @@ use Rattle.values.specs.Forecast.{fold, totalOf}
 use Rattle.chip.specs.declared.Chip.{Chip}
 use Rattle.chip.specs.declared.Stepped.{Stepped}
 use Rattle.chip.specs.declared.outward.ForecastAnswer.the-variants.{Is}
-use Rattle.chip.specs.Chip.{quiet, answered, inShip, accepted, storedAt, stored, nacked, normally, asleep, happened, stepped}
+use Rattle.chip.specs.Chip.{quiet, answered, inShip, accepted, storedAt, stored, normally, asleep, happened, stepped}
 use Rattle.chip.specs.Moves.{normal-is}
 use Rattle.chip.specs.Outward.{voltageSaid, Forecasts}
 use Rattle.chip.specs.Voltage.{cell-said}
@@ -54,14 +54,14 @@ unfolding storedAt
 store-ships l a v c h = ap (λ (t : Bool). cond t (inShip (c .setup)) (accepted l a v c)) h
 
 -- a byte that stores is acknowledged
-stores-by : (t : Bool) (o p : Outed) (a v : ℕ) → (o .store ≡ At a v → o .acked ≡ true) → (p .store ≡ At a v → p .acked ≡ true) → cond t o p .store ≡ At a v → cond t o p .acked ≡ true
+stores-by : (t : Bool) (o p : Outed) (a v : ℕ) → (o .store ≡ At a v → o .byte ≡ 0) → (p .store ≡ At a v → p .byte ≡ 0) → cond t o p .store ≡ At a v → cond t o p .byte ≡ 0
 stores-by true o p a v h k s = h s
 stores-by false o p a v h k s = k s
 
-no-store : (a v : ℕ) → Nothing ≡ At a v → false ≡ true
+no-store : (a v : ℕ) → Nothing ≡ At a v → _≡_ {A = ℕ} 1 0
 no-store a v s = cc
 
-stored-acked : (u : Setup) (p : Phase) (at b a v : ℕ) → outIn u p at b .store ≡ At a v → outIn u p at b .acked ≡ true
+stored-acked : (u : Setup) (p : Phase) (at b a v : ℕ) → outIn u p at b .store ≡ At a v → outIn u p at b .byte ≡ 0
 unfolding addressed fed checked
 stored-acked u Idle at b a v s = no-store a v s
 stored-acked u Address at b a v s =
@@ -79,7 +79,7 @@ pub out-ships : (b a v : ℕ) (c : Chip) → c .awake ≡ true → outed (c .set
 unfolding fits outed
 out-ships b a v c on s h =
     normal-is (OnBus (Out b)) c refl on
-    ∙ ap (λ (t : Bool). answered (nacked t) (stored (o .line) (o .store) c)) (stored-acked (c .setup) (c .bus .line .phase) (c .bus .line .pointer) b a v s)
+    ∙ ap (λ (t : ℕ). answered t (stored (o .line) (o .store) c)) (stored-acked (c .setup) (c .bus .line .phase) (c .bus .line .pointer) b a v s)
     ∙ ap (λ (t : Store). answered 0 (stored (o .line) t c)) s
     ∙ ap (answered 0) (store-ships (o .line) a v c h)
   where

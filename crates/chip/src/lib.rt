@@ -4,17 +4,22 @@ ghost use lib.ListN.{take};
 ghost use Rattle.events.specs.Setup.{groups, inputs};
 ghost use Rattle.events.specs.Event.{Por, Boot, Pin, Xready, Scan, Temp, Count, Sense, Load, OnBus};
 ghost use Rattle.events.specs.declared.BusEvent.the-variants.{Start, Out, In, Stop};
-ghost use Rattle.chip.specs.Chip.{quiet as quietSpec, answered as answeredSpec, inShip as inShipSpec, moved as movedSpec, accepted as acceptedSpec, stored as storedSpec, storedAt, nacked as nackedSpec, given as fetchedSpec, happened, happenedBy, steppedBy};
+ghost use Rattle.chip.specs.Chip.{quiet as quietSpec, answered as answeredSpec, inShip as inShipSpec, given as fetchedSpec, normally, busAsleep, happened, happenedBy, steppedBy};
+ghost use Rattle.chip.specs.Parts.{unheard as unheardSpec, sentOn as sentSpec, handedOver as handedSpec, heardOf, wrote as wroteSpec, landed as landedSpec, raisedBy};
+ghost use Rattle.protection.specs.Judged.{tickJudged};
 ghost use Rattle.bus.specs.Bus.{wanted};
 use bus::Bus;
 use bus::Line;
+use bus::Outed;
 use bus::Store;
 use bus::Taken;
 use bus::Want;
 use events::BusEvent;
 use events::Counts;
 use events::Event;
+use events::Faults;
 use events::Setup;
+use protection::Judged;
 use protection::Runs;
 use registers::Registers;
 
@@ -37,6 +42,14 @@ pub struct Stepped {
     pub number: u8,
     pub flag: bool,
     pub byte: u8,
+}
+
+// What an event of the bus does at once: the bus after it, the flag and byte given back, and at most one accepted store, which follows.
+pub struct Heard {
+    pub bus: Bus,
+    pub flag: bool,
+    pub byte: u8,
+    pub store: Store,
 }
 
 // An answer with no bus byte.
@@ -63,15 +76,6 @@ fn answered(byte: u8, chip: Chip) -> Stepped
     }
 }
 
-fn nacked(acked: bool) -> u8
-    ensures { λ r. ⌜ r ≡ nackedSpec acked ⌝ }
-{
-    if acked {
-        return 0;
-    }
-    1
-}
-
 // The chip in SHIP, as it is after setup, POR and the shipping sequence.
 pub fn in_ship(setup: Setup) -> Chip
     ensures { λ r. ⌜ r ≡ inShipSpec setup ⌝ }
@@ -85,6 +89,49 @@ pub fn in_ship(setup: Setup) -> Chip
         bus,
         registers,
         runs,
+    }
+}
+
+// START and STOP: nothing given back.
+fn unheard(line: Line, bus: Bus) -> Heard
+    ensures { λ r. ⌜ r ≡ unheardSpec line bus ⌝ }
+{
+    let bus = Bus { line, ..bus };
+    let store = Store::Nothing;
+    Heard {
+        bus,
+        flag: false,
+        byte: 0,
+        store,
+    }
+}
+
+// OUT.
+fn sent(out: Outed, bus: Bus) -> Heard
+    ensures { λ r. ⌜ r ≡ sentSpec out bus ⌝ }
+{
+    let line = out.line;
+    let bus = Bus { line, ..bus };
+    let store = out.store;
+    Heard {
+        bus,
+        flag: true,
+        byte: out.byte,
+        store,
+    }
+}
+
+// IN.
+fn handed(taken: Taken) -> Heard
+    ensures { λ r. ⌜ r ≡ handedSpec taken ⌝ }
+{
+    let bus = taken.bus;
+    let store = Store::Nothing;
+    Heard {
+        bus,
+        flag: true,
+        byte: taken.byte,
+        store,
     }
 }
 
@@ -110,13 +157,10 @@ impl Chip {
         )
     }
 
-    // One look over the counts stores, sums and judges.
-    pub fn scan(self, counts: [u16; 15]) -> Stepped
-        ensures { λ r. ⌜ r ≡ happened (Scan (take (inputs (self .setup)) counts)) self ⌝ }
+    // In NORMAL: one look over the counts stores, sums and judges.
+    pub fn scanned(mut self, counts: [u16; 15]) -> Self
+        ensures { λ r. ⌜ r ≡ normally (Scan (take (inputs (self .setup)) counts)) self .chip ⌝ }
     {
-        if !self.awake {
-            return quiet(4, self);
-        }
         let setup = self.setup;
         let registers = self.registers;
         let s = registers.settings;
@@ -128,40 +172,51 @@ impl Chip {
         let cells = looked.cells;
         let stored = registers.scanned(cells, looked.sum);
         let risen = judged.risen;
-        let registers = stored.raised(risen);
+        self.registers = stored.raised(risen);
         let runs = judged.runs;
-        quiet(
-            0,
-            Chip {
-                registers,
-                runs,
-                ..self
-            },
-        )
+        self.runs = runs;
+        self
+    }
+
+    pub fn scan(self, counts: [u16; 15]) -> Stepped
+        ensures { λ r. ⌜ r ≡ happened (Scan (take (inputs (self .setup)) counts)) self ⌝ }
+    {
+        if !self.awake {
+            return quiet(4, self);
+        }
+        quiet(0, self.scanned(counts))
+    }
+
+    // In NORMAL: one tick judged.
+    pub fn sensed(self, value: i32) -> Judged
+        ensures { λ r. ⌜ r ≡ tickJudged (self .registers .settings) value (self .runs) ⌝ }
+    {
+        let registers = self.registers;
+        let runs = self.runs;
+        runs.sensed(registers.settings, value)
+    }
+
+    // What rises is shown, and puts off its drive.
+    pub fn raised(mut self, risen: Faults) -> Self
+        ensures { λ r. ⌜ r ≡ raisedBy risen self ⌝ }
+    {
+        let registers = self.registers;
+        self.registers = registers.raised(risen);
+        self
     }
 
     // One tick.
-    pub fn sense(self, value: i32) -> Stepped
+    pub fn sense(mut self, value: i32) -> Stepped
         ensures { λ r. ⌜ r ≡ happened (Sense value) self ⌝ }
     {
         if !self.awake {
             return quiet(4, self);
         }
-        let registers = self.registers;
-        let s = registers.settings;
-        let runs = self.runs;
-        let judged = runs.sensed(s, value);
-        let risen = judged.risen;
-        let registers = registers.raised(risen);
+        let judged = self.sensed(value);
         let runs = judged.runs;
-        quiet(
-            0,
-            Chip {
-                registers,
-                runs,
-                ..self
-            },
-        )
+        self.runs = runs;
+        let risen = judged.risen;
+        quiet(0, self.raised(risen))
     }
 
     pub fn temp(self, counts: [u16; 15]) -> Stepped
@@ -224,92 +279,97 @@ impl Chip {
 
 // The bus.
 impl Chip {
-    fn moved(self, line: Line) -> Self
-        ensures { λ r. ⌜ r ≡ movedSpec line self ⌝ }
+    // In NORMAL: what an event does to the bus, before a store.
+    pub fn heard(self, event: BusEvent) -> Heard
+        ensures { λ r. ⌜ r ≡ heardOf event self ⌝ }
     {
         let bus = self.bus;
-        let bus = Bus { line, ..bus };
-        Chip { bus, ..self }
+        let line = bus.line;
+        match event {
+            BusEvent::Start => unheard(line.start(), bus),
+            BusEvent::Out(byte) => sent(line.out(self.setup, byte), bus),
+            BusEvent::In(nack) => handed(self.fetched(nack, bus.wants())),
+            BusEvent::Stop => unheard(line.stop(), bus),
+        }
     }
 
-    fn accepted(self, line: Line, at: u8, value: u8) -> Self
-        ensures { λ r. ⌜ r ≡ acceptedSpec line at value self ⌝ }
+    // In NORMAL: the accepted write of a byte at an address; it may ship.
+    pub fn wrote(mut self, at: u8, value: u8) -> Self
+        ensures { λ r. ⌜ r ≡ wroteSpec at value self ⌝ }
     {
-        let moved = self.moved(line);
-        let registers = self.registers;
         let setup = self.setup;
-        let registers = registers.write(setup, at, value);
-        Chip { registers, ..moved }
-    }
-
-    fn stored_at(self, line: Line, at: u8, value: u8) -> Self
-        ensures { λ r. ⌜ r ≡ storedAt line at value self ⌝ }
-    {
         let registers = self.registers;
         let settings = registers.settings;
         if settings.ships(at, value) {
-            return in_ship(self.setup);
+            return in_ship(setup);
         }
-        self.accepted(line, at, value)
+        self.registers = registers.write(setup, at, value);
+        self
     }
 
-    fn stored(self, line: Line, store: Store) -> Self
-        ensures { λ r. ⌜ r ≡ storedSpec line store self ⌝ }
+    fn landed(self, store: Store) -> Self
+        ensures { λ r. ⌜ r ≡ landedSpec store self ⌝ }
     {
         match store {
-            Store::Nothing => self.moved(line),
-            Store::At(at, value) => self.stored_at(line, at, value),
+            Store::Nothing => self,
+            Store::At(at, value) => self.wrote(at, value),
+        }
+    }
+
+    // The bus in SHIP: idle, even after START.
+    pub fn doze(self, event: BusEvent) -> Stepped
+        ensures { λ r. ⌜ r ≡ busAsleep event self ⌝ }
+    {
+        match event {
+            BusEvent::Start => quiet(0, self),
+            BusEvent::Out(_) => answered(1, self),
+            BusEvent::In(_) => answered(0xFF, self),
+            BusEvent::Stop => quiet(0, self),
+        }
+    }
+
+    fn on_bus(mut self, event: BusEvent) -> Stepped
+        ensures { λ r. ⌜ r ≡ happened (OnBus event) self ⌝ }
+    {
+        if !self.awake {
+            return self.doze(event);
+        }
+        let heard = self.heard(event);
+        let bus = heard.bus;
+        self.bus = bus;
+        let store = heard.store;
+        let chip = self.landed(store);
+        Stepped {
+            chip,
+            number: 0,
+            flag: heard.flag,
+            byte: heard.byte,
         }
     }
 
     pub fn start(self) -> Stepped
         ensures { λ r. ⌜ r ≡ happened (OnBus Start) self ⌝ }
     {
-        if !self.awake {
-            return quiet(0, self);
-        }
-        let bus = self.bus;
-        let line = bus.line;
-        quiet(0, self.moved(line.start()))
+        self.on_bus(BusEvent::Start)
     }
 
     pub fn stop(self) -> Stepped
         ensures { λ r. ⌜ r ≡ happened (OnBus Stop) self ⌝ }
     {
-        if !self.awake {
-            return quiet(0, self);
-        }
-        let bus = self.bus;
-        let line = bus.line;
-        quiet(0, self.moved(line.stop()))
+        self.on_bus(BusEvent::Stop)
     }
 
     pub fn out(self, byte: u8) -> Stepped
         ensures { λ r. ⌜ r ≡ happened (OnBus (Out byte)) self ⌝ }
     {
-        if !self.awake {
-            return answered(1, self);
-        }
-        let bus = self.bus;
-        let line = bus.line;
-        let setup = self.setup;
-        let out = line.out(setup, byte);
-        let after = out.line;
-        let store = out.store;
-        answered(nacked(out.acked), self.stored(after, store))
+        self.on_bus(BusEvent::Out(byte))
     }
 
     // IN; `nack`: the host does not acknowledge.
     pub fn take(self, nack: bool) -> Stepped
         ensures { λ r. ⌜ r ≡ happened (OnBus (In nack)) self ⌝ }
     {
-        if !self.awake {
-            return answered(0xFF, self);
-        }
-        let bus = self.bus;
-        let taken = self.fetched(nack, bus.wants());
-        let after = taken.bus;
-        answered(taken.byte, Chip { bus: after, ..self })
+        self.on_bus(BusEvent::In(nack))
     }
 
     // What the bus gives, once it is told the registers that it asks for.
@@ -322,9 +382,8 @@ impl Chip {
         let registers = self.registers;
         match want {
             Want::Register(at) => {
-                let here = registers.read(setup, at);
-                let low = registers.read(setup, bus::grown(at));
-                bus.take(setup, here, low, nack)
+                let pair = registers.pair(setup, at);
+                bus.take(setup, pair.here, pair.low, nack)
             }
             Want::Nothing => bus.take(setup, 0, 0, nack),
         }
@@ -333,17 +392,6 @@ impl Chip {
 
 // An event of any kind whose values are in range, with the counts beside it. SETUP is none for a chip that stands.
 impl Chip {
-    fn on_bus(self, event: BusEvent) -> Stepped
-        ensures { λ r. ⌜ r ≡ happened (OnBus event) self ⌝ }
-    {
-        match event {
-            BusEvent::Start => self.start(),
-            BusEvent::Out(byte) => self.out(byte),
-            BusEvent::In(nack) => self.take(nack),
-            BusEvent::Stop => self.stop(),
-        }
-    }
-
     pub fn happen(self, event: Event, counts: [u16; 15]) -> Stepped
         ensures { λ r. ⌜ r ≡ happenedBy event counts self ⌝ }
     {

@@ -2,6 +2,7 @@ pub mod Numbers
 pub mod Kind
 pub mod Frame
 pub mod Record
+pub mod Framing
 pub mod Ranges
 pub mod Words
 pub mod Counted

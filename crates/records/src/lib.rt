@@ -4,8 +4,8 @@ ghost use Prim.Native.Nat.{_+_, _<_, _≤_};
 ghost use lib.ListN.{length};
 ghost use Rattle.events.specs.Event.{countMost, within};
 ghost use Rattle.records.specs.Numbers.{le16, le32, words, wordOr, filled};
-ghost use Rattle.records.specs.Frame.{frameOf};
-ghost use Rattle.records.specs.Record.{senseOf, setupIn, bareIn, countedIn, countIn, senseIn, switchIn, loadOf, inOf, outIn, groupsAt, inputsAt, laterOf, payloadOf, readOf, noCounts, countsOf, countsIn, takenAt};
+ghost use Rattle.records.specs.Frame.{frameOf, headerOf};
+ghost use Rattle.records.specs.Record.{senseOf, setupIn, bareIn, countedIn, countIn, senseIn, switchIn, loadOf, inOf, outIn, groupsAt, inputsAt, laterOf, payloadOf, readOf, numberOf, noCounts, countsOf, countsIn, takenAt};
 use events::BusEvent;
 use events::Checked;
 use events::Counts;
@@ -23,6 +23,12 @@ pub enum Read {
     Record { event: Event, next: usize },
     Refused { number: u8, next: usize },
     Cut,
+}
+
+// The header of a record that is whole, as its kind and the place after it, or of one that is cut short.
+pub enum Framed {
+    Header { kind: u16, next: usize },
+    Short,
 }
 
 // What was read, and the counts that stand beside it.
@@ -201,7 +207,7 @@ fn later_of(kind: u16, part: u8, b: &[u8]) -> Payload
 }
 
 // The payload of a kind at a part, 0 where none stands yet.
-fn payload_of(kind: u16, part: u8, b: &[u8]) -> Payload
+pub fn payload_of(kind: u16, part: u8, b: &[u8]) -> Payload
     ensures { λ r. ⌜ r ≡ payloadOf kind part (now (b .entry)) ⌝ }
 {
     if part != 0 {
@@ -336,6 +342,38 @@ pub fn take_record(s: &[u8], at: usize, part: u8) -> Taken
             read: Read::Cut,
             counts,
         },
+    }
+}
+
+// The header that bytes begin with.
+pub fn header_of(rest: &[u8]) -> Framed
+    ensures { λ r. ⌜ r ≡ headerOf (now (rest .entry)) ⌝ }
+{
+    if rest.len() < 4 {
+        return Framed::Short;
+    }
+    let n = get16(rest, 0) as usize;
+    if rest.len() - 4 < n {
+        return Framed::Short;
+    }
+    let kind = get16(rest, 2);
+    Framed::Header { kind, next: 4 + n }
+}
+
+// The number of the record that a stream begins with: 0 for a good SETUP.
+pub fn first_number(s: &[u8]) -> u8
+    ensures { λ r. ⌜ r ≡ numberOf (readOf 0 (now (s .entry))) ⌝ }
+{
+    let framed = header_of(s);
+    let Framed::Header { kind, next } = framed else {
+        return 9;
+    };
+    if kind != 0 {
+        return 2;
+    }
+    match setup_in(&s[4..next]) {
+        Payload::Whole(_) => 0,
+        Payload::Unfit(number) => number,
     }
 }
 

@@ -1,10 +1,10 @@
 -- Document 01, "Registers": laws of reading and writing, for every value of the registers. Assumes nothing.
-use mathlib.Core.Path.{_≡_, refl, sym, ap}
+use mathlib.Core.Path.{_≡_, refl, sym, ap, _∙_}
 use mathlib.Core.Bool.{Bool, true, false, not, _&&_, _||_, cond}
 use Prim.Native.Nat.{ℕ, _+_, _*_, _-_, _/_, _%_, _<_, _≤_}
 use native.Mathlib.Omega.{arith}
-use lib.Dec.{eqb, leb}
-use borrow.Author.Tests.{eqb-true, ne-eqb, lt-ltb, le-ltb, le-leb, lt-leb}
+use lib.Dec.{eqb, leb, ltb}
+use borrow.Author.Tests.{eqb-true, ne-eqb, ltb-true, ltb-false, lt-ltb, le-ltb, le-leb, lt-leb}
 use Rattle.events.specs.declared.Setup.{Setup}
 use Rattle.events.specs.Setup.{groups, inputs}
 use Rattle.settings.specs.Bit.{weighed}
@@ -12,10 +12,11 @@ use Rattle.settings.specs.Write.{protect1Of, protect2Of, protect3Of, cfgOf, set
 use Rattle.settings.specs.Read.{settingsByte}
 use Rattle.registers.specs.declared.Status.{Status}
 use Rattle.registers.specs.declared.Balance.{Balance}
+use Rattle.registers.specs.declared.Measured.{Measured}
 use Rattle.registers.specs.declared.Registers.{Registers}
 use Rattle.registers.specs.State.{alert}
 use Rattle.registers.specs.Write.{statusOf, without, fiveOf, shownWith, balanceWith, written}
-use Rattle.registers.specs.Read.{statusByte, balanceByte, lowByte, half, wordAt, fixedByte, readAt}
+use Rattle.registers.specs.Read.{statusByte, balanceByte, lowByte, half, wordAt, fixedByte, readAt, pairAt}
 
 -- ── writes to unnamed and read-only addresses change nothing ──
 pub read-only : (u : Setup) (a v : ℕ) (r : Registers) → 0x0B < a → written u a v r ≡ r
@@ -124,3 +125,23 @@ some-bit false false false false false false false = refl
 
 pub alert-is : (t : Status) → alert t ≡ not (eqb (statusByte t) 0)
 alert-is t = some-bit (t .ready) (t .xready) (t .ovrd) (t .uv) (t .ov) (t .scd) (t .ocd)
+
+-- ── a pair's low byte, as IN is told it, is what the odd address reads ──
+even-below : (a k : ℕ) → a % 2 ≡ 0 → k % 2 ≡ 0 → ltb (a + 1) k ≡ ltb a k
+even-below a k e f = by (ltb a k) refl
+  where
+    by : (t : Bool) → ltb a k ≡ t → ltb (a + 1) k ≡ ltb a k
+    by true h = let p : a < k = ltb-true a k h in lt-ltb (a + 1) k (omega arith) ∙ sym h
+    by false h = let p : k ≤ a = ltb-false a k h in le-ltb (a + 1) k (omega arith) ∙ sym h
+
+same-word : (u : Setup) (m : Measured) (a : ℕ) → a % 2 ≡ 0 → 0x0C ≤ a → wordAt u m (a + 1) ≡ wordAt u m a
+unfolding wordAt
+same-word u m a e h =
+    let p : (a + 1 - 0x0C) / 2 ≡ (a - 0x0C) / 2 = omega arith in
+    let q : (a + 1 - 0x2C) / 2 ≡ (a - 0x2C) / 2 = omega arith in
+    simp (even-below a 0x2A e refl, even-below a 0x2C e refl, even-below a 0x32 e refl, p, q)
+
+pub pair-low : (u : Setup) (r : Registers) (a : ℕ) → a % 2 ≡ 0 → 0x0C ≤ a → a ≤ 0x32 → pairAt u r a .low ≡ readAt u r (a + 1)
+unfolding pairAt readAt half
+pair-low u r a e h k =
+    simp (le-ltb a 0x0C h, lt-ltb a 0x34 (omega arith), le-ltb (a + 1) 0x0C (omega arith), lt-ltb (a + 1) 0x34 (omega arith), ne-eqb ((a + 1) % 2) 0 (λ z. omega arith), same-word u (r .measured) a e h)

@@ -11,6 +11,7 @@ use Rattle.registers.specs.declared.Status.{Status}
 use Rattle.registers.specs.declared.Balance.{Balance}
 use Rattle.registers.specs.declared.Measured.{Measured}
 use Rattle.registers.specs.declared.Registers.{Registers}
+use Rattle.registers.specs.declared.Pair.{Pair}
 use Rattle.registers.specs.Write.{fiveOf}
 
 -- 0x00 SYS_STAT: CC_READY 7, XREADY 5, OVRD_ALERT 4, UV 3, OV 2, SCD 1, OCD 0
@@ -71,3 +72,7 @@ fixedByte u a =
 
 unfoldable pub readAt : Setup → Registers → ℕ → ℕ
 readAt u r a = cond (ltb a 0x0C) (lowByte u r a) (cond (ltb a 0x34) (half a (wordAt u (r .measured) a)) (fixedByte u a))
+
+-- what IN is told of an address: the byte that it reads, and the low byte of the word that stands there, 0 where none does
+unfoldable pub pairAt : Setup → Registers → ℕ → Pair
+pairAt u r a = record { here = readAt u r a; low = cond (ltb a 0x0C) 0 (cond (ltb a 0x34) (wordAt u (r .measured) a % 256) 0) }

@@ -51,6 +51,12 @@ pub struct Registers {
     pub load: bool,
 }
 
+// The byte at an address, and the low byte of the word that stands there.
+pub struct Pair {
+    pub here: u8,
+    pub low: u8,
+}
+
 impl Status {
     // ALERT.
     pub fn alert(self) -> bool
@@ -241,40 +247,35 @@ pub fn reset() -> Registers
 
 impl Registers {
     // The accepted write of `v` at `a`; whether it ships, the settings say before.
-    pub fn write(self, setup: Setup, a: u8, v: u8) -> Self
+    pub fn write(mut self, setup: Setup, a: u8, v: u8) -> Self
         ensures { λ r. ⌜ r ≡ written setup a v self ⌝ }
     {
         let settings = self.settings;
-        let settings = settings.write(a, v);
         let shown = self.shown;
-        let shown = shown.write(a, v);
         let balance = self.balance;
-        let balance = balance.write(setup, a, v);
-        Registers {
-            settings,
-            shown,
-            balance,
-            ..self
-        }
+        self.settings = settings.write(a, v);
+        self.balance = balance.write(setup, a, v);
+        self.shown = shown.write(a, v);
+        self
     }
 
-    pub fn raised(self, rise: Faults) -> Self
+    pub fn raised(mut self, rise: Faults) -> Self
         ensures { λ r. ⌜ r ≡ withShown (raisedSpec (among rise) (self .shown)) self ⌝ }
     {
         let shown = self.shown;
-        let shown = shown.raised(rise);
-        Registers { shown, ..self }
+        self.shown = shown.raised(rise);
+        self
     }
 
     // SCAN: the counts in their places, and their sum.
-    pub fn scanned(self, cells: [u16; 15], sum: u32) -> Self
+    pub fn scanned(mut self, cells: [u16; 15], sum: u32) -> Self
         ensures { λ r. ⌜ r ≡ scanKept cells sum self ⌝ }
     {
         if self.settings.adc {
             let m = self.measured;
             let bat = (sum / 4 % 65536) as u16;
             let measured = Measured { cells, bat, ..m };
-            return Registers { measured, ..self };
+            self.measured = measured;
         }
         self
     }

@@ -1,9 +1,10 @@
 // What an address reads.
 ghost use mathlib.Core.Path.{_≡_};
 ghost use Prim.Native.Nat.{_≤_, _<_};
-ghost use Rattle.registers.specs.Read.{statusByte, balanceByte, ctrl1Byte, ctrl2Byte, lowByte, half, cellAt, tsAt, wordAt, fixedByte, readAt};
+ghost use Rattle.registers.specs.Read.{statusByte, balanceByte, ctrl1Byte, ctrl2Byte, lowByte, half, cellAt, tsAt, wordAt, fixedByte, readAt, pairAt};
 use crate::Balance;
 use crate::Measured;
+use crate::Pair;
 use crate::Registers;
 use crate::Status;
 use events::Setup;
@@ -146,17 +147,32 @@ impl Registers {
         settings.byte(a)
     }
 
+    // What IN is told of any address.
+    pub fn pair(self, setup: Setup, a: u8) -> Pair
+        ensures { λ r. ⌜ r ≡ pairAt setup self a ⌝ }
+    {
+        if a < 0x0C {
+            let here = self.low_byte(setup, a);
+            return Pair { here, low: 0 };
+        }
+        if a < 0x34 {
+            let measured = self.measured;
+            let word = measured.word(setup, a);
+            let here = half_of(a, word);
+            return Pair {
+                here,
+                low: (word % 256) as u8,
+            };
+        }
+        let here = fixed_byte(setup, a);
+        Pair { here, low: 0 }
+    }
+
     // What the host reads at any address.
     pub fn read(self, setup: Setup, a: u8) -> u8
         ensures { λ r. ⌜ r ≡ readAt setup self a ⌝ }
     {
-        if a < 0x0C {
-            return self.low_byte(setup, a);
-        }
-        if a < 0x34 {
-            let measured = self.measured;
-            return half_of(a, measured.word(setup, a));
-        }
-        fixed_byte(setup, a)
+        let pair = self.pair(setup, a);
+        pair.here
     }
 }

@@ -1,7 +1,7 @@
 -- The loop that counts frames: what it has counted and what is left make the count. Assumes nothing.
-use mathlib.Core.Path.{_≡_, refl, ap, sym, _∙_}
+use mathlib.Core.Path.{_≡_, refl, ap, sym, _∙_, subst}
 use mathlib.Core.Bool.{Bool, true, false, cond}
-use mathlib.Core.Logic.{_≢_, ⊎-elim}
+use mathlib.Core.Logic.{_≢_}
 use mathlib.Core.List.{List, [], _∷_}
 use Prim.Native.Nat.{ℕ, zero, suc, _+_, _-_, _*_, _<_, _≤_}
 use native.Mathlib.Omega.{arith}
@@ -10,17 +10,15 @@ use lib.Dec.{eqb}
 use lib.ListN.{length, take, drop, length-drop, drop-of-length-le}
 use lib.Seq.{drop-drop}
 use borrow.Author.Tests.{eq-eqb, ne-eqb}
-use types.Run.{OneOf}
-use denote.Enum.Declared.{tagOf}
 use Rattle.events.specs.declared.Event.{Event}
-use Rattle.records.proofs.Read.{the-type as read-type}
 use Rattle.records.specs.declared.Read.{Read}
 use Rattle.records.specs.declared.Read.the-variants.{Record, Refused, Cut}
 use Rattle.records.specs.Frame.{frameOf}
-use Rattle.records.specs.Record.{readOf}
+use Rattle.records.specs.Framing.{first-refused}
+use Rattle.records.specs.Record.{readOf, numberOf}
 use Rattle.records.specs.Reading.{Placed, placed}
 use Rattle.stream.specs.Frames.{frames, framesAfter, framesOf}
-use Rattle.stream.specs.Counted.{frame-place}
+use Rattle.stream.specs.Counted.{Framed, framed, frame-place}
 use Rattle.stream.proofs.Loop.{rest-is}
 
 pub record Counting (s : List ℕ) (at n : ℕ) : Type 0 where
@@ -39,17 +37,27 @@ unfolding framesOf
 after-first [] h = absurd (h refl)
 after-first (b ∷ s) h = refl
 
-pub count-first : (s : List ℕ) (x : Read) (e : Event) (next : ℕ) → (length s ≡ 0 → ⊥) → x ≡ readOf 0 s → x ≡ Record e next → Counting s next 1
+count-first : (s : List ℕ) (x : Read) (e : Event) (next : ℕ) → (length s ≡ 0 → ⊥) → x ≡ readOf 0 s → x ≡ Record e next → Counting s next 1
 count-first s x e next h q w =
     let r : readOf 0 s ≡ Record e next = sym q ∙ w in
     let p : Placed (length s) (Record e next) = rw r at (placed 0 s) in
     record { whole = after-first s h ∙ ap (framesAfter s) r ∙ omega arith; slow = omega (arith, p .0); inside = p .1 }
 
-pub count-only : (s : List ℕ) (x : Read) → (length s ≡ 0 → ⊥) → x ≡ readOf 0 s → OneOf (1 ∷ 2 ∷ []) (tagOf read-type x) → 1 ≡ framesOf s
-count-only s x h q o = sym (after-first s h ∙ ap (framesAfter s) (sym q) ∙ by x o)
+pub count-good : (s : List ℕ) (k m : ℕ) → (length s ≡ 0 → ⊥) → k ≡ numberOf (readOf 0 s) → k ≡ 0 → m ≡ frameOf s → Counting s m 1
+count-good s k m h q z w = by (readOf 0 s) refl (framed 0 s)
   where
-    by : (x : Read) → OneOf (1 ∷ 2 ∷ []) (tagOf read-type x) → framesAfter s x ≡ 1
-    by (Record e n) k = absurd (⊎-elim (λ h. omega arith) (λ h. omega arith) k)
+    by : (x : Read) → readOf 0 s ≡ x → Framed s (readOf 0 s) → Counting s m 1
+    by (Record e next) r f =
+        let n : next ≡ m = sym (subst (Framed s) r f .0) ∙ sym w in
+        subst (λ (m : ℕ). Counting s m 1) n (count-first s (Record e next) e next h (sym r) refl)
+    by (Refused j next) r f = absurd (first-refused s j next r (sym (q ∙ ap numberOf r) ∙ z))
+    by Cut r f = let y : k ≡ 9 = q ∙ ap numberOf r in absurd (omega (arith, y, z))
+
+pub count-only : (s : List ℕ) (k : ℕ) → (length s ≡ 0 → ⊥) → k ≡ numberOf (readOf 0 s) → (k ≡ 0 → ⊥) → 1 ≡ framesOf s
+count-only s k h q z = sym (after-first s h ∙ by (readOf 0 s) (λ (e : numberOf (readOf 0 s) ≡ 0). z (q ∙ e)))
+  where
+    by : (x : Read) → (numberOf x ≡ 0 → ⊥) → framesAfter s x ≡ 1
+    by (Record e n) k = absurd (k refl)
     by (Refused e n) k = refl
     by Cut k = refl
 

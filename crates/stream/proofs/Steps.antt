@@ -3,7 +3,7 @@ use mathlib.Core.Path.{_≡_, refl, ap, sym, _∙_, subst}
 use mathlib.Core.Bool.{Bool, true, false, cond, _&&_, _||_, not}
 use mathlib.Core.Logic.{⊎-elim, _≢_, inl, inr}
 use mathlib.Core.List.{List, [], _∷_}
-use Prim.Native.Nat.{ℕ, _+_}
+use Prim.Native.Nat.{ℕ, _+_, _-_}
 use native.Mathlib.Omega.{arith}
 use lib.Dec.{eqb}
 use borrow.Author.Tests.{eqb-true, eqb-false, ne-eqb}
@@ -14,12 +14,18 @@ use Rattle.events.specs.declared.Counts.{Counts}
 use Rattle.events.specs.declared.BusEvent.{BusEvent}
 use Rattle.events.specs.declared.Event.{Event}
 use Rattle.events.specs.declared.Event.the-variants.{Setup, Por, Boot, Scan, Temp, Count, Sense, Pin, Load, Xready, OnBus}
-use Rattle.events.specs.Event.{Event as Happening, Meant, means, unfit, fits, eventOf, meantOf, countsFit, countsWanted}
+use Rattle.events.specs.Event.{Event as Happening, Scan as Scanned, Sense as Ticked, OnBus as Signalled, Meant, means, unfit, fits, eventOf, meantOf, countsFit, countsWanted}
 use Rattle.events.proofs.Event.{the-type as event-type}
-use Rattle.records.proofs.Read.{the-type as read-type}
-use Rattle.records.specs.declared.Read.{Read}
-use Rattle.records.specs.declared.Read.the-variants.{Record, Refused, Cut}
-use Rattle.records.specs.Record.{readOf, countsBeside}
+use Rattle.records.specs.declared.Read.the-variants.{Record}
+use Rattle.records.specs.declared.Framed.the-variants.{Header, Short}
+use Rattle.records.specs.declared.Payload.{Payload}
+use Rattle.records.specs.declared.Payload.the-variants.{Whole, Unfit}
+use Rattle.records.specs.Frame.{headerOf}
+use Rattle.records.specs.Framing.{framed-reads, short-reads}
+use Rattle.records.specs.Record.{payloadOf, asRead, readOf, countsBeside}
+use Rattle.events.specs.Setup.{inputs}
+use lib.ListN.{take, drop}
+use lib.IntN.{ℤ}
 use Rattle.records.specs.Sound.{IsSetup, first-setup, Meaning, later-means}
 use Rattle.settings.specs.Bit.{weighed}
 use Rattle.registers.specs.declared.Status.{Status}
@@ -27,10 +33,18 @@ use Rattle.registers.specs.State.{alert}
 use Rattle.registers.specs.Read.{statusByte}
 use Rattle.chip.specs.declared.Chip.{Chip}
 use Rattle.chip.specs.declared.Stepped.{Stepped}
-use Rattle.chip.specs.Chip.{quiet, normally, asleep, busAsleep, happened, stepped, steppedAs, steppedBy, happenedAs, happenedBy}
-use Rattle.stream.specs.Stream.{bornOf, acted, turn, turned, turnedBack, turnOf}
-use Rattle.stream.specs.Often.{often}
-use Rattle.stream.specs.declared.Turn.{Turn}
+use Rattle.protection.specs.declared.Judged.{Judged}
+use Rattle.protection.specs.Judged.{tickJudged}
+use Rattle.chip.specs.declared.Heard.{Heard}
+use Rattle.chip.specs.Parts.{raisedBy, heardOf, landed, told, tick-parts, still-tick, bus-parts}
+use Rattle.chip.proofs.Modes.{in-normal}
+use Rattle.chip.specs.Chip.{quiet, withBus, withRuns, normally, asleep, happened, stepped, steppedAs, steppedBy, happenedAs, happenedBy}
+use Rattle.stream.specs.Stream.{unanswered, answerOf, answerHeard, faceOf, entryWith, entryOf, saying, bornOf, acted, turn, turned, turnOf}
+use Rattle.stream.specs.declared.Answer.{Answer}
+use Rattle.stream.specs.declared.Entry.{Entry}
+use Rattle.stream.specs.declared.Face.{Face}
+use Rattle.stream.specs.Often.{often, awakeWork}
+use Rattle.stream.specs.declared.Work.the-variants.{Other}
 
 -- an event whose meaning is known steps as it happens
 means-by : (t : Bool) (m : Meant) (e : Happening) → cond t m unfit ≡ means e → m ≡ means e
@@ -48,10 +62,10 @@ checked c e k m =
     ap (λ (x : Meant). happenedAs x c) q ∙ sym (step-is (m .event) c (m .fit)) ∙ ap (λ (x : Meant). steppedAs x c) (sym (m .meant))
 
 -- no SETUP: what a record that was read does is what happens
-abbrev Other : Event → Type 0
-Other e = OneOf (1 ∷ 2 ∷ 3 ∷ 4 ∷ 5 ∷ 6 ∷ 7 ∷ 8 ∷ 9 ∷ 10 ∷ []) (tagOf event-type e)
+abbrev Later : Event → Type 0
+Later e = OneOf (1 ∷ 2 ∷ 3 ∷ 4 ∷ 5 ∷ 6 ∷ 7 ∷ 8 ∷ 9 ∷ 10 ∷ []) (tagOf event-type e)
 
-other-acted : (c : Chip) (e : Event) (k : Counts) → Other e → steppedBy e k c ≡ acted e k c
+other-acted : (c : Chip) (e : Event) (k : Counts) → Later e → steppedBy e k c ≡ acted e k c
 unfolding acted
 other-acted c (Setup v) k o = absurd (⊎-elim (λ h. omega arith) (⊎-elim (λ h. omega arith) (⊎-elim (λ h. omega arith) (⊎-elim (λ h. omega arith) (⊎-elim (λ h. omega arith) (⊎-elim (λ h. omega arith) (⊎-elim (λ h. omega arith) (⊎-elim (λ h. omega arith) (⊎-elim (λ h. omega arith) (λ h. omega arith))))))))) o)
 other-acted c Por k o = refl
@@ -65,7 +79,7 @@ other-acted c (Load l) k o = refl
 other-acted c Xready k o = refl
 other-acted c (OnBus b) k o = refl
 
-other-first : (e : Event) → IsSetup e → Other e → ⊥
+other-first : (e : Event) → IsSetup e → Later e → ⊥
 other-first (Setup v) f o = ⊎-elim (λ h. omega arith) (⊎-elim (λ h. omega arith) (⊎-elim (λ h. omega arith) (⊎-elim (λ h. omega arith) (⊎-elim (λ h. omega arith) (⊎-elim (λ h. omega arith) (⊎-elim (λ h. omega arith) (⊎-elim (λ h. omega arith) (⊎-elim (λ h. omega arith) (λ h. omega arith))))))))) o
 other-first Por f o = f
 other-first Boot f o = f
@@ -78,13 +92,13 @@ other-first (Load l) f o = f
 other-first Xready f o = f
 other-first (OnBus b) f o = f
 
-meaning : (c : Chip) (r : List ℕ) (e : Event) (next : ℕ) (t : Bool) → eqb (c .setup .part) 0 ≡ t → readOf (c .setup .part) r ≡ Record e next → Other e
+meaning : (c : Chip) (r : List ℕ) (e : Event) (next : ℕ) (t : Bool) → eqb (c .setup .part) 0 ≡ t → readOf (c .setup .part) r ≡ Record e next → Later e
     → Meaning (c .setup) e (countsBeside r (Record e next))
 meaning c r e next true t q o =
     absurd (other-first e (first-setup r e next (subst (λ (p : ℕ). readOf p r ≡ Record e next) (eqb-true (c .setup .part) 0 t) q)) o)
 meaning c r e next false t q o = later-means (c .setup) r e next (eqb-false (c .setup .part) 0 t) q
 
-pub other-is : {s : Stepped} (c : Chip) (r : List ℕ) (e : Event) (next : ℕ) (xs : List ℕ) → readOf (c .setup .part) r ≡ Record e next → Other e
+pub other-is : {s : Stepped} (c : Chip) (r : List ℕ) (e : Event) (next : ℕ) (xs : List ℕ) → readOf (c .setup .part) r ≡ Record e next → Later e
     → xs ≡ countsBeside r (Record e next) .of → s ≡ happenedBy e xs c → s ≡ acted e (countsBeside r (Record e next)) c
 other-is c r e next xs q o b h =
     h ∙ ap (λ (xs : List ℕ). happenedBy e xs c) b ∙ checked c e (countsBeside r (Record e next)) (meaning c r e next (eqb (c .setup .part) 0) refl q o)
@@ -94,7 +108,7 @@ other-is c r e next xs q o b h =
 clash : false ≡ true → ⊥
 clash q = let z : _≡_ {A = ℕ} 0 1 = cc in omega (arith, z)
 
-other-often : (e : Event) → often e ≡ true → Other e
+other-often : (e : Event) → often e ≡ true → Later e
 other-often (Setup v) q = absurd (clash q)
 other-often Por q = absurd (clash q)
 other-often Boot q = absurd (clash q)
@@ -114,29 +128,19 @@ pub often-is : {s : Stepped} (c : Chip) (r : List ℕ) (e e′ : Event) (next : 
     → xs ≡ countsBeside r (Record e next) .of → s ≡ happenedBy e′ xs c → s ≡ acted e (countsBeside r (Record e next)) c
 often-is c r e e′ next xs q t o b h = other-is c r e next xs q (other-often e (ap often t ∙ o)) b (as-event xs c t h)
 
--- what is seldom done, as the loop's last arm has it, and what is done in SHIP
-seldom-by : (e : Event) → OneOf (0 ∷ 1 ∷ 2 ∷ 4 ∷ 5 ∷ 7 ∷ 8 ∷ 9 ∷ []) (tagOf event-type e) → often e ≡ false
-seldom-by (Setup v) o = refl
-seldom-by Por o = refl
-seldom-by Boot o = refl
-seldom-by Scan o = absurd (⊎-elim (λ h. omega arith) (⊎-elim (λ h. omega arith) (⊎-elim (λ h. omega arith) (⊎-elim (λ h. omega arith) (⊎-elim (λ h. omega arith) (⊎-elim (λ h. omega arith) (⊎-elim (λ h. omega arith) (λ h. omega arith))))))) o)
-seldom-by Temp o = refl
-seldom-by (Count n) o = refl
-seldom-by (Sense v) o = absurd (⊎-elim (λ h. omega arith) (⊎-elim (λ h. omega arith) (⊎-elim (λ h. omega arith) (⊎-elim (λ h. omega arith) (⊎-elim (λ h. omega arith) (⊎-elim (λ h. omega arith) (⊎-elim (λ h. omega arith) (λ h. omega arith))))))) o)
-seldom-by Pin o = refl
-seldom-by (Load l) o = refl
-seldom-by Xready o = refl
-seldom-by (OnBus b) o = absurd (⊎-elim (λ h. omega arith) (⊎-elim (λ h. omega arith) (⊎-elim (λ h. omega arith) (⊎-elim (λ h. omega arith) (⊎-elim (λ h. omega arith) (⊎-elim (λ h. omega arith) (⊎-elim (λ h. omega arith) (λ h. omega arith))))))) o)
-
-right-off : (a t : Bool) → t ≡ false → (a && t) ≡ false
-right-off true t q = q
-right-off false t q = refl
-
-pub seldom-done : (c : Chip) (e : Event) → OneOf (0 ∷ 1 ∷ 2 ∷ 4 ∷ 5 ∷ 7 ∷ 8 ∷ 9 ∷ []) (tagOf event-type e) → (c .awake && often e) ≡ false
-seldom-done c e o = right-off (c .awake) (often e) (seldom-by e o)
-
-pub asleep-done : (c : Chip) (e : Event) → c .awake ≡ false → (c .awake && often e) ≡ false
-asleep-done c e q = ap (λ (a : Bool). a && often e) q
+-- what is seldom done is other work
+pub seldom-work : (e : Event) → OneOf (0 ∷ 1 ∷ 2 ∷ 4 ∷ 5 ∷ 7 ∷ 8 ∷ 9 ∷ []) (tagOf event-type e) → Other ≡ awakeWork e
+seldom-work (Setup v) o = refl
+seldom-work Por o = refl
+seldom-work Boot o = refl
+seldom-work Scan o = absurd (⊎-elim (λ h. omega arith) (⊎-elim (λ h. omega arith) (⊎-elim (λ h. omega arith) (⊎-elim (λ h. omega arith) (⊎-elim (λ h. omega arith) (⊎-elim (λ h. omega arith) (⊎-elim (λ h. omega arith) (λ h. omega arith))))))) o)
+seldom-work Temp o = refl
+seldom-work (Count n) o = refl
+seldom-work (Sense v) o = absurd (⊎-elim (λ h. omega arith) (⊎-elim (λ h. omega arith) (⊎-elim (λ h. omega arith) (⊎-elim (λ h. omega arith) (⊎-elim (λ h. omega arith) (⊎-elim (λ h. omega arith) (⊎-elim (λ h. omega arith) (λ h. omega arith))))))) o)
+seldom-work Pin o = refl
+seldom-work (Load l) o = refl
+seldom-work Xready o = refl
+seldom-work (OnBus b) o = absurd (⊎-elim (λ h. omega arith) (⊎-elim (λ h. omega arith) (⊎-elim (λ h. omega arith) (⊎-elim (λ h. omega arith) (⊎-elim (λ h. omega arith) (⊎-elim (λ h. omega arith) (⊎-elim (λ h. omega arith) (λ h. omega arith))))))) o)
 
 -- in SHIP
 off : (a t : Bool) → (a && t) ≡ false → t ≡ true → a ≡ false
@@ -155,38 +159,53 @@ in-sleep e c a h = h ∙ sym (by (c .awake) a)
     by true q = cc
     by false q = refl
 
-pub as-doze : {s : Stepped} {b b′ : BusEvent} (c : Chip) → b ≡ b′ → s ≡ busAsleep b′ c → s ≡ busAsleep b c
-as-doze c q h = h ∙ ap (λ (b : BusEvent). busAsleep b c) (sym q)
-
 -- SETUP
 pub setup-is : {s : Stepped} (c : Chip) (e : Event) (v : SetupValues) (k : Counts) → e ≡ Setup v → s ≡ bornOf v → s ≡ acted e k c
 unfolding acted
 setup-is c e v k q h = h ∙ ap (λ (e : Event). acted e k c) (sym q)
 
--- what was not a record, as the loop's `else` has it
-pub back-is : (c : Chip) (rest : List ℕ) (x : Read) → OneOf (1 ∷ 2 ∷ []) (tagOf read-type x) → x ≡ readOf (c .setup .part) rest → turnedBack c x ≡ turnOf c rest
+-- an entry of what was answered and what the chip shows
+pub entry-is : {e : Entry} {a : Answer} {f : Face} (s : Stepped) → e ≡ entryWith a f → a ≡ answerOf s → f ≡ faceOf (s .chip) → e ≡ entryOf s
+entry-is {e} {a} {f} s h p q = h ∙ ap (λ (a : Answer). entryWith a f) p ∙ ap (entryWith (answerOf s)) q
+
+-- ── turns, by the header and the payload ──
+pub short-turn : (c : Chip) (rest : List ℕ) → headerOf rest ≡ Short → turn (quiet 9 c) 0 true ≡ turnOf c rest
 unfolding turnOf
-back-is c rest x k e = same x k ∙ ap (turned c rest) e
-  where
-    same : (x : Read) → OneOf (1 ∷ 2 ∷ []) (tagOf read-type x) → turnedBack c x ≡ turned c rest x
-    same (Record e n) k = absurd (⊎-elim (λ h. omega arith) (λ h. omega arith) k)
-    same (Refused e n) k = refl
-    same Cut k = refl
+short-turn c rest h = sym (ap (turned c rest) (short-reads (c .setup .part) rest h))
 
--- the chip is as before
-pub back-keeps : (c : Chip) (x : Read) → turnedBack c x .chip ≡ c
-back-keeps c (Record e n) = refl
-back-keeps c (Refused k n) = refl
-back-keeps c Cut = refl
+module _ (c : Chip) (rest : List ℕ) (kind next : ℕ) (h : headerOf rest ≡ Header kind next) (p : Payload) (q : p ≡ payloadOf kind (c .setup .part) (take (next - 4) (drop 4 rest))) where
+  read-as : asRead next p ≡ readOf (c .setup .part) rest
+  read-as = ap (asRead next) q ∙ sym (framed-reads rest kind next h (c .setup .part))
 
-pub at-back : (c : Chip) {r : Turn} {x x′ : Read} → x ≡ x′ → r ≡ turnedBack c x′ → r ≡ turnedBack c x
-at-back c q p = p ∙ ap (turnedBack c) (sym q)
+  pub unfit-turn : (k : ℕ) → p ≡ Unfit k → turn (quiet k c) next (eqb (c .setup .part) 0) ≡ turnOf c rest
+  unfolding turnOf
+  unfit-turn k w = ap (turned c rest) (ap (asRead next) (sym w) ∙ read-as)
 
--- a record that was read and done
-pub done-is : (c : Chip) (rest : List ℕ) (s : Stepped) {x : Read} (e : Event) (next : ℕ) → x ≡ readOf (c .setup .part) rest → x ≡ Record e next
-    → s ≡ acted e (countsBeside rest (Record e next)) c → turn s next false ≡ turnOf c rest
-unfolding turnOf
-done-is c rest s e next q w h = ap (λ (s : Stepped). turn s next false) h ∙ ap (turned c rest) (sym w ∙ q)
+  pub found : (e : Event) → p ≡ Whole e → readOf (c .setup .part) rest ≡ Record e next
+  found e w = sym read-as ∙ ap (asRead next) w
+
+  -- a record that was read and done
+  pub done-turn : (e : Event) (s : Stepped) → p ≡ Whole e → s ≡ acted e (countsBeside rest (Record e next)) c → turn s next false ≡ turnOf c rest
+  unfolding turnOf
+  done-turn e s w d = ap (λ (s : Stepped). turn s next false) d ∙ ap (turned c rest) (ap (asRead next) (sym w) ∙ read-as)
+
+-- ── what each arm of the loop comes to, in NORMAL ──
+pub scan-arm : (c : Chip) (xs : List ℕ) (d : Chip) → c .awake ≡ true → d ≡ normally (Scanned (take (inputs (c .setup)) xs)) c .chip → saying (unanswered 0) d ≡ happenedBy Scan xs c
+scan-arm c xs d a h = in-normal (Scanned (take (inputs (c .setup)) xs)) c a (ap (saying (unanswered 0)) h)
+
+pub tick-arm : (c : Chip) (v : ℤ) (xs : List ℕ) (j : Judged) (d : Chip) → c .awake ≡ true → j ≡ tickJudged (c .registers .settings) v (c .runs) → d ≡ raisedBy (j .risen) (withRuns (j .runs) c)
+    → saying (unanswered 0) d ≡ happenedBy (Sense v) xs c
+tick-arm c v xs j d a hj h = in-normal (Ticked v) c a (ap (quiet 0) (h ∙ ap (λ (j : Judged). raisedBy (j .risen) (withRuns (j .runs) c)) hj) ∙ tick-parts v c)
+
+-- nothing rises: nothing is shown anew
+pub still-arm : (c : Chip) (v : ℤ) (j : Judged) → j ≡ tickJudged (c .registers .settings) v (c .runs) → (j .risen .scd || j .risen .ocd) ≡ false → withRuns (j .runs) c ≡ raisedBy (j .risen) (withRuns (j .runs) c)
+still-arm c v j hj n =
+    subst (λ (j : Judged). withRuns (j .runs) c ≡ raisedBy (j .risen) (withRuns (j .runs) c)) (sym hj)
+    (sym (still-tick (c .registers .settings) v (c .runs) (withRuns (tickJudged (c .registers .settings) v (c .runs) .runs) c) (subst (λ (j : Judged). (j .risen .scd || j .risen .ocd) ≡ false) hj n)))
+
+pub bus-arm : (c : Chip) (b : BusEvent) (xs : List ℕ) (h : Heard) (d : Chip) → c .awake ≡ true → h ≡ heardOf b c → d ≡ landed (h .store) (withBus (h .bus) c)
+    → saying (answerHeard h) d ≡ happenedBy (OnBus b) xs c
+bus-arm c b xs h d a hh hd = in-normal (Signalled b) c a (ap (saying (answerHeard h)) hd ∙ ap (λ (h : Heard). told h c) hh ∙ bus-parts b c)
 
 -- ALERT is up where SYS_STAT is not 0
 up-by : (a b c d e f g : Bool)

@@ -31,7 +31,7 @@ use Rattle.stream.specs.Frames.{frames, framesAfter, framesOf}
 use Rattle.stream.specs.Standing.{acted-is, good-part}
 
 -- ── the frame of what was read ──
-abbrev Framed : List ℕ → Read → Type 0
+abbrev pub Framed : List ℕ → Read → Type 0
 Framed r (Record e next) = (frameOf r ≡ next) × (4 ≤ next) × (next ≤ length r)
 Framed r (Refused k next) = (frameOf r ≡ next) × (4 ≤ next) × (next ≤ length r)
 Framed r Cut = frameOf r ≡ 0

@@ -1,6 +1,9 @@
 -- What a stream is made of for the most part: scans, ticks and the bus. Assumes nothing.
-use mathlib.Core.Bool.{Bool, true, false}
+use mathlib.Core.Path.{_≡_, refl}
+use mathlib.Core.Bool.{Bool, true, false, cond, _&&_}
 use Rattle.events.specs.declared.Event.{Event}
+use Rattle.stream.specs.declared.Work.{Work}
+use Rattle.stream.specs.declared.Work.the-variants.{Scans, Ticks, Hears, Other}
 use Rattle.events.specs.declared.Event.the-variants.{Setup, Por, Boot, Scan, Temp, Count, Sense, Pin, Load, Xready, OnBus}
 
 abbrev pub often : Event → Bool
@@ -15,3 +18,42 @@ often Pin = false
 often (Load l) = false
 often Xready = false
 often (OnBus b) = true
+
+-- ── and what each is to the loop, in NORMAL and in SHIP ──
+abbrev pub awakeWork : Event → Work
+awakeWork (Setup v) = Other
+awakeWork Por = Other
+awakeWork Boot = Other
+awakeWork Scan = Scans
+awakeWork Temp = Other
+awakeWork (Count n) = Other
+awakeWork (Sense v) = Ticks v
+awakeWork Pin = Other
+awakeWork (Load l) = Other
+awakeWork Xready = Other
+awakeWork (OnBus b) = Hears b
+
+unfoldable pub workOf : Bool → Event → Work
+workOf a e = cond a (awakeWork e) Other
+
+-- what is known of an event by its work
+abbrev pub Sorted : Bool → Event → Work → Type 0
+Sorted a e Scans = (a ≡ true) × (e ≡ Scan)
+Sorted a e (Ticks v) = (a ≡ true) × (e ≡ Sense v)
+Sorted a e (Hears b) = (a ≡ true) × (e ≡ OnBus b)
+Sorted a e Other = (a && often e) ≡ false
+
+pub sorted : (a : Bool) (e : Event) → Sorted a e (workOf a e)
+unfolding workOf
+sorted false e = refl
+sorted true (Setup v) = refl
+sorted true Por = refl
+sorted true Boot = refl
+sorted true Scan = (refl, refl)
+sorted true Temp = refl
+sorted true (Count n) = refl
+sorted true (Sense v) = (refl, refl)
+sorted true Pin = refl
+sorted true (Load l) = refl
+sorted true Xready = refl
+sorted true (OnBus b) = (refl, refl)

@@ -18,25 +18,39 @@ use Rattle.settings.specs.Bit.{weighed}
 use Rattle.registers.specs.Read.{statusByte}
 use Rattle.chip.specs.declared.Chip.{Chip}
 use Rattle.chip.specs.declared.Stepped.{Stepped}
+use Rattle.chip.specs.declared.Heard.{Heard}
 use Rattle.chip.specs.Chip.{quiet, inShip, steppedBy}
 use Rattle.chip.specs.Outward.{pinsOf}
 use Rattle.stream.specs.declared.Entry.{Entry}
+use Rattle.stream.specs.declared.Answer.{Answer}
+use Rattle.stream.specs.declared.Face.{Face}
 use Rattle.stream.specs.declared.Turn.{Turn}
 
 -- no chip yet: part 0, and with it SYS_STAT and pins 0
 abbrev pub none : Chip
 none = inShip (standing 0)
 
--- number, bus flag, bus byte, SYS_STAT, pins
+-- number, bus flag, bus byte; SYS_STAT, pins
+abbrev pub unanswered : ℕ → Answer
+unanswered n = record { number = n; flag = false; byte = 0 }
+
+abbrev pub answerOf : Stepped → Answer
+answerOf s = record { number = s .number; flag = s .flag; byte = s .byte }
+
+abbrev pub answerHeard : Heard → Answer
+answerHeard h = record { number = 0; flag = h .flag; byte = h .byte }
+
+abbrev pub faceOf : Chip → Face
+faceOf c = record { stat = statusByte (c .registers .shown .status); pins = pinsOf c }
+
+abbrev pub entryWith : Answer → Face → Entry
+entryWith a f = record { number = a .number; flag = weighed (a .flag) 1; byte = a .byte; stat = f .stat; pins = f .pins }
+
+abbrev pub saying : Answer → Chip → Stepped
+saying a c = record { chip = c; number = a .number; flag = a .flag; byte = a .byte }
+
 abbrev pub entryOf : Stepped → Entry
-entryOf s =
-    record {
-      number = s .number;
-      flag = weighed (s .flag) 1;
-      byte = s .byte;
-      stat = statusByte (s .chip .registers .shown .status);
-      pins = pinsOf (s .chip);
-    }
+entryOf s = entryWith (answerOf s) (faceOf (s .chip))
 
 -- the chip that SETUP makes
 abbrev pub bornOf : SetupValues → Stepped
@@ -59,12 +73,6 @@ acted (OnBus b) k c = steppedBy (OnBus b) k c
 -- ── what a record makes of a chip: its entry, the next chip and place, and whether it is the last ──
 abbrev pub turn : Stepped → ℕ → Bool → Turn
 turn s next last = record { chip = s .chip; entry = entryOf s; next = next; last = last }
-
--- of a record that was refused, or cut short
-abbrev pub turnedBack : Chip → Read → Turn
-turnedBack c (Record e next) = turn (quiet 9 c) 0 true
-turnedBack c (Refused k next) = turn (quiet k c) next (eqb (c .setup .part) 0)
-turnedBack c Cut = turn (quiet 9 c) 0 true
 
 -- of any record
 abbrev pub turned : Chip → List ℕ → Read → Turn

@@ -1,22 +1,8 @@
 // Forecasting's call: a stream's reading in doubles.
 ghost use mathlib.Core.Path.{_≡_};
-ghost use Rattle.records.specs.Record.{readOf, numberOf};
 ghost use Rattle.stream.specs.Forecast.{Read4};
 use crate::run;
 use chip::ForecastAnswer;
-use records::Read;
-
-// The number of a stream's first record; 9 where there is none.
-fn first_number(s: &[u8]) -> u8
-    ensures { λ r. ⌜ r ≡ numberOf (readOf 0 (now (s .entry))) ⌝ }
-{
-    let read = records::read_rest(s, 0);
-    match read {
-        Read::Record { event: _, next: _ } => 0,
-        Read::Refused { number, next: _ } => number,
-        Read::Cut => 9,
-    }
-}
 
 // Plays a whole stream and gives least, greatest and total cell µV and CC in hundredths of a µV of the chip that stands at its end.
 // Answers 0, or with nothing written the first record's number where no chip stands, 4 asleep, then 5 for room below 4.
@@ -28,7 +14,7 @@ pub extern "C" fn toralinge_reading(stream: &[u8], reading: &mut [f64]) -> u8
     let chip = run(stream, &mut room[..0]);
     let setup = chip.setup;
     if setup.part == 0 {
-        return first_number(stream);
+        return records::first_number(stream);
     }
     let answer = chip.forecast();
     let ForecastAnswer::Is(given) = answer else {

@@ -4,17 +4,20 @@ ghost use Prim.Native.Nat.{_+_, _*_, _<_, _^_};
 ghost use lib.ListN.{length};
 ghost use Rattle.records.specs.Record.{readOf, countsBeside};
 ghost use Rattle.records.specs.declared.Read.the-variants.{Record};
-ghost use Rattle.stream.specs.Stream.{none, entryOf, bornOf, acted, turn, turnedBack, noted, Ran, Played};
+ghost use Rattle.stream.specs.Stream.{none, faceOf, answerOf, unanswered as unansweredSpec, answerHeard, entryWith, bornOf, acted, noted, Ran, Played};
 ghost use mathlib.Core.Bool.{false, _&&_};
-ghost use Rattle.chip.specs.Chip.{quiet, busAsleep, happenedBy};
+ghost use Rattle.chip.specs.Chip.{quiet, happenedBy};
 ghost use Rattle.stream.specs.Frames.{framesOf};
-ghost use Rattle.stream.specs.Often.{often};
+ghost use Rattle.stream.specs.Often.{often, workOf};
+use bus::Store;
 use chip::Chip;
+use chip::Heard;
 use chip::Stepped;
 use events::BusEvent;
 use events::Event;
 use events::Setup;
-use records::Read;
+use records::Framed;
+use records::Payload;
 
 mod convert;
 mod forecast;
@@ -26,6 +29,27 @@ pub struct Entry {
     pub byte: u8,
     pub stat: u8,
     pub pins: u8,
+}
+
+// What a chip shows outside: SYS_STAT and the pins.
+pub struct Face {
+    pub stat: u8,
+    pub pins: u8,
+}
+
+// What a record is answered: its number, and for an OUT or IN that is done the flag and the byte.
+pub struct Answer {
+    pub number: u8,
+    pub flag: bool,
+    pub byte: u8,
+}
+
+// What an event is to the loop: what is often done in NORMAL has an arm of its own, which moves only what it has to.
+pub enum Work {
+    Scans,
+    Ticks(i32),
+    Hears(BusEvent),
+    Other,
 }
 
 // What a record leaves: the chip, its entry, the bytes it took, and whether it is the last.
@@ -51,57 +75,79 @@ fn no_chip() -> Chip
 }
 
 // ALERT is up where SYS_STAT is not 0.
-fn entry_of(s: Stepped) -> Entry
-    ensures { λ r. ⌜ r ≡ entryOf s ⌝ }
+fn face_of(chip: Chip) -> Face
+    ensures { λ r. ⌜ r ≡ faceOf chip ⌝ }
 {
-    let chip = s.chip;
     let registers = chip.registers;
     let shown = registers.shown;
     let stat = chip.status();
     let pins = settings::weigh(stat != 0, 4)
         + settings::weigh(shown.chg, 2)
         + settings::weigh(shown.dsg, 1);
-    Entry {
+    Face { stat, pins }
+}
+
+fn unanswered(number: u8) -> Answer
+    ensures { λ r. ⌜ r ≡ unansweredSpec number ⌝ }
+{
+    Answer {
+        number,
+        flag: false,
+        byte: 0,
+    }
+}
+
+fn answer_of(s: Stepped) -> Answer
+    ensures { λ r. ⌜ r ≡ answerOf s ⌝ }
+{
+    Answer {
         number: s.number,
-        flag: settings::weigh(s.flag, 1),
+        flag: s.flag,
         byte: s.byte,
-        stat,
-        pins,
     }
 }
 
-fn turn_of(s: Stepped, next: usize, last: bool) -> Turn
-    ensures { λ r. ⌜ r ≡ turn s next last ⌝ }
+fn answer_heard(heard: Heard) -> Answer
+    ensures { λ r. ⌜ r ≡ answerHeard heard ⌝ }
 {
-    let entry = entry_of(s);
-    let chip = s.chip;
-    Turn {
-        chip,
-        entry,
-        next,
-        last,
+    Answer {
+        number: 0,
+        flag: heard.flag,
+        byte: heard.byte,
     }
 }
 
-// The bus of a chip in SHIP: idle, even after START.
-fn doze(chip: Chip, event: BusEvent) -> Stepped
-    ensures { λ r. ⌜ r ≡ busAsleep event chip ⌝ }
+fn entry_of(answer: Answer, face: Face) -> Entry
+    ensures { λ r. ⌜ r ≡ entryWith answer face ⌝ }
 {
+    let flag = settings::weigh(answer.flag, 1);
+    Entry {
+        number: answer.number,
+        flag,
+        byte: answer.byte,
+        stat: face.stat,
+        pins: face.pins,
+    }
+}
+
+fn work_of(awake: bool, event: Event) -> Work
+    ensures { λ r. ⌜ r ≡ workOf awake event ⌝ }
+{
+    if !awake {
+        return Work::Other;
+    }
     match event {
-        BusEvent::Start => refused(0, chip),
-        BusEvent::Out(_) => Stepped {
-            chip,
-            number: 0,
-            flag: true,
-            byte: 1,
-        },
-        BusEvent::In(_) => Stepped {
-            chip,
-            number: 0,
-            flag: true,
-            byte: 0xFF,
-        },
-        BusEvent::Stop => refused(0, chip),
+        Event::Scan => Work::Scans,
+        Event::Sense(value) => Work::Ticks(value),
+        Event::OnBus(bus) => Work::Hears(bus),
+        Event::Setup(_)
+        | Event::Por
+        | Event::Boot
+        | Event::Temp
+        | Event::Count(_)
+        | Event::Pin
+        | Event::Load(_)
+        | Event::Xready => Work::Other,
     }
 }
 
@@ -121,7 +167,7 @@ fn seldom(chip: Chip, event: Event, counts: [u16; 15]) -> Stepped
         Event::Pin => chip.pin(),
         Event::Load(level) => chip.load(level),
         Event::Xready => chip.xready(),
-        Event::OnBus(bus) => doze(chip, bus),
+        Event::OnBus(bus) => chip.doze(bus),
     }
 }
 
@@ -172,18 +218,6 @@ fn refused(number: u8, chip: Chip) -> Stepped
     }
 }
 
-// A record that was refused, or cut short.
-fn turn_back(chip: Chip, read: Read) -> Turn
-    ensures { λ r. ⌜ r ≡ turnedBack chip read ⌝ }
-{
-    let setup = chip.setup;
-    match read {
-        Read::Refused { number, next } => turn_of(refused(number, chip), next, setup.part == 0),
-        Read::Cut => turn_of(refused(9, chip), 0, true),
-        Read::Record { event: _, next: _ } => turn_of(refused(9, chip), 0, true),
-    }
-}
-
 // An entry written at its place, where it fits.
 fn note(out: &mut [u8], n: usize, e: Entry)
     requires { ⌜ 5 * n + 5 < 2 ^ 64 ⌝ }
@@ -199,59 +233,73 @@ fn note(out: &mut [u8], n: usize, e: Entry)
     }
 }
 
-// The chip at the stream's end. The entries are written where all of them fit. What is often done has an arm of its own, which
-// moves only what it has to.
+// The chip at the stream's end. The entries are written where all of them fit. The chip is changed in its place, and shown anew where that may differ.
 fn run(s: &[u8], out: &mut [u8]) -> Chip
     ensures { λ r. ⌜ Ran (now (s .entry)) (now (out .entry)) r (now (out .exit)) ⌝ }
 {
-    let mut step = refused(0, no_chip());
+    let mut chip = no_chip();
+    let mut face = face_of(chip);
     let mut at = 0;
     let mut n = 0;
     while at < s.len() {
-        let chip = step.chip;
-        let setup = chip.setup;
         let rest = &s[at..];
-        let read = records::read_rest(rest, setup.part);
-        let Read::Record { event, next } = read else {
-            let back = turn_back(chip, read);
-            let entry = back.entry;
-            note(out, n, entry);
-            n = n + 1;
-            let last = back.last;
-            if last {
-                return chip;
-            }
-            at = at + back.next;
-            continue;
+        let framed = records::header_of(rest);
+        let Framed::Header { kind, next } = framed else {
+            note(out, n, entry_of(unanswered(9), face));
+            return chip;
         };
-        if chip.awake {
-            match event {
-                Event::Scan => step = chip.scan(counted(setup.part, event, rest, next)),
-                Event::Sense(value) => step = chip.sense(value),
-                Event::OnBus(bus) => match bus {
-                    BusEvent::Start => step = chip.start(),
-                    BusEvent::Out(byte) => step = chip.out(byte),
-                    BusEvent::In(nack) => step = chip.take(nack),
-                    BusEvent::Stop => step = chip.stop(),
-                },
-                Event::Setup(_)
-                | Event::Por
-                | Event::Boot
-                | Event::Temp
-                | Event::Count(_)
-                | Event::Pin
-                | Event::Load(_)
-                | Event::Xready => step = act(chip, event, rest, next),
+        let setup = chip.setup;
+        let mut answer = unanswered(0);
+        match records::payload_of(kind, setup.part, &rest[4..next]) {
+            Payload::Unfit(number) => {
+                answer = unanswered(number);
+                if setup.part == 0 {
+                    note(out, n, entry_of(answer, face));
+                    return chip;
+                }
             }
-        } else {
-            step = act(chip, event, rest, next);
+            Payload::Whole(event) => match work_of(chip.awake, event) {
+                Work::Scans => {
+                    chip = chip.scanned(counted(setup.part, event, rest, next));
+                    face = face_of(chip);
+                }
+                Work::Ticks(value) => {
+                    let judged = chip.sensed(value);
+                    let risen = judged.risen;
+                    let runs = judged.runs;
+                    chip.runs = runs;
+                    if risen.scd | risen.ocd {
+                        chip = chip.raised(risen);
+                        face = face_of(chip);
+                    }
+                }
+                Work::Hears(signal) => {
+                    let heard = chip.heard(signal);
+                    let bus = heard.bus;
+                    chip.bus = bus;
+                    answer = answer_heard(heard);
+                    let store = heard.store;
+                    match store {
+                        Store::Nothing => {}
+                        Store::At(place, value) => {
+                            chip = chip.wrote(place, value);
+                            face = face_of(chip);
+                        }
+                    }
+                }
+                Work::Other => {
+                    let step = act(chip, event, rest, next);
+                    chip = step.chip;
+                    answer = answer_of(step);
+                    face = face_of(chip);
+                }
+            },
         }
-        let entry = entry_of(step);
-        note(out, n, entry);
+        note(out, n, entry_of(answer, face));
         n = n + 1;
         at = at + next;
     }
-    step.chip
+    chip
 }
 
 // How many entries a stream has, by its framing and its first record alone.
@@ -261,11 +309,10 @@ fn count(s: &[u8]) -> usize
     if s.len() == 0 {
         return 0;
     }
-    let first = records::read_rest(s, 0);
-    let Read::Record { event: _, next } = first else {
+    if records::first_number(s) != 0 {
         return 1;
-    };
-    let mut at = next;
+    }
+    let mut at = records::frame(s);
     let mut n = 1;
     while at < s.len() {
         let size = records::frame(&s[at..]);

@@ -1,29 +1,10 @@
--- An entry: its five bytes by what each call gives.
-use mathlib.Core.Path.{_∙_, ap, sym}
-use mathlib.Core.Bool.{Bool, not}
-use Prim.Native.Nat.{ℕ}
-use lib.Dec.{eqb}
-use Rattle.settings.specs.Bit.{weighed}
-use Rattle.stream.proofs.Steps.{alert-by}
+-- An entry: what was answered, and what the chip shows.
 use borrow.Author.Needs.{needs}
 use Rattle.stream.proofs.entry_of.Statement.{statement}
 use Rattle.stream.proofs.entry_of.Tie as tie
 
 returns : tie.Need-returns
-returns c =
-    let s = c .before .before .before .before .before .before .before .before .args .s in
-    let stat = c .before .before .before .before .status .ensures in
-    simp (c .weigh4 .ensures .0, c .before .weigh3 .ensures .0, c .before .before .weigh2 .ensures .0, c .before .before .before .weigh .ensures .0 ∙ ap (λ (n : ℕ). weighed (not (eqb n 0)) 4) stat ∙ ap (λ (b : Bool). weighed b 4) (sym (alert-by (s .chip .registers .shown .status))), stat)
+returns c = simp (c .weigh .ensures .0)
 
 pub entry-of-spec : {M : Type 1} → statement M
-entry-of-spec =
-    tie.close
-    (tie.spec
-    (λ c κs. search needs)
-    (λ c κs. search needs)
-    (λ c κs. search needs)
-    (λ c. search needs)
-    (λ c κs. search needs)
-    (λ c. search needs)
-    (λ c κs. search needs)
-    returns)
+entry-of-spec = tie.close (tie.spec (λ c κs. search needs) returns)

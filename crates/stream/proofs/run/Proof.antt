@@ -4,45 +4,58 @@ use mathlib.Core.Path.{_≡_, refl, ap, sym, _∙_, subst}
 use mathlib.Core.List.{List}
 use mathlib.Core.Bool.{Bool, true, false}
 use mathlib.Core.Logic.{⊎-elim}
+use native.Mathlib.Omega.{arith}
+use borrow.Author.Needs.{needs}
+use borrow.Author.Tests.{eq-eqb, ne-eqb}
 use mir.Syntax.{w32}
 use mir.Val.{toZ, ofZ}
+use lib.Dec.{eqb}
+use lib.ListN.{length, take, drop}
+use Rattle.bus.specs.declared.Store.{Store}
+use Rattle.bus.specs.declared.Store.the-variants.{Nothing, At}
 use Rattle.events.specs.declared.BusEvent.{BusEvent}
-use Rattle.events.specs.declared.BusEvent.the-variants.{Start, Out, In, Stop}
 use Rattle.events.specs.declared.Counts.{Counts}
 use Rattle.events.specs.declared.Event.{Event}
 use Rattle.events.specs.declared.Event.the-variants.{Scan, Sense, OnBus}
-use Rattle.events.specs.Event.{Sense as Tick}
-use Rattle.chip.specs.Chip.{happened, happenedBy}
-use Rattle.stream.specs.Often.{often}
-use native.Mathlib.Omega.{arith}
-use borrow.Author.Needs.{needs}
-use lib.ListN.{length, take, drop}
+use Rattle.records.specs.declared.Framed.the-variants.{Header}
+use Rattle.records.specs.declared.Payload.the-variants.{Whole, Unfit}
+use Rattle.records.specs.declared.Read.the-variants.{Record}
+use Rattle.records.specs.Frame.{headerOf}
+use Rattle.records.specs.Framing.{framed-place}
+use Rattle.records.specs.Record.{payloadOf, readOf, countsBeside}
+use Rattle.protection.specs.declared.Judged.{Judged}
+use Rattle.protection.specs.Judged.{tickJudged}
 use Rattle.chip.specs.declared.Chip.{Chip}
 use Rattle.chip.specs.declared.Stepped.{Stepped}
-use Rattle.records.specs.declared.Read.the-variants.{Record}
-use Rattle.records.specs.Record.{readOf, countsBeside}
-use Rattle.stream.specs.Stream.{Ran, turnOf, noted, acted, turn, entryOf}
+use Rattle.chip.specs.Chip.{quiet, withBus, withRuns, happenedBy}
+use Rattle.chip.specs.Parts.{landed}
+use Rattle.stream.specs.Often.{often, workOf, Sorted, sorted}
+use Rattle.stream.specs.Stream.{Ran, turnOf, noted, acted, turn, answerOf, answerHeard, unanswered, faceOf, entryOf, saying}
+use Rattle.stream.specs.declared.Answer.{Answer}
+use Rattle.stream.specs.declared.Face.{Face}
 use Rattle.stream.specs.declared.Turn.{Turn}
-use Rattle.stream.proofs.Steps.{back-is, back-keeps, seldom-done, asleep-done, often-is, done-is}
+use Rattle.stream.specs.declared.Work.{Work}
+use Rattle.stream.specs.declared.Work.the-variants.{Scans, Ticks, Hears}
+use Rattle.stream.proofs.Steps.{entry-is, short-turn, unfit-turn, found, done-turn, often-is, scan-arm, tick-arm, still-arm, bus-arm}
 use Rattle.stream.proofs.Loop.{Going, going-none, going-end, going-last, going-place, going-more}
 use Rattle.stream.proofs.run.Statement.{statement}
 use Rattle.stream.proofs.run.Tie as tie
 
 abbrev Inv-loop : tie.InvT-loop
-Inv-loop s out₀ step₀ at₀ n₀ out step at n = Going s out₀ out (step .chip) at n
+Inv-loop s out₀ chip₀ face₀ at₀ n₀ out chip face at n = Going s out₀ out chip at n × (face ≡ faceOf chip)
 
 abbrev μ-loop : tie.MeasureT-loop
-μ-loop s out₀ step₀ at₀ n₀ out step at n = length s - at
+μ-loop s out₀ chip₀ face₀ at₀ n₀ out chip face at n = length s - at
 
 loop-holds : tie.Need-loop-holds Inv-loop μ-loop
 loop-holds c =
-    let s = c .before .before .before .before .args in
-    subst (λ (k : Chip). Going (s .s .now) (s .out .now) (s .out .now) k 0 0) (sym (ap (λ (s : Stepped). s .chip) (c .refused .ensures) ∙ c .before .no-chip .ensures)) (going-none (s .s .now) (s .out .now))
+    let a = c .before .before .before .before .args in
+    (subst (λ (k : Chip). Going (a .s .now) (a .out .now) (a .out .now) k 0 0) (sym (c .before .no-chip .ensures)) (going-none (a .s .now) (a .out .now)), c .face-of .ensures)
 
--- a turn in the loop, of either kind: c is the place after the reading, t what it came to, and new the buffer with its entry
-module _ (c : tie.After-read-rest Inv-loop μ-loop) where
+-- a turn in the loop, of any kind: r is the place after the header, t what it came to, and new the buffer with its entry
+module _ (r : tie.After-header-of Inv-loop μ-loop) where
   abbrev head : tie.At-loop Inv-loop μ-loop
-  head = c .before .before .before .before .before
+  head = r .before .before .before
 
   abbrev stream : List ℕ
   stream = head .before .before .before .before .before .args .s .now
@@ -50,167 +63,228 @@ module _ (c : tie.After-read-rest Inv-loop μ-loop) where
   abbrev old : List ℕ
   old = head .before .before .before .before .before .args .out .now
 
+  abbrev chip : Chip
+  chip = head .loop .chip
+
   abbrev rest : List ℕ
   rest = take (length stream - head .loop .at) (drop (head .loop .at) stream)
 
-  abbrev more : head .loop .at < length stream
-  more = c .before .before .before .before .loop-test .taken
+  more : head .loop .at < length stream
+  more = r .before .before .loop-test .taken
 
-  module _ (t : Turn) (q : t ≡ turnOf (head .loop .step .chip) rest) (new : List ℕ) (w : new ≡ noted (head .loop .out) (head .loop .n) (t .entry)) where
+  module _ (t : Turn) (q : t ≡ turnOf chip rest) (new : List ℕ) (w : new ≡ noted (head .loop .out) (head .loop .n) (t .entry)) where
     last-turn : t .last ≡ true → Ran stream old (t .chip) new
-    last-turn = going-last stream old (head .loop .out) (head .loop .step .chip) (head .loop .at) (head .loop .n) (head .loop .inv) more t q new w
+    last-turn = going-last stream old (head .loop .out) chip (head .loop .at) (head .loop .n) (head .loop .inv .0) more t q new w
 
     place : t .last ≡ false → (4 ≤ t .next) × (head .loop .at + t .next ≤ length stream)
-    place = going-place stream old (head .loop .out) (head .loop .step .chip) (head .loop .at) (head .loop .n) (head .loop .inv) more t q new w
+    place = going-place stream old (head .loop .out) chip (head .loop .at) (head .loop .n) (head .loop .inv .0) more t q new w
 
     more-turn : t .last ≡ false → Going stream old new (t .chip) (head .loop .at + t .next) (head .loop .n + 1)
-    more-turn = going-more stream old (head .loop .out) (head .loop .step .chip) (head .loop .at) (head .loop .n) (head .loop .inv) more t q new w
-
--- a record that was refused or cut short, and the chip that stands
-back-turn : (c : tie.After-turn-back Inv-loop μ-loop) → c .turn-back .result ≡ turnOf (head (c .before .before) .loop .step .chip) (rest (c .before .before))
-back-turn c =
-    let r = c .before .before in
-    c .turn-back .ensures ∙ back-is (head r .loop .step .chip) (rest r) (r .read-rest .result) (c .before .match .keys2) (r .read-rest .ensures)
-
-kept : (c : tie.After-turn-back Inv-loop μ-loop) → c .turn-back .result .chip ≡ head (c .before .before) .loop .step .chip
-kept c = let r = c .before .before in ap (λ (t : Turn). t .chip) (c .turn-back .ensures) ∙ back-keeps (head r .loop .step .chip) (r .read-rest .result)
+    more-turn = going-more stream old (head .loop .out) chip (head .loop .at) (head .loop .n) (head .loop .inv .0) more t q new w
 
 note-requires : tie.Need-note-requires Inv-loop μ-loop
 note-requires c κs =
-    let r = c .before .before .before .before in
-    omega (arith, head r .before .before .before .before .before .good, head r .loop .inv .slow, head r .loop .inv .inside)
-
-add-n : tie.Need-add-n Inv-loop μ-loop
-add-n c =
-    let r = c .before .before .before .before .before .before .before in
-    omega (arith, head r .before .before .before .before .before .good, head r .loop .inv .slow, head r .loop .inv .inside)
+    let l = head (c .before .before .before .before .before) in
+    omega (arith, l .before .before .before .before .before .good, l .loop .inv .0 .slow, l .loop .inv .0 .inside)
 
 same-length : tie.Need-same-length Inv-loop μ-loop
-same-length c =
-    let n = c .before .before .before in
-    n .note .kept .0 ∙ head (n .before .before .before .before .before) .loop .inv .made .same
+same-length c = c .before .before .note .kept .0 ∙ head (c .before .before .before .before .before .before .before .before) .loop .inv .0 .made .same
 
+-- a record that is cut short
 returns : tie.Need-returns Inv-loop μ-loop
 returns c =
-    let n = c .before .before .before in
-    let u = n .before .before .before in
-    let r = u .before .before in
-    subst (λ (k : Chip). Ran (stream r) (old r) k (n .note .last .0)) (kept u) (last-turn r (u .turn-back .result) (back-turn u) (n .note .last .0) (n .note .ensures) (c .if1 .taken))
+    let r = c .before .before .before .before .before .before .before .before in
+    let q = short-turn (chip r) (rest r) (sym (r .header-of .ensures) ∙ c .before .before .before .before .before .before .enum-told .given .1) in
+    let e = entry-is (quiet 9 (chip r)) (c .before .before .before .entry-of .ensures) (c .before .before .before .before .unanswered .ensures) (head r .loop .inv .1) in
+    last-turn r (turn (quiet 9 (chip r)) 0 true) q (c .before .before .note .last .0) (c .before .before .note .ensures ∙ ap (noted (head r .loop .out) (head r .loop .n)) e) refl
 
-add-at : tie.Need-add-at Inv-loop μ-loop
-add-at c =
-    let n = c .before .before .before .before in
-    let u = n .before .before .before in
-    omega (arith, head (u .before .before) .before .before .before .before .before .good, place (u .before .before) (u .turn-back .result) (back-turn u) (n .note .last .0) (n .note .ensures) (c .before .if1 .left))
+-- the payload: its header, and what is known of it
+module _ (u : tie.After-unanswered2 Inv-loop μ-loop) where
+  abbrev framed : tie.After-header-of Inv-loop μ-loop
+  framed = u .before .before .before .before .before
 
-loop-less : tie.Need-loop-less Inv-loop μ-loop
-loop-less c =
-    let n = c .before .before .before .before in
-    let u = n .before .before .before in
-    omega (arith, place (u .before .before) (u .turn-back .result) (back-turn u) (n .note .last .0) (n .note .ensures) (c .before .if1 .left), more (u .before .before))
-
-loop-again : tie.Need-loop-again Inv-loop μ-loop
-loop-again c =
-    let n = c .before .before .before .before in
-    let u = n .before .before .before in
-    let r = u .before .before in
-    subst (λ (k : Chip). Going (stream r) (old r) (n .note .last .0) k (head r .loop .at + u .turn-back .result .next) (head r .loop .n + 1)) (kept u) (more-turn r (u .turn-back .result) (back-turn u) (n .note .last .0) (n .note .ensures) (c .before .if1 .left))
-
--- a record that was read and done: the place where it is known
-module _ (c : tie.After-known-told Inv-loop μ-loop) where
-  abbrev was : tie.After-read-rest Inv-loop μ-loop
-  was = c .before .before .before
-
-  abbrev chip : Chip
-  chip = head was .loop .step .chip
-
-  abbrev event : Event
-  event = c .before .read .given .0 .0
+  abbrev kind : ℕ
+  kind = u .before .before .before .framed .given .0 .0
 
   abbrev next : ℕ
-  next = c .before .read .given .0 .1 .0
+  next = u .before .before .before .framed .given .0 .1 .0
 
-  abbrev beside : Counts
-  beside = countsBeside (rest was) (Record event next)
+  header : headerOf (rest framed) ≡ Header kind next
+  header = sym (framed .header-of .ensures) ∙ u .before .before .before .framed .given .1
 
-  found : readOf (chip .setup .part) (rest was) ≡ Record event next
-  found = sym (was .read-rest .ensures) ∙ c .before .read .given .1
+  inside : (4 ≤ next) × (next ≤ length (rest framed))
+  inside = framed-place (rest framed) kind next header
 
-  -- one that is often done
-  by : {s : Stepped} (e : Event) (xs : List ℕ) → event ≡ e → often e ≡ true → xs ≡ beside .of → s ≡ happenedBy e xs chip → s ≡ acted event beside chip
-  by e xs = often-is chip (rest was) event e next xs found
+sub-payload-of : tie.Need-sub-payload-of Inv-loop μ-loop
+sub-payload-of c = inside c .0
 
-counted-requires : tie.Need-counted-requires Inv-loop μ-loop
-counted-requires c κs = found (c .before .before .before)
+part-payload-of-start : tie.Need-part-payload-of-start Inv-loop μ-loop
+part-payload-of-start c = omega (arith, inside c)
 
-act-requires : tie.Need-act-requires Inv-loop μ-loop
-act-requires c κs = (found (c .before .before), seldom-done (chip (c .before .before)) (event (c .before .before)) (c .match2 .keys4))
-
-act-requires-2 : tie.Need-act-requires-2 Inv-loop μ-loop
-act-requires-2 c κs = (found (c .before), asleep-done (chip (c .before)) (event (c .before)) (c .if2 .left))
-
--- what each way came to
-step-done : (c : tie.Joined2 Inv-loop μ-loop) → c .if2 .step ≡ acted (event (c .before)) (beside (c .before)) (chip (c .before))
-step-done c =
-    let k = c .before in
-    ⊎-elim (λ w. w .5 ∙ by k Scan _ (w .2 .given .1) refl (w .3 .ensures) (w .4 .ensures))
-    (⊎-elim (λ w. let z = w .2 .given .0 .0 in let e : toZ w32 (ofZ w32 z) ≡ z = search needs in w .5 ∙ by k (Sense z) (beside k .of) (w .2 .given .1) refl refl (w .4 .ensures ∙ ap (λ v. happened (Tick v) (chip k)) e))
-    (⊎-elim (λ w. w .7 ∙ by k (OnBus Start) (beside k .of) (w .2 .given .1 ∙ ap (λ (b : BusEvent). OnBus b) (w .5 .given .1)) refl refl (w .6 .ensures))
-    (⊎-elim (λ w. w .8 ∙ by k (OnBus (Out (w .5 .given .0 .0))) (beside k .of) (w .2 .given .1 ∙ ap (λ (b : BusEvent). OnBus b) (w .5 .given .1)) refl refl (w .7 .ensures))
-    (⊎-elim (λ w. w .8 ∙ by k (OnBus (In (w .5 .given .0 .0))) (beside k .of) (w .2 .given .1 ∙ ap (λ (b : BusEvent). OnBus b) (w .5 .given .1)) refl refl (w .7 .ensures))
-    (⊎-elim (λ w. w .7 ∙ by k (OnBus Stop) (beside k .of) (w .2 .given .1 ∙ ap (λ (b : BusEvent). OnBus b) (w .5 .given .1)) refl refl (w .6 .ensures))
-    (⊎-elim (λ w. w .3 ∙ w .2 .ensures) (λ w. w .2 ∙ w .1 .ensures))))))) (c .if2 .came)
-
--- its turn
-module _ (c : tie.After-note2 Inv-loop μ-loop) where
-  abbrev told : tie.After-known-told Inv-loop μ-loop
-  told = c .before .before .before .before
-
-  abbrev done : Turn
-  done = turn (c .before .before .before .if2 .step) (next told) false
-
-  done-turn : done ≡ turnOf (chip told) (rest (was told))
-  done-turn = done-is (chip told) (rest (was told)) (c .before .before .before .if2 .step) (event told) (next told) (was told .read-rest .ensures) (told .before .read .given .1) (step-done (c .before .before .before))
-
-  entered : c .note2 .last .0 ≡ noted (head (was told) .loop .out) (head (was told) .loop .n) (done .entry)
-  entered = c .note2 .ensures ∙ ap (noted (head (was told) .loop .out) (head (was told) .loop .n)) (c .before .before .entry-of .ensures)
+part-payload-of-end : tie.Need-part-payload-of-end Inv-loop μ-loop
+part-payload-of-end c = omega (arith, inside c)
 
 note-requires-2 : tie.Need-note-requires-2 Inv-loop μ-loop
 note-requires-2 c κs =
-    let r = c .before .before .before .before .before .before in
-    omega (arith, head r .before .before .before .before .before .good, head r .loop .inv .slow, head r .loop .inv .inside)
-
-add-n-2 : tie.Need-add-n-2 Inv-loop μ-loop
-add-n-2 c =
-    let r = was (told (c .before .before)) in
-    omega (arith, head r .before .before .before .before .before .good, head r .loop .inv .slow, head r .loop .inv .inside)
-
-add-at-2 : tie.Need-add-at-2 Inv-loop μ-loop
-add-at-2 c =
-    let n = c .before .before in
-    let r = was (told n) in
-    omega (arith, head r .before .before .before .before .before .good, place r (done n) (done-turn n) (n .note2 .last .0) (entered n) refl)
-
-loop-less-2 : tie.Need-loop-less-2 Inv-loop μ-loop
-loop-less-2 c =
-    let n = c .before .before in
-    let r = was (told n) in
-    omega (arith, place r (done n) (done-turn n) (n .note2 .last .0) (entered n) refl, more r)
-
-loop-again-2 : tie.Need-loop-again-2 Inv-loop μ-loop
-loop-again-2 c =
-    let n = c .before .before in
-    let r = was (told n) in
-    more-turn r (done n) (done-turn n) (n .note2 .last .0) (entered n) refl
+    let l = head (c .before .before .before .before .before .before .before .before .before .before .before .before .before .before .before) in
+    omega (arith, l .before .before .before .before .before .good, l .loop .inv .0 .slow, l .loop .inv .0 .inside)
 
 same-length-2 : tie.Need-same-length-2 Inv-loop μ-loop
-same-length-2 c = c .before .before .loop .inv .made .same
+same-length-2 c = c .before .before .note2 .kept .0 ∙ head (c .before .before .before .before .before .before .before .before .before .before .before .before .before .before .before .before .before .before) .loop .inv .0 .made .same
 
+-- what a payload comes to
+module _ (p : tie.After-payload-of Inv-loop μ-loop) where
+  abbrev was : tie.After-header-of Inv-loop μ-loop
+  was = framed (p .before .before)
+
+  payload-is : p .payload-of .result ≡ payloadOf (kind (p .before .before)) (chip was .setup .part) (take (next (p .before .before) - 4) (drop 4 (rest was)))
+  payload-is = p .payload-of .ensures
+
+  unfit : (k : ℕ) → p .payload-of .result ≡ Unfit k → turn (quiet k (chip was)) (next (p .before .before)) (eqb (chip was .setup .part) 0) ≡ turnOf (chip was) (rest was)
+  unfit = unfit-turn (chip was) (rest was) (kind (p .before .before)) (next (p .before .before)) (header (p .before .before)) (p .payload-of .result) payload-is
+
+  module _ (e : Event) (w : p .payload-of .result ≡ Whole e) where
+    abbrev beside : Counts
+    beside = countsBeside (rest was) (Record e (next (p .before .before)))
+
+    read : readOf (chip was .setup .part) (rest was) ≡ Record e (next (p .before .before))
+    read = found (chip was) (rest was) (kind (p .before .before)) (next (p .before .before)) (header (p .before .before)) (p .payload-of .result) payload-is e w
+
+    did : (s : Stepped) → s ≡ acted e beside (chip was) → turn s (next (p .before .before)) false ≡ turnOf (chip was) (rest was)
+    did s = done-turn (chip was) (rest was) (kind (p .before .before)) (next (p .before .before)) (header (p .before .before)) (p .payload-of .result) payload-is e s w
+
+    -- one that is often done, found to be f
+    by : {s : Stepped} (f : Event) (xs : List ℕ) → e ≡ f → often f ≡ true → xs ≡ beside .of → s ≡ happenedBy f xs (chip was) → s ≡ acted e beside (chip was)
+    by f xs = often-is (chip was) (rest was) e f (next (p .before .before)) xs read
+
+    kinds : (v : Work) → v ≡ workOf (chip was .awake) e → Sorted (chip was .awake) e v
+    kinds v h = subst (Sorted (chip was .awake) e) (sym h) (sorted (chip was .awake) e)
+
+-- the first record refused
 returns-2 : tie.Need-returns-2 Inv-loop μ-loop
 returns-2 c =
-    let l = c .before .before in
-    let s = l .before .before .before .before .before .args in
-    going-end (s .s .now) (s .out .now) (l .loop .out) (l .loop .step .chip) (l .loop .at) (l .loop .n) (l .loop .inv) (c .before .loop-test .left)
+    let p = c .before .before .before .before .before .before .before .before .before .before .before in
+    let r = was p in
+    let k = c .before .before .before .before .before .before .before .before .before .number .given .0 .0 in
+    let q = unfit p k (c .before .before .before .before .before .before .before .before .before .number .given .1) in
+    let e = entry-is (quiet k (chip r)) (c .before .before .before .entry-of2 .ensures) (c .before .before .before .before .before .before .before .unanswered3 .ensures) (head r .loop .inv .1) in
+    last-turn r (turn (quiet k (chip r)) (next (p .before .before)) (eqb (chip r .setup .part) 0)) q (c .before .before .note2 .last .0)
+    (c .before .before .note2 .ensures ∙ ap (noted (head r .loop .out) (head r .loop .n)) e) (eq-eqb (chip r .setup .part) 0 (c .before .before .before .before .before .if1 .taken))
+
+counted-requires : tie.Need-counted-requires Inv-loop μ-loop
+counted-requires c κs = read (c .before .before .before .before .before .before) (c .before .before .before .before .event .given .0 .0) (c .before .before .before .before .event .given .1)
+
+act-requires : tie.Need-act-requires Inv-loop μ-loop
+act-requires c κs =
+    let p = c .before .before .before .before .before .before in
+    let e = c .before .before .before .before .event .given .0 .0 in
+    (read p e (c .before .before .before .before .event .given .1), kinds p e (c .before .before .before .before .event .given .1) _ (sym (c .enum-told4 .given .1) ∙ c .before .before .work-of .ensures))
+
+-- what each way came to: the turn, and what is shown
+abbrev Came : (p : tie.After-payload-of Inv-loop μ-loop) → Chip → Face → Answer → Type 0
+Came p k f a = (turn (saying a k) (next (p .before .before)) false ≡ turnOf (chip (was p)) (rest (was p))) × (f ≡ faceOf k)
+
+module _ (c : tie.At-match2-came Inv-loop μ-loop) where
+  abbrev pay : tie.After-payload-of Inv-loop μ-loop
+  pay = c .before
+
+  abbrev k : Chip
+  k = chip (was pay)
+
+  -- by the three equations of a way
+  way : (d : Chip) (f : Face) (a : Answer) → c .match2 .chip ≡ d → c .match2 .face ≡ f → c .match2 .answer ≡ a → Came pay d f a → Came pay (c .match2 .chip) (c .match2 .face) (c .match2 .answer)
+  way d f a hd hf ha w =
+      (ap (λ (d : Chip). turn (saying (c .match2 .answer) d) (next (pay .before .before)) false) hd ∙ ap (λ (a : Answer). turn (saying a d) (next (pay .before .before)) false) ha ∙ w .0, hf ∙ w .1 ∙ ap faceOf (sym hd))
+
+  abbrev shown : head (was pay) .loop .face ≡ faceOf k
+  shown = head (was pay) .loop .inv .1
+
+  -- an answer that is not given
+  still : (d : Chip) → saying (c .before .before .before .unanswered2 .result) d ≡ saying (unanswered 0) d
+  still d = ap (λ (a : Answer). saying a d) (c .before .before .before .unanswered2 .ensures)
+
+  came : Came pay (c .match2 .chip) (c .match2 .face) (c .match2 .answer)
+  came =
+      ⊎-elim (λ w. let n = w .1 .given .0 .0 in way k _ _ (w .6) (w .7) (w .8) (
+        ap (λ (a : Answer). turn (saying a k) (next (pay .before .before)) false) (w .3 .ensures)
+            ∙ sym (ap (turn (quiet n k) (next (pay .before .before))) (ne-eqb (k .setup .part) 0 (w .5 .left))) ∙ unfit pay n (w .1 .given .1),
+        shown,
+      ))
+      (⊎-elim (λ w. let e = w .1 .given .0 .0 in let f = w .1 .given .1 in let o = kinds pay e f Scans (sym (w .5 .given .1) ∙ w .3 .ensures) in way _ _ _ (w .9) (w .10) (w .11)
+      (did pay e f _ (by pay e f Scan (w .6 .result) (o .1) refl (w .6 .ensures) (still (w .7 .result) ∙ scan-arm k (w .6 .result) (w .7 .result) (o .0) (w .7 .ensures))), w .8 .ensures))
+      (⊎-elim (λ w. let e = w .1 .given .0 .0 in let f = w .1 .given .1 in let z = w .5 .given .0 .0 in let y : toZ w32 (ofZ w32 z) ≡ z = search needs in let o = kinds pay e f (Ticks z) (sym (w .5 .given .1) ∙ w .3 .ensures) in way _ _ _ (w .14) (w .15) (w .16) (
+        did pay e f _ (by pay e f (Sense z) (beside pay e f .of) (o .1) refl refl (still (w .12 .result)
+            ∙ tick-arm k z (beside pay e f .of) (w .7 .result) (w .12 .result) (o .0) (w .7 .ensures ∙ ap (λ v. tickJudged (k .registers .settings) v (k .runs)) y) (w .12 .ensures))),
+        w .13 .ensures,
+      ))
+      (⊎-elim (λ w. let e = w .1 .given .0 .0 in let f = w .1 .given .1 in let z = w .5 .given .0 .0 in let y : toZ w32 (ofZ w32 z) ≡ z = search needs in let o = kinds pay e f (Ticks z) (sym (w .5 .given .1) ∙ w .3 .ensures) in
+      let j = w .7 .ensures ∙ ap (λ v. tickJudged (k .registers .settings) v (k .runs)) y in way _ _ _ (w .12) (w .13) (w .14) (
+        did pay e f _ (by pay e f (Sense z) (beside pay e f .of) (o .1) refl refl (still (withRuns (w .7 .result .runs) k)
+            ∙ tick-arm k z (beside pay e f .of) (w .7 .result) (withRuns (w .7 .result .runs) k) (o .0) j (still-arm k z (w .7 .result) j (w .11 .left)))),
+        shown,
+      ))
+      (⊎-elim (λ w. let e = w .1 .given .0 .0 in let f = w .1 .given .1 in let b = w .5 .given .0 .0 in let o = kinds pay e f (Hears b) (sym (w .5 .given .1) ∙ w .3 .ensures) in let h = w .7 .result in way _ _ _ (w .12) (w .13) (w .14) (
+        did pay e f _ (by pay e f (OnBus b) (beside pay e f .of) (o .1) refl refl (ap (λ (a : Answer). saying a (withBus (h .bus) k)) (w .9 .ensures)
+            ∙ bus-arm k b (beside pay e f .of) h (withBus (h .bus) k) (o .0) (w .7 .ensures) (ap (λ (t : Store). landed t (withBus (h .bus) k)) (sym (w .11 .given .1))))),
+        shown,
+      ))
+      (⊎-elim (λ w. let e = w .1 .given .0 .0 in let f = w .1 .given .1 in let b = w .5 .given .0 .0 in let o = kinds pay e f (Hears b) (sym (w .5 .given .1) ∙ w .3 .ensures) in let h = w .7 .result in way _ _ _ (w .15) (w .16) (w .17) (
+        did pay e f _ (by pay e f (OnBus b) (beside pay e f .of) (o .1) refl refl (ap (λ (a : Answer). saying a (w .13 .result)) (w .9 .ensures)
+            ∙ bus-arm k b (beside pay e f .of) h (w .13 .result) (o .0) (w .7 .ensures) (w .13 .ensures ∙ ap (λ (t : Store). landed t (withBus (h .bus) k)) (sym (w .11 .given .1))))),
+        w .14 .ensures,
+      ))
+      (λ w. let e = w .1 .given .0 .0 in let f = w .1 .given .1 in let t = w .6 .result in way _ _ _ (w .10) (w .11) (w .12)
+      (did pay e f _ (ap (λ (a : Answer). saying a (t .chip)) (w .8 .ensures) ∙ w .6 .ensures), w .9 .ensures))))))) (c .match2 .came)
+
+note-requires-3 : tie.Need-note-requires-3 Inv-loop μ-loop
+note-requires-3 c κs =
+    let l = head (c .before .before .before .before .before .before .before .before .before .before) in
+    omega (arith, l .before .before .before .before .before .good, l .loop .inv .0 .slow, l .loop .inv .0 .inside)
+
+-- the turn of a record that does not end the loop
+module _ (c : tie.After-note3 Inv-loop μ-loop) where
+  abbrev joined : tie.At-match2-came Inv-loop μ-loop
+  joined = c .before .before .before
+
+  abbrev place0 : tie.After-header-of Inv-loop μ-loop
+  place0 = was (joined .before)
+
+  abbrev done : Turn
+  done = turn (saying (joined .match2 .answer) (joined .match2 .chip)) (next (joined .before .before .before)) false
+
+  entered : c .note3 .last .0 ≡ noted (head place0 .loop .out) (head place0 .loop .n) (done .entry)
+  entered =
+      c .note3 .ensures ∙ ap (noted (head place0 .loop .out) (head place0 .loop .n))
+      (entry-is (saying (joined .match2 .answer) (joined .match2 .chip)) (c .before .entry-of3 .ensures) refl (came joined .1))
+
+  goes-on : Going (stream place0) (old place0) (c .note3 .last .0) (joined .match2 .chip) (head place0 .loop .at + next (joined .before .before .before)) (head place0 .loop .n + 1)
+  goes-on = more-turn place0 done (came joined .0) (c .note3 .last .0) entered refl
+
+  placed : (4 ≤ next (joined .before .before .before)) × (head place0 .loop .at + next (joined .before .before .before) ≤ length (stream place0))
+  placed = place place0 done (came joined .0) (c .note3 .last .0) entered refl
+
+add-n : tie.Need-add-n Inv-loop μ-loop
+add-n c =
+    let l = head (place0 (c .before .before)) in
+    omega (arith, l .before .before .before .before .before .good, l .loop .inv .0 .slow, l .loop .inv .0 .inside)
+
+add-at : tie.Need-add-at Inv-loop μ-loop
+add-at c = omega (arith, head (place0 (c .before .before)) .before .before .before .before .before .good, placed (c .before .before))
+
+loop-less : tie.Need-loop-less Inv-loop μ-loop
+loop-less c = omega (arith, placed (c .before .before), more (place0 (c .before .before)))
+
+loop-again : tie.Need-loop-again Inv-loop μ-loop
+loop-again c = (goes-on (c .before .before), came (joined (c .before .before)) .1)
+
+same-length-3 : tie.Need-same-length-3 Inv-loop μ-loop
+same-length-3 c = c .before .loop .inv .0 .made .same
+
+returns-3 : tie.Need-returns-3 Inv-loop μ-loop
+returns-3 c =
+    let l = c .before in
+    let a = l .before .before .before .before .before .args in
+    going-end (a .s .now) (a .out .now) (l .loop .out) (l .loop .chip) (l .loop .at) (l .loop .n) (l .loop .inv .0) (c .loop-test .left)
 
 pub run-spec : {M : Type 1} → statement M
 run-spec =
@@ -221,40 +295,54 @@ run-spec =
     (λ c κs. search needs)
     (λ c κs. search needs)
     loop-holds
-    (λ c. omega (arith, c .before .before .loop-test .taken))
-    (λ c. omega (arith, c .before .before .loop-test .taken))
-    (λ c. omega (arith, c .before .before .loop-test .taken))
+    (λ c. omega (arith, c .loop-test .taken))
+    (λ c. omega (arith, c .loop-test .taken))
+    (λ c. omega (arith, c .loop-test .taken))
+    (λ c κs. search needs)
+    (λ c. search needs)
+    (λ c. search needs)
+    (λ c κs. search needs)
+    (λ c κs. search needs)
+    note-requires
+    same-length
+    returns
+    (λ c κs. search needs)
+    sub-payload-of
+    part-payload-of-start
+    part-payload-of-end
     (λ c κs. search needs)
     (λ c. search needs)
     (λ c κs. search needs)
-    note-requires
-    add-n
-    same-length
-    returns
-    add-at
-    loop-less
-    loop-again
+    (λ c κs. search needs)
+    note-requires-2
+    same-length-2
+    returns-2
+    (λ c. search needs)
+    (λ c κs. search needs)
     (λ c. search needs)
     counted-requires
     (λ c κs. search needs)
+    (λ c κs. search needs)
     (λ c. search needs)
+    (λ c κs. search needs)
+    (λ c κs. search needs)
+    (λ c κs. search needs)
+    (λ c. search needs)
+    (λ c κs. search needs)
     (λ c κs. search needs)
     (λ c. search needs)
     (λ c. search needs)
     (λ c κs. search needs)
-    (λ c. search needs)
     (λ c κs. search needs)
     (λ c. search needs)
-    (λ c κs. search needs)
-    (λ c. search needs)
-    (λ c κs. search needs)
     act-requires
-    act-requires-2
     (λ c κs. search needs)
-    note-requires-2
-    add-n-2
-    add-at-2
-    loop-less-2
-    loop-again-2
-    same-length-2
-    returns-2)
+    (λ c κs. search needs)
+    (λ c κs. search needs)
+    note-requires-3
+    add-n
+    add-at
+    loop-less
+    loop-again
+    same-length-3
+    returns-3)

@@ -13,7 +13,6 @@ use Rattle.chip.proofs.Chip.pin.Reads as pin-reads
 use Rattle.chip.proofs.Chip.por.Reads as por-reads
 use Rattle.chip.proofs.Chip.temp.Reads as temp-reads
 use Rattle.chip.proofs.Chip.xready.Reads as xready-reads
-use Rattle.stream.proofs.doze.Reads as doze-reads
 use Rattle.stream.proofs.refused.Reads as refused-reads
 
 -- src/lib.rt:104:28

@@ -7,8 +7,4 @@ returns : tie.Need-returns
 returns c = cc
 
 pub raised-spec : {M : Type 1} → statement M
-raised-spec =
-    tie.close
-    (tie.spec
-    (λ c κs. search needs)
-    returns)
+raised-spec = tie.close (tie.spec (λ c κs. search needs) returns)

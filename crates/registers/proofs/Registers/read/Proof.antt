@@ -1,30 +1,14 @@
--- `Registers::read` meets its contract: each test is the definition's, each byte its callee's.
-use Rattle.registers.specs.Read.{readAt}
-use borrow.Author.Tests.{lt-ltb, le-ltb}
+-- What an address reads is the first of its pair.
+use mathlib.Core.Path.{ap}
+use Rattle.registers.specs.declared.Pair.{Pair}
+use Rattle.registers.specs.Read.{pairAt}
 use borrow.Author.Needs.{needs}
 use Rattle.registers.proofs.Registers.read.Statement.{statement}
 use Rattle.registers.proofs.Registers.read.Tie as tie
 
 returns : tie.Need-returns
-unfolding readAt
-returns c = simp (lt-ltb _ _ (c .before .if1 .taken), c .low-byte .ensures)
-
-returns-2 : tie.Need-returns-2
-unfolding readAt
-returns-2 c = simp (le-ltb _ _ (c .before .before .before .before .if1 .left), lt-ltb _ _ (c .before .before .before .if2 .taken), c .half-of .ensures, c .before .word .ensures)
-
-returns-3 : tie.Need-returns-3
-unfolding readAt
-returns-3 c = simp (le-ltb _ _ (c .before .before .if1 .left), le-ltb _ _ (c .before .if2 .left), c .fixed-byte .ensures)
+unfolding pairAt
+returns c = ap (λ (p : Pair). p .here) (c .pair .ensures)
 
 pub read-spec : {M : Type 1} → statement M
-read-spec =
-    tie.close
-    (tie.spec
-    (λ c κs. search needs)
-    returns
-    (λ c κs. search needs)
-    (λ c κs. search needs)
-    returns-2
-    (λ c κs. search needs)
-    returns-3)
+read-spec = tie.close (tie.spec (λ c κs. search needs) returns)
