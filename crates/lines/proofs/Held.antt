@@ -16,7 +16,7 @@ use borrow.Author.Tests.{le-leb}
 use Rattle.stream.specs.declared.Entry.{Entry}
 use Rattle.stream.specs.Stream.{entries, bytesOf, Played}
 use Rattle.lines.specs.Text.{mostInput, Holds}
-use Rattle.lines.proofs.Few.{entries-few}
+use Rattle.lines.specs.Few.{entries-few}
 
 bytes-length : (es : List Entry) → length (bytesOf es) ≡ 5 * length es
 bytes-length [] = refl

@@ -1,4 +1,3 @@
 pub mod Putting
 pub mod Walking
-pub mod Few
 pub mod Held

@@ -1,4 +1,5 @@
 pub mod Line
 pub mod Text
 pub mod Decimal
+pub mod Few
 pub mod Whole

@@ -1,18 +1,21 @@
--- What a text that was put comes to: the whole text where the buffer reaches, and no two answers. Assumes nothing.
-use mathlib.Core.Path.{_≡_, ap, sym, _∙_}
-use Prim.Native.Nat.{ℕ, _+_, _≤_}
+-- What the promise of a text comes to: no two answers, and no refusal where the buffer has room for the longest text. Assumes nothing.
+use mathlib.Core.Path.{_≡_, sym, _∙_}
+use mathlib.Core.Bool.{true}
+use Prim.Native.Nat.{ℕ, _≤_}
 use mathlib.Core.List.{List, _++_}
 use native.Mathlib.Omega.{arith}
+use lib.Dec.{leb}
+use lib.IntN.{ℤ, pos}
 use lib.ListN.{length, drop}
-use lib.Seq.{sets-eq}
-use Rattle.lines.specs.Text.{Puts}
+use borrow.Author.Tests.{le-leb}
+use Rattle.lines.specs.Text.{mostText, textOf, Written}
+use Rattle.lines.specs.Few.{text-few}
 
-module _ {m r : ℕ} {t old new : List ℕ} (p : Puts m t 0 old r new) where
-  pub whole : length t ≤ length old → new ≡ t ++ drop (length t) old
-  whole h =
-      let z : 0 + length t ≡ length t = omega arith in
-      p .wrote ∙ sets-eq t old 0 (omega arith) ∙ ap (λ (n : ℕ). t ++ drop n old) z
+pub same-answer : {text old new new′ : List ℕ} {r r′ : ℤ} → Written text old r new → Written text old r′ new′ → (r ≡ r′) × (new ≡ new′)
+same-answer p q = (p .answer ∙ sym (q .answer), p .contents ∙ sym (q .contents))
 
-module _ {m at r q : ℕ} {t old new other : List ℕ} where
-  pub same-answer : Puts m t at old r new → Puts m t at old q other → (r ≡ q) × (new ≡ other)
-  same-answer p s = (p .next ∙ sym (s .next), p .wrote ∙ sym (s .wrote))
+pub never-short : (s : List ℕ) {old new : List ℕ} {r : ℤ}
+    → mostText ≤ length old → Written (textOf s) old r new → (r ≡ pos (length (textOf s))) × (new ≡ textOf s ++ drop (length (textOf s)) old)
+never-short s {old} h w =
+    let e : leb (length (textOf s)) (length old) ≡ true = le-leb (length (textOf s)) (length old) (omega (arith, text-few s)) in
+    (w .answer ∙ simp e, w .contents ∙ simp e)

@@ -1,14 +1,14 @@
-// The lines that `play` prints, put into a lent buffer as far as it reaches.
+// The lines that `play` prints, written into a lent buffer where all of them fit.
 ghost use mathlib.Core.Path.{_≡_};
 ghost use Prim.Native.Nat.{_+_, _*_, _<_, _≤_};
 ghost use mathlib.Core.List.{[], _∷_};
 ghost use lib.ListN.{length};
 ghost use Rattle.stream.specs.Stream.{entries};
 ghost use Rattle.lines.specs.Line.{leading, decimal, hexGlyph, hexByte, kindText, busText, pinsText, recordText, answerText, stateText, lineOf, dash};
-ghost use Rattle.lines.specs.Text.{tooLong, linesFrom, textOf, mostText, Holds, entryIn, Puts};
+ghost use Rattle.lines.specs.Text.{tooLong, linesFrom, textOf, mostText, Holds, entryIn, Puts, Written};
 use stream::Entry;
 
-// A byte at a place, where the buffer reaches it. Each of these answers the place after what it put: a variable is named for what comes there.
+// A byte at a place, where the buffer reaches it. Each `put_..` answers the place after what it put: a variable is named for what comes there.
 fn put(out: &mut [u8], at: usize, b: u8) -> usize
     requires { ⌜ at < 1000000 ⌝ }
     ensures { λ r. ⌜ Puts 1 (b ∷ []) at (now (out .entry)) r (now (out .exit)) ⌝ }
@@ -151,13 +151,16 @@ fn put_four(out: &mut [u8], at: usize, p: u8, q: u8, r: u8, s: u8) -> usize
     put(out, fourth, s)
 }
 
-// The one line for an input that has too many bytes.
-fn put_too_long(out: &mut [u8]) -> usize
-    ensures { λ r. ⌜ Puts 9 tooLong 0 (now (out .entry)) r (now (out .exit)) ⌝ }
+// The one line for an input that has too many bytes, where it fits.
+fn write_too_long(out: &mut [u8]) -> i64
+    ensures { λ r. ⌜ Written tooLong (now (out .entry)) r (now (out .exit)) ⌝ }
 {
+    if out.len() < 9 {
+        return -5;
+    }
     let word = put_four(out, 0, b't', b'o', b'o', b' ');
     let end = put_four(out, word, b'l', b'o', b'n', b'g');
-    put(out, end, b'\n')
+    put(out, end, b'\n') as i64
 }
 
 // The entry at a place among five bytes each.
@@ -194,14 +197,28 @@ fn put_lines(out: &mut [u8], input: &[u8], held: &[u8], n: usize) -> usize
     at
 }
 
-// All that `play` prints for an input, put into the buffer as far as it reaches. Answers how many bytes the whole text has.
-pub fn text(input: &[u8], out: &mut [u8]) -> usize
-    ensures { λ r. ⌜ Puts mostText (textOf (now (input .entry))) 0 (now (out .entry)) r (now (out .exit)) ⌝ }
+// The lines of an input's entries, where they fit. To learn how many bytes they have, they are put into no room first.
+fn write_lines(out: &mut [u8], input: &[u8], held: &[u8], n: usize) -> i64
+    requires { ⌜ Holds (entries (now input)) (now held) n ⌝ }
+    requires { ⌜ n ≤ 16384 ⌝ }
+    ensures { λ r. ⌜ Written (linesFrom 0 (now (input .entry)) (entries (now (input .entry)))) (now (out .entry)) r (now (out .exit)) ⌝ }
+{
+    let mut room = [0u8; 1];
+    let length = put_lines(&mut room[..0], input, held, n);
+    if out.len() < length {
+        return -5;
+    }
+    put_lines(out, input, held, n) as i64
+}
+
+// All that `play` prints for an input. Answers how many bytes it has, or -5 with no byte written where it does not fit.
+pub fn text(input: &[u8], out: &mut [u8]) -> i64
+    ensures { λ r. ⌜ Written (textOf (now (input .entry))) (now (out .entry)) r (now (out .exit)) ⌝ }
 {
     if 65536 < input.len() {
-        return put_too_long(out);
+        return write_too_long(out);
     }
     let mut held = [0u8; 81920];
     let n = stream::toralinge_play(input, &mut held) as usize;
-    put_lines(out, input, &held, n)
+    write_lines(out, input, &held, n)
 }
