@@ -1,2 +1,4 @@
 pub mod Grammar
 pub mod Reader
+pub mod Digits
+pub mod Exact
