@@ -4,6 +4,10 @@ use mathlib.Core.List.{List, [], _∷_, _++_}
 use Rattle.words.specs.declared.Word.{Word}
 use Rattle.words.specs.declared.Word.the-variants.{Write, Read, Byte}
 
+-- a space
+abbrev pub charSpace : ℕ
+charSpace = 32
+
 -- `w`
 abbrev pub charW : ℕ
 charW = 119

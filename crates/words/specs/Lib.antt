@@ -2,3 +2,4 @@ pub mod Grammar
 pub mod Reader
 pub mod Digits
 pub mod Exact
+pub mod Spaces
