@@ -1,5 +1,6 @@
 pub mod Grammar
 pub mod Reader
 pub mod Records
+pub mod Judging
 pub mod Cutting
 pub mod Exact
