@@ -4,3 +4,5 @@ pub mod Records
 pub mod Judging
 pub mod Cutting
 pub mod Exact
+pub mod Wording
+pub mod Numbering
