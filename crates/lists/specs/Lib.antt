@@ -2,6 +2,7 @@ pub mod Grammar
 pub mod Reader
 pub mod Records
 pub mod Judging
+pub mod Putting
 pub mod Cutting
 pub mod Exact
 pub mod Wording

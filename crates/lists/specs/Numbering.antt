@@ -1,21 +1,22 @@
 -- Judged word by word, a line has the number that its list has. Assumes nothing.
 use mathlib.Core.Path.{_≡_, refl, ap, ap₂, sym, _∙_}
 use Prim.Native.Nat.{ℕ, zero, suc, _+_, _-_, _<_, _≤_}
-use mathlib.Core.List.{List, [], _∷_}
+use mathlib.Core.List.{List, [], _∷_, _++_}
 use mathlib.Core.Bool.{Bool, true, false, not, cond, _&&_, _||_}
 use native.Mathlib.Omega.{arith}
 use lib.Dec.{leb, eqb, eqb·suc-zero}
 use lib.ListN.{length}
 use borrow.Author.Tests.{le-leb, lt-leb, leb-true, leb-false, eqb-true, eqb-false}
+use Rattle.events.specs.declared.BusEvent.the-variants.{Stop}
 use Rattle.words.specs.declared.Word.{Word}
 use Rattle.words.specs.declared.Word.the-variants.{Write, Read, Byte, Unknown}
-use Rattle.lists.specs.Grammar.{wordsOf}
-use Rattle.lists.specs.Reader.{wordsIn, wordsAt, whole, heard, lists, none, listed, listIn}
+use Rattle.lists.specs.Grammar.{Message, wordsOf}
+use Rattle.lists.specs.Reader.{wordsIn, wordsAt, whole, heard, Listing, lists, none, listed, listIn}
 use Rattle.lists.specs.Cutting.{words-all}
 use Rattle.lists.specs.Exact.{words-again}
-use Rattle.lists.specs.Records.{near, allNear, eventsOf, recordsOf, numberFor}
+use Rattle.lists.specs.Records.{near, allNear, eventsOf, recordsOf, bytesOf, numberFor}
 use Rattle.lists.specs.Judging.{fresh, followed, judgedBy, judgedAll, numberIn}
-use Rattle.lists.specs.Wording.{nearWords, sizeAll, near-words, list-size}
+use Rattle.lists.specs.Wording.{onWords, nearWords, sizeAll, events-words, near-words, list-size}
 use Rattle.lists.specs.declared.Judged.{Judged}
 
 -- ── three looks at what all the words leave ──
@@ -131,3 +132,43 @@ number-is line room =
     ∙ ap (λ (t : Bool). cond (not (whole 0 xs)) 20 (cond t 21 (cond (leb (j .left) 4) 5 0))) (far-all xs (fresh room))
     ∙ ap (λ (l : ℕ). cond (not (whole 0 xs)) 20 (cond (not (nearWords xs)) 21 (cond (leb l 4) 5 0))) (left-all xs (fresh room))
     ∙ listed-by xs room (whole 0 xs) refl
+
+-- ── a line that is not refused ──
+accept-by : (n t : Bool) → _≡_ {A = ℕ} (cond n (cond t 0 5) 21) 0 → (n ≡ true) × (t ≡ true)
+accept-by true true h = (refl, refl)
+accept-by true false h = absurd (omega (arith, h))
+accept-by false t h = absurd (omega (arith, h))
+
+pub record Accepted (line : List ℕ) (room : ℕ) : Type 0 where
+  pub near : nearWords (wordsIn line) ≡ true
+  pub bytes : bytesOf (listIn line) ≡ recordsOf (onWords (wordsIn line) ++ (Stop ∷ []))
+  pub fits : length (bytesOf (listIn line)) ≤ room
+
+accepted-by : (xs : List Word) (room : ℕ) (t : Bool) → whole 0 xs ≡ t → numberFor (cond t (lists (heard xs .messages)) none) room ≡ 0
+    → (nearWords xs ≡ true) × (bytesOf (cond t (lists (heard xs .messages)) none) ≡ recordsOf (onWords xs ++ (Stop ∷ []))) × (length (bytesOf (cond t (lists (heard xs .messages)) none)) ≤ room)
+accepted-by xs room false e h = absurd (omega (arith, h))
+accepted-by xs room true e h =
+    let ms : List Message = heard xs .messages in
+    let w : wordsOf ms ≡ xs = words-again xs e in
+    let a : (allNear ms ≡ true) × (leb (length (recordsOf (eventsOf ms))) room ≡ true) = accept-by (allNear ms) (leb (length (recordsOf (eventsOf ms))) room) h in (
+      ap nearWords (sym w) ∙ sym (near-words ms) ∙ a .0,
+      ap recordsOf (events-words ms ∙ ap (λ (ys : List Word). onWords ys ++ (Stop ∷ [])) w),
+      leb-true (length (recordsOf (eventsOf ms))) room (a .1),
+    )
+
+pub accepted : (line : List ℕ) (room : ℕ) → numberFor (listIn line) room ≡ 0 → Accepted line room
+unfolding listIn
+accepted line room h =
+    let a : (nearWords (wordsIn line) ≡ true) × (bytesOf (listed (wordsIn line)) ≡ recordsOf (onWords (wordsIn line) ++ (Stop ∷ []))) × (length (bytesOf (listed (wordsIn line))) ≤ room) =
+    accepted-by (wordsIn line) room (whole 0 (wordsIn line)) refl h in
+    record { near = a .0; bytes = a .1; fits = a .2 }
+
+-- no other number is given
+pick-none : (n t : Bool) → (_≡_ {A = ℕ} (cond n (cond t 0 5) 21) 21 → ⊥) → (_≡_ {A = ℕ} (cond n (cond t 0 5) 21) 5 → ⊥) → _≡_ {A = ℕ} (cond n (cond t 0 5) 21) 0
+pick-none true true p q = refl
+pick-none true false p q = absurd (q refl)
+pick-none false t p q = absurd (p refl)
+
+pub no-other : (x : Listing) (room : ℕ) → (numberFor x room ≡ 20 → ⊥) → (numberFor x room ≡ 21 → ⊥) → (numberFor x room ≡ 5 → ⊥) → numberFor x room ≡ 0
+no-other none room a b c = absurd (a refl)
+no-other (lists ms) room a b c = pick-none (allNear ms) (leb (length (recordsOf (eventsOf ms))) room) b c

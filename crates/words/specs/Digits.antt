@@ -24,15 +24,17 @@ unfolding hexOf
 hex-read (figure v h) = (simp (le-ltb (char0 + v) 48 (omega arith), le-leb (char0 + v) 57 (omega arith)) (omega arith), omega arith)
 hex-read (capital v h) =
     (simp (le-ltb (charA + v) 48 (omega arith), lt-leb (charA + v) 57 (omega arith), le-ltb (charA + v) 65 (omega arith), le-leb (charA + v) 70 (omega arith)) (omega arith), omega arith)
-hex-read (small v h) =
-    (simp (
-      le-ltb (chara + v) 48 (omega arith),
-      lt-leb (chara + v) 57 (omega arith),
-      le-ltb (chara + v) 65 (omega arith),
-      lt-leb (chara + v) 70 (omega arith),
-      le-ltb (chara + v) 97 (omega arith),
-      le-leb (chara + v) 102 (omega arith),
-    ) (omega arith), omega arith)
+hex-read (small v h) = (
+  simp (
+    le-ltb (chara + v) 48 (omega arith),
+    lt-leb (chara + v) 57 (omega arith),
+    le-ltb (chara + v) 65 (omega arith),
+    lt-leb (chara + v) 70 (omega arith),
+    le-ltb (chara + v) 97 (omega arith),
+    le-leb (chara + v) 102 (omega arith),
+  ) (omega arith),
+  omega arith,
+)
 
 pub value-read : {a : List ℕ} {v : ℕ} → Hex a v → (valueOf a ≡ v) × (v < 256)
 unfolding valueOf digitsOf pairOf
