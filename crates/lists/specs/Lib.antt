@@ -7,3 +7,5 @@ pub mod Cutting
 pub mod Exact
 pub mod Wording
 pub mod Numbering
+pub mod Answers
+pub mod Examples
