@@ -1,13 +1,12 @@
+-- `end_of` passes what is no space: the place reached and what is left of the word make its end.
 use Rattle.lists.proofs.Steps.{length-space, length-next, length-end}
 use native.Mathlib.Omega.{arith}
 use Rattle.lists.specs.Reader.{wordLength}
 use lib.ListN.{length, drop}
 use Prim.Native.Nat.{_+_, _-_, _≤_}
-use mathlib.Core.Path.{_≡_, refl, sym, _∙_}
+use mathlib.Core.Path.{_≡_, refl}
 use Rattle.lists.proofs.end_of.Statement.{statement}
 use Rattle.lists.proofs.end_of.Tie as tie
-use Rattle.lists.proofs.end_of.Reads as reads
-use Rattle.lists.proofs.end_of.Lts as lts
 
 abbrev Inv-loop : tie.InvT-loop
 Inv-loop line at end₀ end = (end ≤ length line) × (at + wordLength (drop at line) ≡ end + wordLength (drop end line))
@@ -15,31 +14,24 @@ Inv-loop line at end₀ end = (end ≤ length line) × (at + wordLength (drop at
 abbrev μ-loop : tie.MeasureT-loop
 μ-loop line at end₀ end = length line - end
 
--- src/lib.rt:114:5
 loop-holds : tie.Need-loop-holds Inv-loop μ-loop
 loop-holds c = (c .pre, refl)
 
--- src/lib.rt:115:12
 shared-slice-read-if1 : tie.Need-shared-slice-read-if1 Inv-loop μ-loop
 shared-slice-read-if1 c = omega arith
 
--- src/lib.rt:116:13
 returns : tie.Need-returns Inv-loop μ-loop
 returns c = let l = c .before .before .before in let s = l .before .args .line .now in omega (arith, l .loop .inv .1, length-space s (l .loop .end) (c .before .before .loop-test .taken) (c .if1 .taken))
 
--- src/lib.rt:118:9
 add-end : tie.Need-add-end Inv-loop μ-loop
 add-end c = omega arith
 
--- src/lib.rt:114:5
 loop-less : tie.Need-loop-less Inv-loop μ-loop
 loop-less c = omega arith
 
--- src/lib.rt:114:5
 loop-again : tie.Need-loop-again Inv-loop μ-loop
 loop-again c = let l = c .before .before .before in let s = l .before .args .line .now in (omega (arith, c .before .before .loop-test .taken), omega (arith, l .loop .inv .1, length-next s (l .loop .end) (c .before .before .loop-test .taken) (c .if1 .left)))
 
--- src/lib.rt:109:1
 returns-2 : tie.Need-returns-2 Inv-loop μ-loop
 returns-2 c = let l = c .before in let s = l .before .args .line .now in omega (arith, l .loop .inv .1, length-end s (l .loop .end) (c .loop-test .left))
 

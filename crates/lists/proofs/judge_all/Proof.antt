@@ -1,18 +1,14 @@
+-- `judge_all`: what the words from a place on leave is what all of them leave (Steps).
 use Rattle.lists.proofs.Steps.{turn-within, judge-turn, judge-end}
 use borrow.Author.Needs.{needs}
 use native.Mathlib.Omega.{arith}
 use Rattle.lists.specs.Judging.{judgedAll, fresh}
 use Rattle.lists.specs.Reader.{wordsAt}
-use lib.ListN.{length, drop}
+use lib.ListN.{length}
 use Prim.Native.Nat.{_+_, _-_, _≤_}
-use mathlib.Core.Path.{_≡_, refl, sym, _∙_}
+use mathlib.Core.Path.{_≡_, refl, _∙_}
 use Rattle.lists.proofs.judge_all.Statement.{statement}
 use Rattle.lists.proofs.judge_all.Tie as tie
-use Rattle.lists.proofs.judge_all.Reads as reads
-use Rattle.lists.proofs.judge_all.Lts as lts
-use Rattle.lists.proofs.end_of.Reads as end-of-reads
-use Rattle.lists.proofs.judge_word.Reads as judge-word-reads
-use Rattle.words.proofs.word_of.Reads as word-of-reads
 
 abbrev Inv-loop : tie.InvT-loop
 Inv-loop line room j₀ at₀ j at = (at ≤ length line + 1) × (judgedAll (wordsAt line at) j ≡ judgedAll (wordsAt line 0) (fresh room))
@@ -20,51 +16,33 @@ Inv-loop line room j₀ at₀ j at = (at ≤ length line + 1) × (judgedAll (wor
 abbrev μ-loop : tie.MeasureT-loop
 μ-loop line room j₀ at₀ j at = length line + 1 - at
 
--- src/lib.rt:132:15
 add-t6 : tie.Need-add-t6 Inv-loop μ-loop
 add-t6 c = omega arith
 
--- src/lib.rt:135:5
 loop-holds : tie.Need-loop-holds Inv-loop μ-loop
 loop-holds c = (omega arith, refl)
 
--- src/lib.rt:136:13
 end-of-requires : tie.Need-end-of-requires Inv-loop μ-loop
 end-of-requires c κs = c .loop-test .taken
 
--- src/lib.rt:137:42
 sub-word-of : tie.Need-sub-word-of Inv-loop μ-loop
 sub-word-of c = let l = c .before .before in let s = l .before .before .args .line .now in turn-within s (l .loop .at) (c .end-of .result) (c .before .loop-test .taken) (c .end-of .ensures) .0
 
--- src/lib.rt:137:42
 part-word-of-start : tie.Need-part-word-of-start Inv-loop μ-loop
 part-word-of-start c = let l = c .before .before in let s = l .before .before .args .line .now in let t = turn-within s (l .loop .at) (c .end-of .result) (c .before .loop-test .taken) (c .end-of .ensures) in omega (arith, t .0, t .1)
 
--- src/lib.rt:137:42
 part-word-of-end : tie.Need-part-word-of-end Inv-loop μ-loop
 part-word-of-end c = let l = c .before .before in let s = l .before .before .args .line .now in let t = turn-within s (l .loop .at) (c .end-of .result) (c .before .loop-test .taken) (c .end-of .ensures) in omega (arith, t .0, t .1)
 
--- src/lib.rt:137:27
-word-of-requires : tie.Need-word-of-requires Inv-loop μ-loop
-word-of-requires c κs = search needs
-
--- src/lib.rt:137:9
-judge-word-requires : tie.Need-judge-word-requires Inv-loop μ-loop
-judge-word-requires c κs = search needs
-
--- src/lib.rt:138:14
 add-at : tie.Need-add-at Inv-loop μ-loop
 add-at c = let e = c .before .before .before in let l = e .before .before in let s = l .before .before .args .line .now in let t = turn-within s (l .loop .at) (e .end-of .result) (e .before .loop-test .taken) (e .end-of .ensures) in omega (arith, t .0, t .1, l .before .before .good)
 
--- src/lib.rt:135:5
 loop-less : tie.Need-loop-less Inv-loop μ-loop
 loop-less c = let e = c .before .before .before in let l = e .before .before in let s = l .before .before .args .line .now in let t = turn-within s (l .loop .at) (e .end-of .result) (e .before .loop-test .taken) (e .end-of .ensures) in omega (arith, t .0, t .1, e .before .loop-test .taken)
 
--- src/lib.rt:135:5
 loop-again : tie.Need-loop-again Inv-loop μ-loop
 loop-again c = let e = c .before .before .before in let l = e .before .before in let s = l .before .before .args .line .now in let t = turn-within s (l .loop .at) (e .end-of .result) (e .before .loop-test .taken) (e .end-of .ensures) in (omega (arith, t .1), judge-turn s (l .loop .at) (e .end-of .result) (e .before .loop-test .taken) (e .end-of .ensures) (l .loop .j) (c .judge-word .result) (c .before .word-of .result) (c .before .word-of .ensures) (c .judge-word .ensures) ∙ l .loop .inv .1)
 
--- src/lib.rt:124:1
 returns : tie.Need-returns Inv-loop μ-loop
 returns c = let l = c .before in judge-end (l .before .before .args .line .now) (l .loop .at) (l .loop .j) (c .loop-test .left) ∙ l .loop .inv .1
 
@@ -80,8 +58,8 @@ judge-all-spec =
     sub-word-of
     part-word-of-start
     part-word-of-end
-    word-of-requires
-    judge-word-requires
+    (λ c κs. search needs)
+    (λ c κs. search needs)
     add-at
     loop-less
     loop-again
