@@ -6,7 +6,7 @@ use mathlib.Core.List.{List, [], _∷_, _++_, append-assoc}
 use mathlib.Core.Bool.{Bool, true, false, cond, _&&_}
 use native.Mathlib.Omega.{arith}
 use lib.Dec.{leb, eqb}
-use lib.IntN.{ℤ, pos, negℤ}
+use lib.IntN.{ℤ, pos, negsuc, negℤ}
 use lib.ListN.{length, drop}
 use lib.Seq.{drop-append-seam}
 use borrow.Author.Tests.{le-leb, lt-leb, leb-true, leb-false}
@@ -106,3 +106,20 @@ module _ (part : ℕ) (a : 1 ≤ part) (b : part ≤ 3) where
       let bytes : List ℕ = recordsOf (eventsOf ms) in
       let c : new ≡ writtenOf bytes old = call-list line old r new ms s t .1 ∙ ap (λ (n : ℕ). contentsWith n bytes old) z in
       subst (λ (l : List ℕ). Reads part l (eventsOf ms) (drop (length bytes) old)) (sym c) (records-read (eventsOf ms) (drop (length bytes) old))
+
+-- ── an answer is how many bytes were written, within the room, or minus a number from 1 to 21 ──
+pub data Answered (room : ℕ) : ℤ → Type 0 where
+  done : (n : ℕ) → n ≤ room → Answered room (pos n)
+  refused : (n : ℕ) → n < 21 → Answered room (negsuc n)
+
+answered-by : (bytes : List ℕ) (room : ℕ) (n t : Bool) → leb (length bytes) room ≡ t → Answered room (answerWith (cond n (cond t 0 5) 21) bytes)
+answered-by bytes room true true e = done (length bytes) (leb-true (length bytes) room e)
+answered-by bytes room true false e = refused 4 (omega arith)
+answered-by bytes room false t e = refused 20 (omega arith)
+
+answered-for : (x : Listing) (room : ℕ) → Answered room (answerWith (numberFor x room) (bytesOf x))
+answered-for none room = refused 19 (omega arith)
+answered-for (lists ms) room = answered-by (recordsOf (eventsOf ms)) room (allNear ms) (leb (length (recordsOf (eventsOf ms))) room) refl
+
+pub answered : (line old : List ℕ) (r : ℤ) (new : List ℕ) → Taken line old r new → Answered (length old) r
+answered line old r new t = subst (Answered (length old)) (sym (t .answer)) (answered-for (listIn line) (length old))
