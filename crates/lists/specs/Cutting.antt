@@ -1,13 +1,13 @@
 -- A line's words one after the other: the first, and those after the next space. Assumes nothing.
 use mathlib.Core.Path.{_≡_, refl, ap, ap₂, sym, _∙_}
-use Prim.Native.Nat.{ℕ, zero, suc, _+_, _-_, _<_, _≤_}
-use mathlib.Core.List.{List, [], _∷_, _++_, map, append-nil}
+use Prim.Native.Nat.{ℕ, suc, _+_, _-_, _<_, _≤_}
+use mathlib.Core.List.{List, [], _∷_, _++_, map}
 use mathlib.Core.Bool.{Bool, true, false, cond, not, _&&_}
 use native.Mathlib.Omega.{arith}
 use lib.Dec.{leb, ltb, eqb, leb·suc-suc}
 use lib.ListN.{length, take, drop, length-drop}
 use lib.Seq.{drop-drop}
-use borrow.Author.Tests.{le-leb, lt-leb, le-ltb, lt-ltb, ltb-true, ltb-false, eqb-true}
+use borrow.Author.Tests.{le-leb, lt-leb, lt-ltb, ltb-true, ltb-false, eqb-true}
 use Rattle.words.specs.Grammar.{charSpace}
 use Rattle.words.specs.Reader.{wordOf}
 use Rattle.words.specs.declared.Word.{Word}

@@ -5,14 +5,14 @@ use mathlib.Core.List.{List, [], _∷_, _++_, map, append-nil}
 use mathlib.Core.Bool.{Bool, true, false, cond}
 use native.Mathlib.Omega.{arith}
 use lib.ListN.{length, take}
-use Rattle.words.specs.Grammar.{charSpace, Spells}
+use Rattle.words.specs.Grammar.{Spells}
 use Rattle.words.specs.Reader.{wordOf}
 use Rattle.words.specs.Exact.{Spelt, word-spelt, word-read}
 use Rattle.words.specs.Spaces.{word-clear}
 use Rattle.words.specs.declared.Word.{Word}
 use Rattle.words.specs.declared.Word.the-variants.{Write, Read, Byte, Unknown}
 use Rattle.lists.specs.Grammar.{Message, sends, takes, byteWord, wordsOf, Line, last, more, Says}
-use Rattle.lists.specs.Reader.{cut, wordsIn, wordLength, whole, Heard, heard, Listing, lists, none, listed, listIn}
+use Rattle.lists.specs.Reader.{cut, wordsIn, wordLength, whole, Heard, heard, lists, none, listed, listIn}
 use Rattle.lists.specs.Cutting.{after, cut-first, joined, joinedAll, cut-more, cut-last, cut-joined}
 
 -- ── words: a line of the grammar is read as its words ──

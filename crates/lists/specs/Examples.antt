@@ -5,8 +5,8 @@ use mathlib.Core.List.{List, [], _∷_, map}
 use lib.ListN.{replicate}
 use Rattle.words.specs.Reader.{hexOf, digitOf, pairOf, digitsOf, valueOf, oneOf, joinedOf, messageFor, messageOf, wordBy}
 use Rattle.writer.specs.Write.{recordFor}
-use Rattle.lists.specs.Grammar.{Message, sends, takes}
-use Rattle.lists.specs.Reader.{Listing, lists, none, listIn}
+use Rattle.lists.specs.Grammar.{sends, takes}
+use Rattle.lists.specs.Reader.{lists, none, listIn}
 use Rattle.lists.specs.Records.{bytesOf, numberFor}
 
 -- `w2@0x08 0x04 0x19`

@@ -1,14 +1,14 @@
 -- The reader's digits and numbers are the grammar's: what is spelt is read, and what is read is spelt. Assumes nothing.
-use mathlib.Core.Path.{_≡_, refl, ap, sym, _∙_, subst}
+use mathlib.Core.Path.{_≡_, refl, subst}
 use Prim.Native.Nat.{ℕ, _+_, _-_, _*_, _<_, _≤_}
 use mathlib.Core.List.{List, [], _∷_}
 use mathlib.Core.Bool.{Bool, true, false, cond}
 use native.Mathlib.Omega.{arith}
 use lib.Dec.{leb, ltb, eqb}
-use lib.ListN.{length, getD}
-use borrow.Author.Tests.{lt-ltb, le-ltb, le-leb, lt-leb, eq-eqb, ne-eqb, ltb-false, leb-true, leb-false, eqb-true, eqb-false}
-use Rattle.words.specs.Grammar.{char0, charA, chara, charX, Digit, digit, HexDigit, figure, capital, small, Hex, short, long, Count, ones, tens}
-use Rattle.words.specs.Reader.{hexOf, digitOf, pairOf, digitsOf, valueOf, oneOf, joinedOf, twoOf}
+use lib.ListN.{length}
+use borrow.Author.Tests.{le-ltb, le-leb, lt-leb, ne-eqb, ltb-false, leb-true, leb-false, eqb-true}
+use Rattle.words.specs.Grammar.{char0, charA, chara, charX, Digit, digit, HexDigit, figure, capital, small, Hex, short, long}
+use Rattle.words.specs.Reader.{hexOf, digitOf, pairOf, digitsOf, valueOf, oneOf}
 
 -- ── what is spelt is read ──
 pub digit-read : {c v : ℕ} → Digit c v → (digitOf c ≡ v) × (v < 10)

@@ -2,13 +2,13 @@
 use mathlib.Core.Path.{_≡_, refl, ap, ap₂, sym, _∙_, subst}
 use Prim.Native.Nat.{ℕ, _+_, _*_, _<_, _≤_}
 use mathlib.Core.List.{List, [], _∷_, _++_}
-use mathlib.Core.Bool.{Bool, true, false, cond, not, _&&_}
+use mathlib.Core.Bool.{Bool, true, false, cond}
 use native.Mathlib.Omega.{arith}
 use lib.Dec.{leb, ltb, eqb}
-use lib.ListN.{length, getD, drop}
-use borrow.Author.Tests.{lt-ltb, le-ltb, le-leb, lt-leb, eq-eqb, ne-eqb, ltb-true, ltb-false, leb-true, leb-false, eqb-true, eqb-false}
-use Rattle.words.specs.Grammar.{charW, charR, charAt, charX, char0, Digit, digit, HexDigit, figure, capital, small, Hex, short, long, Count, ones, tens, Spells, writes, reads, byte}
-use Rattle.words.specs.Reader.{hexOf, digitOf, valueOf, digitsOf, oneOf, joinedOf, twoOf, messageFor, messageOf, wordBy, wordOf}
+use lib.ListN.{length}
+use borrow.Author.Tests.{lt-ltb, le-ltb, lt-leb, ne-eqb, ltb-true, ltb-false, leb-false, eqb-true, eqb-false}
+use Rattle.words.specs.Grammar.{charW, charR, charAt, charX, char0, Digit, digit, Hex, short, long, Count, ones, tens, Spells, writes, reads, byte}
+use Rattle.words.specs.Reader.{digitOf, valueOf, oneOf, joinedOf, twoOf, messageFor, messageOf, wordBy, wordOf}
 use Rattle.words.specs.Digits.{digit-read, one-read, value-read, digit-spelt, one-spelt, value-spelt}
 use Rattle.words.specs.declared.Word.{Word}
 use Rattle.words.specs.declared.Word.the-variants.{Write, Read, Byte, Unknown}

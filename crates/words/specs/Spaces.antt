@@ -1,12 +1,12 @@
 -- No word has a space in it. Assumes nothing.
-use mathlib.Core.Path.{_≡_, refl}
+use mathlib.Core.Path.{_≡_}
 use Prim.Native.Nat.{ℕ, _+_}
 use mathlib.Core.List.{List, [], _∷_, _++_}
 use mathlib.Core.Bool.{Bool, true, false, not, _&&_}
 use native.Mathlib.Omega.{arith}
 use lib.Dec.{eqb}
 use borrow.Author.Tests.{ne-eqb}
-use Rattle.words.specs.Grammar.{charSpace, charW, charR, charAt, charX, char0, charA, chara, Digit, digit, HexDigit, figure, capital, small, Hex, short, long, Count, ones, tens, Spells, writes, reads, byte}
+use Rattle.words.specs.Grammar.{charSpace, charAt, char0, charA, chara, Digit, digit, HexDigit, figure, capital, small, Hex, short, long, Count, ones, tens, Spells, writes, reads, byte}
 use Rattle.words.specs.declared.Word.{Word}
 
 abbrev pub spaceless : List ℕ → Bool
