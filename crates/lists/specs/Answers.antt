@@ -37,8 +37,11 @@ none-by : (line : List ℕ) (x : Listing) → listIn line ≡ x → ((ms : List 
 none-by line (lists ms) e h = absurd (h ms (read-says line ms e))
 none-by line none e h = refl
 
-pub none-twenty : (line : List ℕ) → ((ms : List Message) → Says line ms → ⊥) → listIn line ≡ none
-none-twenty line h = none-by line (listIn line) refl h
+none-read : (line : List ℕ) → ((ms : List Message) → Says line ms → ⊥) → listIn line ≡ none
+none-read line h = none-by line (listIn line) refl h
+
+pub none-twenty : (line : List ℕ) (room : ℕ) → ((ms : List Message) → Says line ms → ⊥) → numberFor (listIn line) room ≡ 20
+none-twenty line room h = ap (λ (x : Listing). numberFor x room) (none-read line h)
 
 -- ── 21 is the number of the lists that have an address outside 0x08 to 0x77 ──
 pub data Outside : List Message → Type 0 where
@@ -51,7 +54,7 @@ outside-by m ms true true et eu i h = there m ms (i h)
 outside-by m ms true false et eu i h = here m ms (inr (leb-false (addressOf m) 0x77 eu))
 outside-by m ms false u et eu i h = here m ms (inl (leb-false 0x08 (addressOf m) et))
 
-pub far-outside : (ms : List Message) → allNear ms ≡ false → Outside ms
+far-outside : (ms : List Message) → allNear ms ≡ false → Outside ms
 far-outside [] h = absurd (let z : _≡_ {A = ℕ} 0 1 = cc in omega arith)
 far-outside (m ∷ ms) h = outside-by m ms (leb 0x08 (addressOf m)) (leb (addressOf m) 0x77) refl refl (far-outside ms) h
 
@@ -59,10 +62,35 @@ and-false : (t : Bool) → (t && false) ≡ false
 and-false true = refl
 and-false false = refl
 
-pub outside-far : {ms : List Message} → Outside ms → allNear ms ≡ false
+outside-far : {ms : List Message} → Outside ms → allNear ms ≡ false
 outside-far (here m ms (inl h)) = simp (lt-leb 0x08 (addressOf m) h)
 outside-far (here m ms (inr h)) = simp (lt-leb (addressOf m) 0x77 h, and-false (leb 0x08 (addressOf m)))
 outside-far (there m ms o) = ap (λ (t : Bool). near (addressOf m) && t) (outside-far o) ∙ and-false (near (addressOf m))
+
+-- a list's number by its two tests, backwards
+picked : (n t : Bool) → (_≡_ {A = ℕ} (cond n (cond t 0 5) 21) 21 → n ≡ false) × (_≡_ {A = ℕ} (cond n (cond t 0 5) 21) 5 → (n ≡ true) × (t ≡ false))
+picked true true = (λ h. absurd (omega (arith, h)), λ h. absurd (omega (arith, h)))
+picked true false = (λ h. absurd (omega (arith, h)), λ h. (refl, refl))
+picked false t = (λ h. refl, λ h. absurd (omega (arith, h)))
+
+module _ (line : List ℕ) (room : ℕ) (ms : List Message) (s : Says line ms) where
+  said : numberFor (listIn line) room ≡ numberFor (lists ms) room
+  said = let e : listIn line ≡ lists ms = says-read s in ap (λ (x : Listing). numberFor x room) e
+
+  pub outside-21 : Outside ms → numberFor (listIn line) room ≡ 21
+  outside-21 o = said ∙ ap (λ (t : Bool). cond t (cond (leb (length (recordsOf (eventsOf ms))) room) 0 5) 21) (outside-far o)
+
+  pub only-outside-21 : numberFor (listIn line) room ≡ 21 → Outside ms
+  only-outside-21 h = far-outside ms (picked (allNear ms) (leb (length (recordsOf (eventsOf ms))) room) .0 (sym said ∙ h))
+
+  -- ── then 5, where the records do not fit ──
+  pub short-5 : allNear ms ≡ true → room < length (recordsOf (eventsOf ms)) → numberFor (listIn line) room ≡ 5
+  short-5 n h = said ∙ simp (n, lt-leb (length (recordsOf (eventsOf ms))) room h)
+
+  pub only-short-5 : numberFor (listIn line) room ≡ 5 → (allNear ms ≡ true) × (room < length (recordsOf (eventsOf ms)))
+  only-short-5 h =
+      let p : (allNear ms ≡ true) × (leb (length (recordsOf (eventsOf ms))) room ≡ false) = picked (allNear ms) (leb (length (recordsOf (eventsOf ms))) room) .1 (sym said ∙ h) in
+      (p .0, leb-false (length (recordsOf (eventsOf ms))) room (p .1))
 
 -- ── the call, for a line that says a list and for one that says none ──
 pub call-list : (line old : List ℕ) (r : ℤ) (new : List ℕ) (ms : List Message) → Says line ms → Taken line old r new
@@ -73,7 +101,7 @@ call-list line old r new ms s t =
 
 pub call-none : (line old : List ℕ) (r : ℤ) (new : List ℕ) → ((ms : List Message) → Says line ms → ⊥) → Taken line old r new → (r ≡ negℤ (pos 20)) × (new ≡ old)
 call-none line old r new h t =
-    let e : listIn line ≡ none = none-twenty line h in
+    let e : listIn line ≡ none = none-read line h in
     (t .answer ∙ ap (λ (x : Listing). answerWith (numberFor x (length old)) (bytesOf x)) e, t .contents ∙ ap (λ (x : Listing). contentsWith (numberFor x (length old)) (bytesOf x) old) e)
 
 -- two answers that the promise allows are the same

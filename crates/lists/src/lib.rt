@@ -17,11 +17,11 @@ use writer::Wrote;
 
 // What the words so far leave: the bytes still owed to their message, whether they begin no list, whether an address is out of
 // range, and the room that is left, with one byte more.
-pub struct Judged {
-    pub owed: u8,
-    pub wrong: bool,
-    pub far: bool,
-    pub left: usize,
+struct Judged {
+    owed: u8,
+    wrong: bool,
+    far: bool,
+    left: usize,
 }
 
 // Whether an address is outside its range.

@@ -1,7 +1,7 @@
 -- `show` writes two digits a byte, within a text that has room for 65,536 bytes.
 use lib.Seq.{length-take-le}
-use lib.ListN.{set, length, length-set}
-use Prim.Native.Nat.{_+_, _*_, _≤_, _-_}
+use lib.ListN.{set, length, length-set, length-replicate}
+use Prim.Native.Nat.{ℕ, _+_, _*_, _≤_, _-_}
 use mathlib.Core.Path.{sym, _≡_}
 use borrow.Author.Needs.{needs}
 use native.Mathlib.Omega.{arith}
@@ -13,6 +13,9 @@ Inv-loop bytes text₀ i₀ text i = (i ≤ length bytes) × (length text ≡ 13
 
 abbrev μ-loop : tie.MeasureT-loop
 μ-loop bytes text₀ i₀ text i = length bytes - i
+
+loop-holds : tie.Need-loop-holds Inv-loop μ-loop
+loop-holds c = (omega arith, length-replicate {A = ℕ} 131073 0)
 
 glyph-requires : tie.Need-glyph-requires Inv-loop μ-loop
 glyph-requires c κs = omega (arith, c .shared-slice-known2 .given (c .before .before .loop .i))
@@ -29,7 +32,7 @@ show-spec =
     (tie.spec
     Inv-loop
     μ-loop
-    (λ c. search needs)
+    loop-holds
     (λ c. search needs)
     glyph-requires
     (λ c. search needs)

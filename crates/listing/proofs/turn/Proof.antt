@@ -1,6 +1,5 @@
 -- `turn` is safe: an answer that is not negative is a number of bytes within the room (Given).
-use Rattle.listing.proofs.Given.{given}
-use Rattle.lists.specs.Answers.{answered}
+use Rattle.listing.proofs.Given.{given-in}
 use mir.Val.{Fits, toZ, ofZ}
 use lib.Dec.{T}
 use lib.Signed.{nonNeg}
@@ -8,7 +7,7 @@ use mir.Syntax.{w64}
 use native.Mathlib.Omega.{arith}
 use lib.Seq.{length-take-le}
 use lib.IntN.{natAbs}
-use lib.ListN.{length, take, length-replicate, replicate}
+use lib.ListN.{length, take, length-replicate}
 use Prim.Native.Nat.{ℕ, _≤_}
 use mathlib.Core.Path.{_≡_, sym, _∙_}
 use borrow.Author.Needs.{needs}
@@ -18,7 +17,7 @@ use Rattle.listing.proofs.turn.Tie as tie
 at-given : (c : tie.Else1) → T (nonNeg (toZ w64 (ofZ w64 (c .before .before .toralinge-list .result)))) × Fits w64 (natAbs (toZ w64 (ofZ w64 (c .before .before .toralinge-list .result)))) × (natAbs (toZ w64 (ofZ w64 (c .before .before .toralinge-list .result))) ≤ 65536)
 at-given c =
     let l = c .before .before .toralinge-list in
-    given 65536 (l .result) (omega arith) (answered _ (replicate 65536 0) (l .result) _ (l .ensures)) (c .if1 .left)
+    given-in 65536 (omega arith) (c .before .before .before .before .before .args .line .now) (l .last .1 .0) (l .result) (l .ensures) (c .if1 .left)
 
 cast-n : tie.Need-cast-n
 cast-n c = let g = at-given c in (g .0, g .1)
