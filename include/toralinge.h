@@ -1,7 +1,8 @@
 /*
  * toralinge.h - a software stand-in for the battery monitors MS9920T, MS9930T and MS9940T.
  *
- * Link with libstream.a (x86-64 Linux; `rt staticlib stream` writes target/staticlib/libstream.a).
+ * Link with libstream.a (x86-64 Linux; `rt staticlib stream` writes target/staticlib/libstream.a), and
+ * for toralinge_list with liblists.a (`rt staticlib lists`); a program may link with both.
  * "Document 01" is the paper that gives the rules. Every call here answers for every value of its
  * arguments, and is proved to answer exactly as that paper says.
  *
@@ -32,7 +33,9 @@ enum toralinge_number {
     TORALINGE_NO_CELL = 6,      /* no such cell; no call of this header answers it */
     TORALINGE_OPEN_SENSOR = 7,  /* thermistor count 9,323 or more */
     TORALINGE_NO_CODE = 8,      /* the wanted threshold lies outside its window */
-    TORALINGE_CUT = 9           /* a record is cut short, or there is none */
+    TORALINGE_CUT = 9,          /* a record is cut short, or there is none */
+    TORALINGE_NO_LIST = 20,     /* a line is no list of the grammar */
+    TORALINGE_BAD_ADDRESS = 21  /* a list has an address outside 0x08 to 0x77 */
 };
 
 /* An entry of toralinge_play: five bytes, in this order. */
@@ -135,6 +138,24 @@ int64_t toralinge_cc_hundredths(uint16_t reading);
  * from start: 0 to begin, or the CRC of what came before.
  */
 uint8_t toralinge_crc8(uint8_t start, const uint8_t *bytes, size_t length);
+
+/*
+ * Turns a command list of i2ctransfer into records that toralinge_play takes. (In liblists.a.)
+ *
+ * line, length    one list, without the end of its line: messages wN@ADDR followed by N bytes, and
+ *                 rN@ADDR; N from 1 to 64 in decimal without leading zeros, addresses and bytes as 0x
+ *                 and one or two hex digits of either case, one space between words and none elsewhere
+ * records, room   where the records go, and how many bytes may stand there
+ *
+ * Returns how many bytes the records are, from records[0] on; every later byte keeps its value. Each
+ * message is START, OUT of its address byte, and an OUT or IN for each of its bytes; in a read every
+ * byte is acknowledged but the last. STOP comes after the last message. No SETUP is written.
+ *
+ * Otherwise writes nothing and returns, looked at in this order: -20 (not a list of this grammar),
+ * -21 (an address outside 0x08 to 0x77), -5 (the records do not fit into room). A message takes 9 bytes
+ * and 5 for each of its bytes, so 329 at most, and STOP takes 4.
+ */
+int64_t toralinge_list(const uint8_t *line, size_t length, uint8_t *records, size_t room);
 
 #ifdef __cplusplus
 }

@@ -1,0 +1,11 @@
+pub mod Grammar
+pub mod Reader
+pub mod Records
+pub mod Judging
+pub mod Putting
+pub mod Cutting
+pub mod Exact
+pub mod Wording
+pub mod Numbering
+pub mod Answers
+pub mod Examples
