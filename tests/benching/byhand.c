@@ -143,10 +143,11 @@ static void sense(struct chip *c, int32_t value)
     unsigned range = c->reg[PROTECT1] >> 7;
     bool short_circuit = -value > (int32_t)scd_limit[range][c->reg[PROTECT1] & 7];
     bool overload = -value > (int32_t)ocd_limit[range][c->reg[PROTECT2] & 15];
+    bool hasty = c->reg[CTRL2] & DELAY_DIS;
     uint8_t faults = 0;
-    if (longer(&c->scd, short_circuit, scd_ticks[c->reg[PROTECT1] >> 3 & 3], 13))
+    if (longer(&c->scd, short_circuit, hasty ? 1 : scd_ticks[c->reg[PROTECT1] >> 3 & 3], 13))
         faults |= SCD;
-    if (longer(&c->ocd, overload, ocd_ticks[c->reg[PROTECT2] >> 4], 40960))
+    if (longer(&c->ocd, overload, hasty ? 1 : ocd_ticks[c->reg[PROTECT2] >> 4], 40960))
         faults |= OCD;
     if (faults)
         raise(c, faults);
