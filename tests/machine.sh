@@ -1,7 +1,7 @@
 # shellcheck shell=bash
-# Sourced by ./play and tests/run. What the proved crates are built into is for x86-64 Linux: elsewhere it is compiled for
+# Sourced by ./play, ./listing and the scripts of tests/. What the proved crates are built into is for x86-64 Linux: elsewhere it is compiled for
 # with Debian's cross compiler and run under qemu-user.
-# shellcheck disable=SC2034,SC2154  # me is set, runner and compiler are read by the script that sources this
+# shellcheck disable=SC2034,SC2154  # me, root and usage are set, runner, compiler and program read by the script that sources this
 
 # Says one line under the name `me` of the script that sources this, and ends with a status.
 give_up() {
@@ -56,5 +56,36 @@ want_compiler() {
     else
         want x86_64-linux-gnu-gcc gcc-x86-64-linux-gnu libc6-dev-amd64-cross
         compiler=(x86_64-linux-gnu-gcc)
+    fi
+}
+
+# want_program NAME: proves and builds the program NAME of the repository at `root` unless it is newer than every source, and sets
+# `program`.
+want_program() {
+    local built=$root/target/$1.built since
+    program=$root/target/bin/$1
+    for since in "$program" "$built"; do
+        if [[ -x $program && -e $since ]] &&
+            [[ -z $(find "$root/crates" "$root/crates.txt" -type f \( -name '*.rt' -o -name '*.antt' -o -name crates.txt \) -newer "$since" -print -quit) ]]; then
+            return
+        fi
+    done
+    command -v rt >/dev/null || give_up 1 "target/bin/$1 is to be built, and there is no rt to prove and build it"
+    (cd "$root" && rt check "$1") >&2 || give_up 1 "rt check $1 does not pass"
+    touch "$built"
+}
+
+# want_input WORD..: one file at most, which can be read, or standard input that is no terminal; `usage` says what is asked for.
+want_input() {
+    if [[ $# -gt 1 ]]; then
+        give_up 2 "one file at most: $usage"
+    elif [[ ${1-} = -h || ${1-} = --help ]]; then
+        echo "usage: $usage"
+        exit 0
+    elif [[ $# -eq 1 ]]; then
+        [[ -e $1 ]] || give_up 2 "no such file: $1"
+        [[ ! -d $1 && -r $1 ]] || give_up 2 "not a file that can be read: $1"
+    elif [[ -t 0 ]]; then
+        give_up 2 "nothing to read: $usage"
     fi
 }
