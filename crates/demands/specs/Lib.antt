@@ -17,5 +17,6 @@ pub mod Spoiled
 pub mod Opened
 pub mod NoTrace
 pub mod Streams
+pub mod Answered
 pub mod Latches
 pub mod Between

@@ -58,7 +58,7 @@ module _ (u : SetupValues) where
 
   -- ── one record ──
   module _ (p : u .part ≢ 0) where
-    next-is : (r : List ℕ) (past : List Event) (x : Read) → readOf (u .part) r ≡ x → turned (chip u past) r x .chip ≡ chip u (heardNext r x past)
+    pub next-is : (r : List ℕ) (past : List Event) (x : Read) → readOf (u .part) r ≡ x → turned (chip u past) r x .chip ≡ chip u (heardNext r x past)
     unfolding chip
     next-is r past (Record e next) q =
         let k : Counts = countsBeside r (Record e next) in
@@ -68,11 +68,11 @@ module _ (u : SetupValues) where
     next-is r past (Refused k next) q = refl
     next-is r past Cut q = refl
 
-    turn-is : (r : List ℕ) (past : List Event) → turnOf (chip u past) r ≡ turned (chip u past) r (readOf (u .part) r)
+    pub turn-is : (r : List ℕ) (past : List Event) → turnOf (chip u past) r ≡ turned (chip u past) r (readOf (u .part) r)
     unfolding turnOf
     turn-is r past = ap (λ (v : SetupValues). turned (chip u past) r (readOf (v .part) r)) (setup-is u past)
 
-    goes-on : (past : List Event) → eqb (chip u past .setup .part) 0 ≡ false
+    pub goes-on : (past : List Event) → eqb (chip u past .setup .part) 0 ≡ false
     goes-on past = ap (λ (v : SetupValues). eqb (v .part) 0) (setup-is u past) ∙ ne-eqb (u .part) 0 p
 
     none-heard : (f : ℕ) (past : List Event) → heardBy f [] past ≡ past
@@ -135,7 +135,7 @@ abbrev pub histories : SetupValues → ℕ → List ℕ → List (List Event)
 histories u next s = [] ∷ historiesBy u (length s - 1) (drop next s) []
 
 module _ (s : List ℕ) (u : SetupValues) (next : ℕ) (first : readOf 0 s ≡ Record (Setup u) next) where
-  a-part : u .part ≢ 0
+  pub a-part : u .part ≢ 0
   a-part z = omega (arith, good-part u (first-setup s (Setup u) next first) .0, z)
 
   -- THE CHIP at its end is the one that these events leave
