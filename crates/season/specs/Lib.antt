@@ -1,0 +1,4 @@
+pub mod Column
+pub mod Report
+pub mod Places
+pub mod Single
