@@ -1,3 +1,4 @@
 pub mod Stored
 pub mod Asked
 pub mod Heard
+pub mod Coded

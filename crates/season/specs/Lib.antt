@@ -6,3 +6,4 @@ pub mod Cases
 pub mod Ordered
 pub mod Joined
 pub mod Readings
+pub mod Worked

@@ -222,35 +222,36 @@ fn small() {
     show(b.report, 6);
 }
 
-// Two parts and their whole, with equal counts on both sides of the seam; parts without scans; another part, gain or offset.
+// The join of two reports: its number, and the report after.
+fn joined(name: &[u8], first: Season, second: Season, past: u8) {
+    show(numbered(name, first.join(second)), past);
+}
+
+fn none_of(part: u8, gain: u8, offset: u8) -> Season {
+    season::none(set_up(part, gain, offset))
+}
+
+// So many scans of a chip with ten inputs.
+fn ten(from: u16, to: u16) -> Season {
+    let b = rolled(plain(fresh(set_up(2, 31, 0x7F)), Event::Boot), 10, from, to);
+    b.report
+}
+
+// Two parts, with equal counts on both sides of the seam; parts without scans; another part, gain or offset.
 fn joins() {
-    let setup = set_up(2, 31, 0x7F);
-    let first = rolled(plain(fresh(setup), Event::Boot), 10, 1, 101);
-    let second = rolled(plain(fresh(setup), Event::Boot), 10, 51, 201);
-    let empty = season::none(setup);
-    show(first.report, 11);
-    show(second.report, 11);
-    let whole = numbered(b"join", first.report.join(second.report));
-    show(whole, 11);
-    show(numbered(b"join", second.report.join(first.report)), 11);
-    show(numbered(b"join", empty.join(first.report)), 11);
-    show(numbered(b"join", first.report.join(empty)), 11);
-    show(numbered(b"join", empty.join(empty)), 11);
-    show(
-        numbered(b"part", empty.join(season::none(set_up(3, 31, 0x7F)))),
-        11,
-    );
-    show(
-        numbered(
-            b"gain",
-            first.report.join(season::none(set_up(2, 30, 0x7F))),
-        ),
-        11,
-    );
-    show(
-        numbered(b"offset", whole.join(season::none(set_up(2, 31, 0x80)))),
-        11,
-    );
+    let first = ten(1, 101);
+    let second = ten(51, 201);
+    let empty = none_of(2, 31, 0x7F);
+    show(first, 11);
+    show(second, 11);
+    joined(b"join", first, second, 11);
+    joined(b"join", second, first, 11);
+    joined(b"join", empty, first, 11);
+    joined(b"join", first, empty, 11);
+    joined(b"join", empty, empty, 11);
+    joined(b"part", empty, none_of(3, 31, 0x7F), 11);
+    joined(b"gain", first, none_of(2, 30, 0x7F), 11);
+    joined(b"offset", second, none_of(2, 31, 0x80), 11);
 }
 
 // A report joined with itself, so many times.
@@ -281,30 +282,28 @@ fn full(setup: Setup) -> Season {
 }
 
 // So many scans of the greatest count, doubled and doubled again: 1 to 16,384 of them make 32,767, and 32,768 more are the most that there can be.
-fn most(one: Season) -> Season {
+fn most(one: Season, half: Season) -> Season {
     let mut report = one;
     for i in 1..15u8 {
         let reported = report.join(doubled(one, i));
         report = reported.season;
     }
-    numbered(b"join", report.join(doubled(one, 15)))
+    numbered(b"join", report.join(half))
 }
 
 fn lines_of(setup: Setup) {
     let full = full(setup);
     let none = season::none(setup);
     let one = season::single(setup, [16383; 15]);
+    let half = doubled(one, 15);
     show(one, 16);
-    show(numbered(b"join", full.join(one)), 16);
-    numbered(b"join", one.join(full));
-    show(numbered(b"join", full.join(none)), 16);
-    show(numbered(b"join", none.join(full)), 16);
-    numbered(
-        b"other",
-        full.join(season::single(set_up(1, 0, 0xFF), [0; 15])),
-    );
-    show(most(one), 16);
-    numbered(b"join", doubled(one, 15).join(doubled(one, 15)));
+    joined(b"join", full, one, 16);
+    joined(b"join", one, full, 16);
+    joined(b"join", full, none, 16);
+    joined(b"join", none, full, 16);
+    joined(b"other", full, none_of(1, 0, 0xFF), 16);
+    show(most(one, half), 16);
+    joined(b"join", half, half, 16);
 }
 
 fn main() {

@@ -5,10 +5,10 @@ use Rattle.seasons.proofs.most.Statement.{statement}
 use Rattle.seasons.proofs.most.Tie as tie
 
 abbrev Inv-loop : tie.InvT-loop
-Inv-loop one report₀ i₀ t5 report i = i ≤ 15
+Inv-loop one half report₀ i₀ t6 report i = i ≤ 15
 
 abbrev μ-loop : tie.MeasureT-loop
-μ-loop one report₀ i₀ t5 report i = 15 - i
+μ-loop one half report₀ i₀ t6 report i = 15 - i
 
 pub most-spec : {M : Type 1} → statement M
 most-spec =
@@ -23,7 +23,6 @@ most-spec =
     (λ c. search needs)
     (λ c. search needs)
     (λ c. search needs)
-    (λ c κs. search needs)
     (λ c κs. search needs)
     (λ c κs. search needs)
     (λ c. search needs))
