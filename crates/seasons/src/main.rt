@@ -199,27 +199,31 @@ fn rolled(b: Bench, inputs: u8, from: u16, to: u16) -> Bench {
     b
 }
 
-// No scans; what is not stored; one scan; equal counts; SHIP between two scans.
+// What is not stored: a SCAN in SHIP, one count too few, a count out of range, ADC_EN 0.
+fn unstored(b: Bench) -> Bench {
+    let b = plain(five(b, 5, 1, 2, 3), Event::Boot);
+    let b = five(five(b, 4, 1, 2, 0), 5, 1, 16384, 3);
+    let b = five(measuring(b, 0x00), 5, 1, 2, 3);
+    measuring(b, 0x10)
+}
+
+// Equal counts, and SHIP between two scans.
+fn stored(b: Bench) -> Bench {
+    let b = plain(five(b, 5, 6144, 7, 8999), Event::Por);
+    let b = plain(five(b, 5, 0, 0, 0), Event::Boot);
+    five(five(b, 5, 6143, 7, 9000), 5, 6145, 3, 8999)
+}
+
+// No scans, one scan, a few.
 fn small() {
-    let b = fresh(set_up(1, 10, 0x80));
-    show(b.report, 6);
-    let b = five(b, 5, 1, 2, 3);
-    let b = plain(b, Event::Boot);
-    let b = five(b, 4, 1, 2, 0);
-    let b = five(b, 5, 1, 16384, 3);
-    let b = measuring(b, 0x00);
-    let b = five(b, 5, 1, 2, 3);
-    show(b.report, 6);
-    let b = measuring(b, 0x10);
-    let b = five(b, 5, 6144, 0, 9000);
-    show(b.report, 6);
-    let b = five(b, 5, 6144, 7, 8999);
-    let b = plain(b, Event::Por);
-    let b = five(b, 5, 0, 0, 0);
-    let b = plain(b, Event::Boot);
-    let b = five(b, 5, 6143, 7, 9000);
-    let b = five(b, 5, 6145, 3, 8999);
-    show(b.report, 6);
+    let none = fresh(set_up(1, 10, 0x80));
+    show(none.report, 6);
+    let still = unstored(none);
+    show(still.report, 6);
+    let one = five(still, 5, 6144, 0, 9000);
+    show(one.report, 6);
+    let few = stored(one);
+    show(few.report, 6);
 }
 
 // The join of two reports: its number, and the report after.
