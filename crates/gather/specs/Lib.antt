@@ -1,0 +1,4 @@
+pub mod Stored
+pub mod Asked
+pub mod Heard
+pub mod Coded
