@@ -83,8 +83,16 @@ fn value_refusal(setup: Setup, event: Event, of: [u16; 15]) -> u8
         Event::Setup(_) => 2,
         Event::Por => 0,
         Event::Boot => 0,
-        Event::Scan => if counts_in_range(of, setup.inputs()) { 0 } else { 3 },
-        Event::Temp => if counts_in_range(of, setup.groups()) { 0 } else { 3 },
+        Event::Scan => if counts_in_range(of, setup.inputs()) {
+            0
+        } else {
+            3
+        },
+        Event::Temp => if counts_in_range(of, setup.groups()) {
+            0
+        } else {
+            3
+        },
         Event::Count(_) => 0,
         Event::Sense(v) => if sense_fits(v) { 0 } else { 3 },
         Event::Pin => 0,

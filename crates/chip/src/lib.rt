@@ -76,7 +76,7 @@ fn answered(byte: u8, chip: Chip) -> Stepped
     }
 }
 
-// The chip in SHIP, as it is after setup, POR and the shipping sequence.
+// The chip in SHIP, as it is after setup, POR and the shipping sequence. A setup is judged where it is made: `events::setup_of`.
 pub fn in_ship(setup: Setup) -> Chip
     ensures { λ r. ⌜ r ≡ inShipSpec setup ⌝ }
 {
