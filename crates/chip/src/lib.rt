@@ -227,14 +227,14 @@ impl Chip {
     }
 
     // In NORMAL: the counts of TEMP kept.
-    pub fn warmed(mut self, counts: [u16; 15]) -> Self
+    pub fn warmed(self, counts: [u16; 15]) -> Self
         ensures { λ r. ⌜ r ≡ normally (Temp (take (groups (self .setup)) counts)) self .chip ⌝ }
     {
         let setup = self.setup;
         let ts = scan::three(counts, setup.groups());
         let registers = self.registers;
-        self.registers = registers.warmed(ts);
-        self
+        let registers = registers.warmed(ts);
+        Chip { registers, ..self }
     }
 
     pub fn temp(self, counts: [u16; 15]) -> Stepped
