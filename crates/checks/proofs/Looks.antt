@@ -9,18 +9,17 @@ use native.Mathlib.Numerals.{add-one}
 use lib.Dec.{leb, ltb}
 use lib.IntN.{ℤ, pos, negsuc}
 use lib.Signed.{leZ}
-use lib.ListN.{length, getD, take, drop}
-use lib.Seq.{drop-cons}
+use lib.ListN.{length, getD, take, drop, length-take, drop-of-length-le}
+use lib.Seq.{drop-cons, getD-take}
 use mir.Syntax.{w32}
 use mir.Val.{toZ, ofZ, SFits}
 use mir.Facts.{toZ-ofZ}
 use borrow.Author.Tests.{le-leb, lt-leb, le-ltb, lt-ltb, leb-true, leb-false}
-use Rattle.events.specs.Event.{within, countMost, senseFits, countsWanted, countsFit, unfit, eventOf, meantOf}
+use Rattle.events.specs.Event.{within, senseFits, countsWanted, countsFit, unfit, eventOf, meantOf}
 use Rattle.events.specs.declared.Setup.{Setup}
 use Rattle.events.specs.declared.Counts.{Counts}
 use Rattle.events.specs.declared.Event.{Event}
 use Rattle.checks.specs.Refusal.{refusalOf}
-use Rattle.checks.specs.Counted.{fit-is, within-take}
 
 -- a test of order and the other's denial
 not-above : (a n : ℕ) (t : Bool) → leb n a ≡ t → t ≡ not (ltb a n)
@@ -50,13 +49,25 @@ fit-not most cs i h g = rw (drop-cons cs i 0 h) (simp (lt-leb (getD cs i 0) most
 pub fit-next : (most : ℕ) (cs : List ℕ) (i : ℕ) → i < length cs → getD cs i 0 ≤ most → within most (drop (i + 1) cs) ≡ within most (drop i cs)
 fit-next most cs i h g = rw (add-one i, drop-cons cs i 0 h) (simp (le-leb (getD cs i 0) most g))
 
+-- and among the first n
+first-there : (n : ℕ) (cs : List ℕ) (i : ℕ) → i < n → i < length cs → i < length (take n cs)
+first-there n cs i k h = omega (arith, length-take n cs)
+
+pub first-not : (most n : ℕ) (cs : List ℕ) (i : ℕ) → i < n → i < length cs → most < getD cs i 0 → within most (drop i (take n cs)) ≡ false
+first-not most n cs i k h g = fit-not most (take n cs) i (first-there n cs i k h) (subst (λ (x : ℕ). most < x) (sym (getD-take n cs i 0 k)) g)
+
+pub first-next : (most n : ℕ) (cs : List ℕ) (i : ℕ) → i < n → i < length cs → getD cs i 0 ≤ most → within most (drop (i + 1) (take n cs)) ≡ within most (drop i (take n cs))
+first-next most n cs i k h g = fit-next most (take n cs) i (first-there n cs i k h) (subst (λ (x : ℕ). x ≤ most) (sym (getD-take n cs i 0 k)) g)
+
+pub first-all : (most n : ℕ) (cs : List ℕ) (i : ℕ) → n ≤ i → within most (drop i (take n cs)) ≡ true
+first-all most n cs i h = ap (within most) (drop-of-length-le (take n cs) {i = i} (omega (arith, length-take n cs)))
+
+pub first-end : (most n : ℕ) (cs : List ℕ) (i : ℕ) → length cs ≤ i → within most (drop i (take n cs)) ≡ true
+first-end most n cs i h = ap (within most) (drop-of-length-le (take n cs) {i = i} (omega (arith, length-take n cs)))
+
 -- what follows for an event from what follows for the one it was found to be
 pub at-event : (u : Setup) (xs : List ℕ) {r : ℕ} {e e′ : Event} → e ≡ e′ → r ≡ refusalOf (eventOf u e′ xs) → r ≡ refusalOf (eventOf u e xs)
 at-event u xs q p = p ∙ ap (λ (e : Event). refusalOf (eventOf u e xs)) (sym q)
-
--- with counts that fit, all places are within a count's range just where the counts are
-pub all-within : (k : Counts) (m n : ℕ) → m ≡ n → countsFit m k ≡ true → within countMost (k .of) ≡ within countMost (take n (k .of))
-all-within k m n w f = within-take countMost n (k .of) (fit-is n k (subst (λ (n : ℕ). countsFit n k ≡ true) w f) .1)
 
 -- a test that is known, as the definition picks by it
 pub pick-true : {t u : Bool} → t ≡ u → t ≡ true → _≡_ {A = ℕ} 0 (cond u 0 3)

@@ -1,8 +1,7 @@
 // The checks of an event made by hand, for the writer and the chip: counts that fit the part, and values in range.
 ghost use mathlib.Core.Path.{_≡_};
-ghost use mathlib.Core.Bool.{true};
-ghost use lib.ListN.{drop};
-ghost use Rattle.events.specs.Event.{within, senseFits, countsWanted, countsFit, eventOf, meantOf};
+ghost use lib.ListN.{take, drop};
+ghost use Rattle.events.specs.Event.{within, countMost, senseFits, countsWanted, countsFit, eventOf, meantOf};
 ghost use Rattle.checks.specs.Refusal.{refusalOf};
 use events::Counts;
 use events::Event;
@@ -22,6 +21,23 @@ pub fn within_from(of: [u16; 15], from: usize, most: u16) -> bool
     let mut i = from;
     while i < 15 {
         if most < of[i] {
+            return false;
+        }
+        i += 1;
+    }
+    true
+}
+
+// Whether each of the first `many` counts is in range.
+pub fn counts_in_range(of: [u16; 15], many: u8) -> bool
+    ensures { λ r. ⌜ r ≡ within countMost (take many of) ⌝ }
+{
+    let mut i = 0;
+    while i < 15 {
+        if many as usize <= i {
+            return true;
+        }
+        if 16383 < of[i] {
             return false;
         }
         i += 1;
@@ -60,17 +76,23 @@ pub fn counts_fit(wanted: u8, counts: Counts) -> bool
 }
 
 // The number of an event whose counts fit: 2 for SETUP, 3 for a value out of range, or 0.
-fn value_refusal(setup: Setup, event: Event, counts: Counts) -> u8
-    requires { ⌜ countsFit (countsWanted setup event) counts ≡ true ⌝ }
-    ensures { λ r. ⌜ r ≡ refusalOf (eventOf setup event (counts .of)) ⌝ }
+fn value_refusal(setup: Setup, event: Event, of: [u16; 15]) -> u8
+    ensures { λ r. ⌜ r ≡ refusalOf (eventOf setup event of) ⌝ }
 {
-    let of = counts.of;
     match event {
         Event::Setup(_) => 2,
         Event::Por => 0,
         Event::Boot => 0,
-        Event::Scan => if within_from(of, 0, 16383) { 0 } else { 3 },
-        Event::Temp => if within_from(of, 0, 16383) { 0 } else { 3 },
+        Event::Scan => if counts_in_range(of, setup.inputs()) {
+            0
+        } else {
+            3
+        },
+        Event::Temp => if counts_in_range(of, setup.groups()) {
+            0
+        } else {
+            3
+        },
         Event::Count(_) => 0,
         Event::Sense(v) => if sense_fits(v) { 0 } else { 3 },
         Event::Pin => 0,
@@ -86,7 +108,8 @@ pub fn refusal(setup: Setup, event: Event, counts: Counts) -> u8
 {
     let wanted = counts_wanted(setup, event);
     if counts_fit(wanted, counts) {
-        return value_refusal(setup, event, counts);
+        let of = counts.of;
+        return value_refusal(setup, event, of);
     }
     2
 }

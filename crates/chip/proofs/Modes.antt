@@ -1,14 +1,16 @@
--- An event by the mode that the chip is in: what a method shows of its answer in NORMAL, or in SHIP, is what the event does. Assumes nothing.
+-- An event by its values and the mode that the chip is in: what a method shows of its answer out of range, in NORMAL, or in SHIP, is what the event
+-- does. Assumes nothing.
 use mathlib.Core.Path.{_≡_, refl, sym, ap, _∙_}
 use mathlib.Core.Bool.{Bool, true, false, cond}
 use mathlib.Core.List.{List}
 use Prim.Native.Nat.{ℕ}
+use lib.ListN.{take}
 use Rattle.events.specs.declared.BusEvent.{BusEvent}
 use Rattle.events.specs.declared.Event.{Event as Coded}
-use Rattle.events.specs.Event.{Event, Por, OnBus}
+use Rattle.events.specs.Event.{Event, Por, Scan, Temp, OnBus, within, countMost, fits, eventOf}
 use Rattle.chip.specs.declared.Chip.{Chip}
 use Rattle.chip.specs.declared.Stepped.{Stepped}
-use Rattle.chip.specs.Chip.{quiet, inShip, normally, asleep, happened, happenedBy}
+use Rattle.chip.specs.Chip.{quiet, inShip, normally, asleep, happened, stepped, steppedAs}
 
 pub in-normal : {s : Stepped} (e : Event) (c : Chip) → c .awake ≡ true → s ≡ normally e c → s ≡ happened e c
 unfolding happened
@@ -35,9 +37,27 @@ in-either c h = h ∙ sym (by (c .awake))
     by true = refl
     by false = refl
 
+-- ── 3 before 4 ──
+pub in-range : {s : Stepped} (e : Event) (c : Chip) → fits e ≡ true → s ≡ happened e c → s ≡ stepped e c
+unfolding stepped
+in-range e c f h = h ∙ ap (λ (t : Bool). cond t (happened e c) (quiet 3 c)) (sym f)
+
+pub out-of-range : {s : Stepped} (e : Event) (c : Chip) → fits e ≡ false → s ≡ quiet 3 c → s ≡ stepped e c
+unfolding stepped
+out-of-range e c f h = h ∙ ap (λ (t : Bool). cond t (happened e c) (quiet 3 c)) (sym f)
+
+-- a look at as many counts as the event has
+pub scan-fits : {r b : Bool} (xs : List ℕ) {n m : ℕ} → r ≡ within countMost (take n xs) → n ≡ m → r ≡ b → fits (Scan (take m xs)) ≡ b
+unfolding fits
+scan-fits xs h q k = ap (λ (n : ℕ). within countMost (take n xs)) (sym q) ∙ sym h ∙ k
+
+pub temp-fits : {r b : Bool} (xs : List ℕ) {n m : ℕ} → r ≡ within countMost (take n xs) → n ≡ m → r ≡ b → fits (Temp (take m xs)) ≡ b
+unfolding fits
+temp-fits xs h q k = ap (λ (n : ℕ). within countMost (take n xs)) (sym q) ∙ sym h ∙ k
+
 -- what follows for an event from what follows for the one it was found to be
 pub as-bus : {s : Stepped} {b b′ : BusEvent} (c : Chip) → b ≡ b′ → s ≡ happened (OnBus b′) c → s ≡ happened (OnBus b) c
 as-bus c q h = h ∙ ap (λ (b : BusEvent). happened (OnBus b) c) (sym q)
 
-pub as-event : {s : Stepped} {e e′ : Coded} (xs : List ℕ) (c : Chip) → e ≡ e′ → s ≡ happenedBy e′ xs c → s ≡ happenedBy e xs c
-as-event xs c q h = h ∙ ap (λ (e : Coded). happenedBy e xs c) (sym q)
+pub as-event : {s : Stepped} {e e′ : Coded} (xs : List ℕ) (c : Chip) → e ≡ e′ → s ≡ steppedAs (eventOf (c .setup) e′ xs) c → s ≡ steppedAs (eventOf (c .setup) e xs) c
+as-event xs c q h = h ∙ ap (λ (e : Coded). steppedAs (eventOf (c .setup) e xs) c) (sym q)

@@ -2,9 +2,9 @@
 ghost use mathlib.Core.Path.{_≡_};
 ghost use lib.ListN.{take};
 ghost use Rattle.events.specs.Setup.{groups, inputs};
-ghost use Rattle.events.specs.Event.{Por, Boot, Pin, Xready, Scan, Temp, Count, Sense, Load, OnBus};
+ghost use Rattle.events.specs.Event.{eventOf, Por, Boot, Pin, Xready, Scan, Temp, Count, Sense, Load, OnBus};
 ghost use Rattle.events.specs.declared.BusEvent.the-variants.{Start, Out, In, Stop};
-ghost use Rattle.chip.specs.Chip.{quiet as quietSpec, answered as answeredSpec, inShip as inShipSpec, given as fetchedSpec, normally, busAsleep, happened, happenedBy, steppedBy};
+ghost use Rattle.chip.specs.Chip.{quiet as quietSpec, answered as answeredSpec, inShip as inShipSpec, given as fetchedSpec, normally, busAsleep, happened, stepped, steppedAs, steppedBy};
 ghost use Rattle.chip.specs.Parts.{unheard as unheardSpec, sentOn as sentSpec, handedOver as handedSpec, heardOf, wrote as wroteSpec, landed as landedSpec, raisedBy};
 ghost use Rattle.protection.specs.Judged.{tickJudged};
 ghost use Rattle.bus.specs.Bus.{wanted};
@@ -76,7 +76,7 @@ fn answered(byte: u8, chip: Chip) -> Stepped
     }
 }
 
-// The chip in SHIP, as it is after setup, POR and the shipping sequence.
+// The chip in SHIP, as it is after setup, POR and the shipping sequence. A setup is judged where it is made: `events::setup_of`.
 pub fn in_ship(setup: Setup) -> Chip
     ensures { λ r. ⌜ r ≡ inShipSpec setup ⌝ }
 {
@@ -179,8 +179,12 @@ impl Chip {
     }
 
     pub fn scan(self, counts: [u16; 15]) -> Stepped
-        ensures { λ r. ⌜ r ≡ happened (Scan (take (inputs (self .setup)) counts)) self ⌝ }
+        ensures { λ r. ⌜ r ≡ stepped (Scan (take (inputs (self .setup)) counts)) self ⌝ }
     {
+        let setup = self.setup;
+        if !checks::counts_in_range(counts, setup.inputs()) {
+            return quiet(3, self);
+        }
         if !self.awake {
             return quiet(4, self);
         }
@@ -207,8 +211,11 @@ impl Chip {
 
     // One tick.
     pub fn sense(mut self, value: i32) -> Stepped
-        ensures { λ r. ⌜ r ≡ happened (Sense value) self ⌝ }
+        ensures { λ r. ⌜ r ≡ stepped (Sense value) self ⌝ }
     {
+        if !checks::sense_fits(value) {
+            return quiet(3, self);
+        }
         if !self.awake {
             return quiet(4, self);
         }
@@ -219,17 +226,28 @@ impl Chip {
         quiet(0, self.raised(risen))
     }
 
-    pub fn temp(self, counts: [u16; 15]) -> Stepped
-        ensures { λ r. ⌜ r ≡ happened (Temp (take (groups (self .setup)) counts)) self ⌝ }
+    // In NORMAL: the counts of TEMP kept.
+    pub fn warmed(self, counts: [u16; 15]) -> Self
+        ensures { λ r. ⌜ r ≡ normally (Temp (take (groups (self .setup)) counts)) self .chip ⌝ }
     {
-        if !self.awake {
-            return quiet(4, self);
-        }
         let setup = self.setup;
         let ts = scan::three(counts, setup.groups());
         let registers = self.registers;
         let registers = registers.warmed(ts);
-        quiet(0, Chip { registers, ..self })
+        Chip { registers, ..self }
+    }
+
+    pub fn temp(self, counts: [u16; 15]) -> Stepped
+        ensures { λ r. ⌜ r ≡ stepped (Temp (take (groups (self .setup)) counts)) self ⌝ }
+    {
+        let setup = self.setup;
+        if !checks::counts_in_range(counts, setup.groups()) {
+            return quiet(3, self);
+        }
+        if !self.awake {
+            return quiet(4, self);
+        }
+        quiet(0, self.warmed(counts))
     }
 
     pub fn count(self, cc: u16) -> Stepped
@@ -390,10 +408,11 @@ impl Chip {
     }
 }
 
-// An event of any kind whose values are in range, with the counts beside it. SETUP is none for a chip that stands.
+// An event of any kind, made by hand.
 impl Chip {
-    pub fn happen(self, event: Event, counts: [u16; 15]) -> Stepped
-        ensures { λ r. ⌜ r ≡ happenedBy event counts self ⌝ }
+    // With counts that fit. SETUP is none for a chip that stands.
+    fn happen(self, event: Event, counts: [u16; 15]) -> Stepped
+        ensures { λ r. ⌜ r ≡ steppedAs (eventOf (self .setup) event counts) self ⌝ }
     {
         match event {
             Event::Setup(_) => quiet(2, self),
@@ -410,13 +429,13 @@ impl Chip {
         }
     }
 
-    // An event made by hand, with its counts: 2, then 3, then 4 (asleep), and a refused chip stays as it was.
+    // With any counts: 2, then 3, then 4 (asleep), and a refused chip stays as it was.
     pub fn step(self, event: Event, counts: Counts) -> Stepped
         ensures { λ r. ⌜ r ≡ steppedBy event counts self ⌝ }
     {
-        let number = checks::refusal(self.setup, event, counts);
-        if number != 0 {
-            return quiet(number, self);
+        let wanted = checks::counts_wanted(self.setup, event);
+        if !checks::counts_fit(wanted, counts) {
+            return quiet(2, self);
         }
         let of = counts.of;
         self.happen(event, of)

@@ -1,12 +1,14 @@
 // A whole stream played on a chip: five bytes for each record.
 ghost use mathlib.Core.Path.{_≡_};
 ghost use Prim.Native.Nat.{_+_, _*_, _<_, _^_};
-ghost use lib.ListN.{length};
+ghost use lib.ListN.{length, take};
 ghost use Rattle.records.specs.Record.{readOf, countsBeside};
 ghost use Rattle.records.specs.declared.Read.the-variants.{Record};
 ghost use Rattle.stream.specs.Stream.{none, faceOf, answerOf, unanswered as unansweredSpec, answerHeard, entryWith, bornOf, acted, noted, Ran, Played};
 ghost use mathlib.Core.Bool.{false, _&&_};
-ghost use Rattle.chip.specs.Chip.{quiet, happenedBy};
+ghost use Rattle.chip.specs.Chip.{quiet as quietSpec, happened, happenedBy};
+ghost use Rattle.events.specs.Event.{Temp};
+ghost use Rattle.events.specs.Setup.{groups};
 ghost use Rattle.stream.specs.Frames.{framesOf};
 ghost use Rattle.stream.specs.Often.{often, workOf};
 use bus::Store;
@@ -157,18 +159,28 @@ fn seldom(chip: Chip, event: Event, counts: [u16; 15]) -> Stepped
     ensures { λ r. ⌜ r ≡ happenedBy event counts chip ⌝ }
 {
     match event {
-        Event::Setup(_) => refused(2, chip),
+        Event::Setup(_) => quiet(2, chip),
         Event::Por => chip.por(),
         Event::Boot => chip.boot(),
-        Event::Scan => refused(4, chip),
-        Event::Temp => chip.temp(counts),
+        Event::Scan => quiet(4, chip),
+        Event::Temp => heated(chip, counts),
         Event::Count(cc) => chip.count(cc),
-        Event::Sense(_) => refused(4, chip),
+        Event::Sense(_) => quiet(4, chip),
         Event::Pin => chip.pin(),
         Event::Load(level) => chip.load(level),
         Event::Xready => chip.xready(),
         Event::OnBus(bus) => chip.doze(bus),
     }
+}
+
+// TEMP, whose counts the reader has judged.
+fn heated(chip: Chip, counts: [u16; 15]) -> Stepped
+    ensures { λ r. ⌜ r ≡ happened (Temp (take (groups (chip .setup)) counts)) chip ⌝ }
+{
+    if !chip.awake {
+        return quiet(4, chip);
+    }
+    quiet(0, chip.warmed(counts))
 }
 
 // The counts beside an event that was read.
@@ -207,8 +219,9 @@ fn born(setup: Setup) -> Stepped
     }
 }
 
-fn refused(number: u8, chip: Chip) -> Stepped
-    ensures { λ r. ⌜ r ≡ quiet number chip ⌝ }
+// An answer with no bus byte.
+fn quiet(number: u8, chip: Chip) -> Stepped
+    ensures { λ r. ⌜ r ≡ quietSpec number chip ⌝ }
 {
     Stepped {
         chip,

@@ -7,11 +7,8 @@ use borrow.Author.Needs.{needs}
 use Rattle.checks.proofs.refusal.Statement.{statement}
 use Rattle.checks.proofs.refusal.Tie as tie
 
-value-refusal-requires : tie.Need-value-refusal-requires
-value-refusal-requires c κs = let a = c .before .before .before .args in ap (λ (n : ℕ). countsFit n (a .counts)) (sym (c .before .before .counts-wanted .ensures)) ∙ sym (c .before .counts-fit .ensures) ∙ c .if1 .taken
-
 returns : tie.Need-returns
-returns c = let f = c .before .before in let w = f .before in let a = w .before .args in counts-good (a .setup) (a .event) (a .counts) (ap (λ (n : ℕ). countsFit n (a .counts)) (sym (w .counts-wanted .ensures)) ∙ sym (f .counts-fit .ensures) ∙ c .before .if1 .taken) (c .value-refusal .ensures)
+returns c = let f = c .before .before .before in let w = f .before in let a = w .before .args in counts-good (a .setup) (a .event) (a .counts) (ap (λ (n : ℕ). countsFit n (a .counts)) (sym (w .counts-wanted .ensures)) ∙ sym (f .counts-fit .ensures) ∙ c .before .before .if1 .taken) (c .value-refusal .ensures)
 
 returns-2 : tie.Need-returns-2
 returns-2 c = let f = c .before in let w = f .before in let a = w .before .args in counts-bad (a .setup) (a .event) (a .counts) (ap (λ (n : ℕ). countsFit n (a .counts)) (sym (w .counts-wanted .ensures)) ∙ sym (f .counts-fit .ensures) ∙ c .if1 .left)
@@ -22,6 +19,6 @@ refusal-spec =
     (tie.spec
     (λ c κs. search needs)
     (λ c κs. search needs)
-    value-refusal-requires
+    (λ c κs. search needs)
     returns
     returns-2)

@@ -1,65 +1,66 @@
--- `value_refusal` judges each event's values, case by case; with counts that fit, all places are within a bound just where the counts are.
+-- `value_refusal` judges each event's values, case by case.
 use mathlib.Core.Path.{_≡_, refl, ap, _∙_}
 use mir.Syntax.{w32}
 use mir.Val.{toZ, ofZ}
-use Rattle.events.specs.Setup.{groups, inputs}
-use Rattle.events.specs.Event.{senseFits, countsWanted, fits}
-use Rattle.checks.proofs.Looks.{at-event, all-within, pick-true, pick-false}
+use Prim.Native.Nat.{ℕ}
+use lib.ListN.{take}
+use Rattle.events.specs.Event.{within, countMost, senseFits, fits}
+use Rattle.checks.proofs.Looks.{at-event, pick-true, pick-false}
 use borrow.Author.Needs.{needs}
 use Rattle.checks.proofs.value_refusal.Statement.{statement}
 use Rattle.checks.proofs.value_refusal.Tie as tie
 
 returns-2 : tie.Need-returns-2
 unfolding fits
-returns-2 c = let a = c .before .before .before in at-event (a .args .setup) (a .args .counts .of) (c .enum-told2 .given .1) refl
+returns-2 c = let a = c .before .before in at-event (a .args .setup) (a .args .of) (c .enum-told2 .given .1) refl
 
 returns-3 : tie.Need-returns-3
 unfolding fits
-returns-3 c = let a = c .before .before .before in at-event (a .args .setup) (a .args .counts .of) (c .enum-told3 .given .1) refl
+returns-3 c = let a = c .before .before in at-event (a .args .setup) (a .args .of) (c .enum-told3 .given .1) refl
 
 returns-4 : tie.Need-returns-4
 unfolding fits
-returns-4 c = let a = c .before .before .before .before .before in at-event (a .args .setup) (a .args .counts .of) (c .before .before .enum-told4 .given .1) (pick-true (c .before .within-from .ensures ∙ all-within (a .args .counts) _ (inputs (a .args .setup)) (ap (countsWanted (a .args .setup)) (c .before .before .enum-told4 .given .1)) (a .pre)) (c .if1 .taken))
+returns-4 c = let a = c .before .before .before .before .before in at-event (a .args .setup) (a .args .of) (c .before .before .before .enum-told4 .given .1) (pick-true (c .before .counts-in-range .ensures ∙ ap (λ (n : ℕ). within countMost (take n (a .args .of))) (c .before .before .inputs .ensures)) (c .if1 .taken))
 
 returns-5 : tie.Need-returns-5
 unfolding fits
-returns-5 c = let a = c .before .before .before .before .before in at-event (a .args .setup) (a .args .counts .of) (c .before .before .enum-told4 .given .1) (pick-false (c .before .within-from .ensures ∙ all-within (a .args .counts) _ (inputs (a .args .setup)) (ap (countsWanted (a .args .setup)) (c .before .before .enum-told4 .given .1)) (a .pre)) (c .if1 .left))
+returns-5 c = let a = c .before .before .before .before .before in at-event (a .args .setup) (a .args .of) (c .before .before .before .enum-told4 .given .1) (pick-false (c .before .counts-in-range .ensures ∙ ap (λ (n : ℕ). within countMost (take n (a .args .of))) (c .before .before .inputs .ensures)) (c .if1 .left))
 
 returns-6 : tie.Need-returns-6
 unfolding fits
-returns-6 c = let a = c .before .before .before .before .before in at-event (a .args .setup) (a .args .counts .of) (c .before .before .enum-told5 .given .1) (pick-true (c .before .within-from2 .ensures ∙ all-within (a .args .counts) _ (groups (a .args .setup)) (ap (countsWanted (a .args .setup)) (c .before .before .enum-told5 .given .1)) (a .pre)) (c .if2 .taken))
+returns-6 c = let a = c .before .before .before .before .before in at-event (a .args .setup) (a .args .of) (c .before .before .before .enum-told5 .given .1) (pick-true (c .before .counts-in-range2 .ensures ∙ ap (λ (n : ℕ). within countMost (take n (a .args .of))) (c .before .before .groups .ensures)) (c .if2 .taken))
 
 returns-7 : tie.Need-returns-7
 unfolding fits
-returns-7 c = let a = c .before .before .before .before .before in at-event (a .args .setup) (a .args .counts .of) (c .before .before .enum-told5 .given .1) (pick-false (c .before .within-from2 .ensures ∙ all-within (a .args .counts) _ (groups (a .args .setup)) (ap (countsWanted (a .args .setup)) (c .before .before .enum-told5 .given .1)) (a .pre)) (c .if2 .left))
+returns-7 c = let a = c .before .before .before .before .before in at-event (a .args .setup) (a .args .of) (c .before .before .before .enum-told5 .given .1) (pick-false (c .before .counts-in-range2 .ensures ∙ ap (λ (n : ℕ). within countMost (take n (a .args .of))) (c .before .before .groups .ensures)) (c .if2 .left))
 
 returns-8 : tie.Need-returns-8
 unfolding fits
-returns-8 c = let a = c .before .before .before in at-event (a .args .setup) (a .args .counts .of) (c .enum-told6 .given .1) refl
+returns-8 c = let a = c .before .before in at-event (a .args .setup) (a .args .of) (c .enum-told6 .given .1) refl
 
 returns-9 : tie.Need-returns-9
 unfolding fits
-returns-9 c = let g = c .before .before .before in let a = g .before .before .before in let z = g .event .given .0 .0 in let e : toZ w32 (ofZ w32 z) ≡ z = search needs in at-event (a .args .setup) (a .args .counts .of) (g .event .given .1) (pick-true (c .before .sense-fits .ensures ∙ ap senseFits e) (c .if3 .taken))
+returns-9 c = let g = c .before .before .before in let a = g .before .before in let z = g .event .given .0 .0 in let e : toZ w32 (ofZ w32 z) ≡ z = search needs in at-event (a .args .setup) (a .args .of) (g .event .given .1) (pick-true (c .before .sense-fits .ensures ∙ ap senseFits e) (c .if3 .taken))
 
 returns-10 : tie.Need-returns-10
 unfolding fits
-returns-10 c = let g = c .before .before .before in let a = g .before .before .before in let z = g .event .given .0 .0 in let e : toZ w32 (ofZ w32 z) ≡ z = search needs in at-event (a .args .setup) (a .args .counts .of) (g .event .given .1) (pick-false (c .before .sense-fits .ensures ∙ ap senseFits e) (c .if3 .left))
+returns-10 c = let g = c .before .before .before in let a = g .before .before in let z = g .event .given .0 .0 in let e : toZ w32 (ofZ w32 z) ≡ z = search needs in at-event (a .args .setup) (a .args .of) (g .event .given .1) (pick-false (c .before .sense-fits .ensures ∙ ap senseFits e) (c .if3 .left))
 
 returns-11 : tie.Need-returns-11
 unfolding fits
-returns-11 c = let a = c .before .before .before in at-event (a .args .setup) (a .args .counts .of) (c .enum-told7 .given .1) refl
+returns-11 c = let a = c .before .before in at-event (a .args .setup) (a .args .of) (c .enum-told7 .given .1) refl
 
 returns-12 : tie.Need-returns-12
 unfolding fits
-returns-12 c = let a = c .before .before .before in at-event (a .args .setup) (a .args .counts .of) (c .enum-told8 .given .1) refl
+returns-12 c = let a = c .before .before in at-event (a .args .setup) (a .args .of) (c .enum-told8 .given .1) refl
 
 returns-13 : tie.Need-returns-13
 unfolding fits
-returns-13 c = let a = c .before .before .before in at-event (a .args .setup) (a .args .counts .of) (c .enum-told9 .given .1) refl
+returns-13 c = let a = c .before .before in at-event (a .args .setup) (a .args .of) (c .enum-told9 .given .1) refl
 
 returns-14 : tie.Need-returns-14
 unfolding fits
-returns-14 c = let a = c .before .before .before in at-event (a .args .setup) (a .args .counts .of) (c .enum-told10 .given .1) refl
+returns-14 c = let a = c .before .before in at-event (a .args .setup) (a .args .of) (c .enum-told10 .given .1) refl
 
 pub value-refusal-spec : {M : Type 1} → statement M
 value-refusal-spec =
@@ -70,7 +71,9 @@ value-refusal-spec =
     (λ c. search needs)
     (λ c. search needs)
     (λ c κs. search needs)
+    (λ c κs. search needs)
     (λ c. search needs)
+    (λ c κs. search needs)
     (λ c κs. search needs)
     (λ c. search needs)
     (λ c. search needs)

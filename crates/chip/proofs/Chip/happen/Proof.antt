@@ -1,10 +1,10 @@
 -- An event of any kind, by its case.
-use mathlib.Core.Path.{_≡_, ap, _∙_}
+use mathlib.Core.Path.{_≡_, refl, ap, _∙_}
 use mir.Syntax.{w32}
 use mir.Val.{toZ, ofZ}
-use Rattle.events.specs.Event.{Sense}
-use Rattle.chip.specs.Chip.{happened}
-use Rattle.chip.proofs.Modes.{as-event}
+use Rattle.events.specs.Event.{Por, Boot, Pin, Xready, Count, Sense, Load, OnBus, fits}
+use Rattle.chip.specs.Chip.{stepped}
+use Rattle.chip.proofs.Modes.{as-event, in-range}
 use borrow.Author.Needs.{needs}
 use Rattle.chip.proofs.Chip.happen.Statement.{statement}
 use Rattle.chip.proofs.Chip.happen.Tie as tie
@@ -13,10 +13,12 @@ returns : tie.Need-returns
 returns c = as-event (c .before .before .before .args .counts) (c .before .before .before .args .self) (c .before .enum-told .given .1) (c .quiet .ensures)
 
 returns-2 : tie.Need-returns-2
-returns-2 c = as-event (c .before .before .before .args .counts) (c .before .before .before .args .self) (c .before .enum-told2 .given .1) (c .por .ensures)
+unfolding fits
+returns-2 c = as-event (c .before .before .before .args .counts) (c .before .before .before .args .self) (c .before .enum-told2 .given .1) (in-range Por (c .before .before .before .args .self) refl (c .por .ensures))
 
 returns-3 : tie.Need-returns-3
-returns-3 c = as-event (c .before .before .before .args .counts) (c .before .before .before .args .self) (c .before .enum-told3 .given .1) (c .boot .ensures)
+unfolding fits
+returns-3 c = as-event (c .before .before .before .args .counts) (c .before .before .before .args .self) (c .before .enum-told3 .given .1) (in-range Boot (c .before .before .before .args .self) refl (c .boot .ensures))
 
 returns-4 : tie.Need-returns-4
 returns-4 c = as-event (c .before .before .before .args .counts) (c .before .before .before .args .self) (c .before .enum-told4 .given .1) (c .scan .ensures)
@@ -25,25 +27,30 @@ returns-5 : tie.Need-returns-5
 returns-5 c = as-event (c .before .before .before .args .counts) (c .before .before .before .args .self) (c .before .enum-told5 .given .1) (c .temp .ensures)
 
 returns-6 : tie.Need-returns-6
-returns-6 c = as-event (c .before .before .before .before .args .counts) (c .before .before .before .before .args .self) (c .before .before .event .given .1) (c .count .ensures)
+unfolding fits
+returns-6 c = as-event (c .before .before .before .before .args .counts) (c .before .before .before .before .args .self) (c .before .before .event .given .1) (in-range (Count _) (c .before .before .before .before .args .self) refl (c .count .ensures))
 
 returns-7 : tie.Need-returns-7
 returns-7 c =
     let z = c .before .before .event2 .given .0 .0 in
     let e : toZ w32 (ofZ w32 z) ≡ z = search needs in
-    as-event (c .before .before .before .before .args .counts) (c .before .before .before .before .args .self) (c .before .before .event2 .given .1) (c .sense .ensures ∙ ap (λ v. happened (Sense v) (c .before .before .before .before .args .self)) e)
+    as-event (c .before .before .before .before .args .counts) (c .before .before .before .before .args .self) (c .before .before .event2 .given .1) (c .sense .ensures ∙ ap (λ v. stepped (Sense v) (c .before .before .before .before .args .self)) e)
 
 returns-8 : tie.Need-returns-8
-returns-8 c = as-event (c .before .before .before .args .counts) (c .before .before .before .args .self) (c .before .enum-told6 .given .1) (c .pin .ensures)
+unfolding fits
+returns-8 c = as-event (c .before .before .before .args .counts) (c .before .before .before .args .self) (c .before .enum-told6 .given .1) (in-range Pin (c .before .before .before .args .self) refl (c .pin .ensures))
 
 returns-9 : tie.Need-returns-9
-returns-9 c = as-event (c .before .before .before .before .args .counts) (c .before .before .before .before .args .self) (c .before .before .event3 .given .1) (c .load .ensures)
+unfolding fits
+returns-9 c = as-event (c .before .before .before .before .args .counts) (c .before .before .before .before .args .self) (c .before .before .event3 .given .1) (in-range (Load _) (c .before .before .before .before .args .self) refl (c .load .ensures))
 
 returns-10 : tie.Need-returns-10
-returns-10 c = as-event (c .before .before .before .args .counts) (c .before .before .before .args .self) (c .before .enum-told7 .given .1) (c .xready .ensures)
+unfolding fits
+returns-10 c = as-event (c .before .before .before .args .counts) (c .before .before .before .args .self) (c .before .enum-told7 .given .1) (in-range Xready (c .before .before .before .args .self) refl (c .xready .ensures))
 
 returns-11 : tie.Need-returns-11
-returns-11 c = as-event (c .before .before .before .before .args .counts) (c .before .before .before .before .args .self) (c .before .before .event4 .given .1) (c .on-bus .ensures)
+unfolding fits
+returns-11 c = as-event (c .before .before .before .before .args .counts) (c .before .before .before .before .args .self) (c .before .before .event4 .given .1) (in-range (OnBus _) (c .before .before .before .before .args .self) refl (c .on-bus .ensures))
 
 pub happen-spec : {M : Type 1} → statement M
 happen-spec =

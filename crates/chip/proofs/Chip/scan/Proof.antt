@@ -1,5 +1,5 @@
--- SCAN: by the mode, what its definition says.
-use Rattle.chip.proofs.Modes.{in-normal, in-sleep}
+-- SCAN: by its counts and the mode, what its definition says.
+use Rattle.chip.proofs.Modes.{in-normal, in-sleep, in-range, out-of-range, scan-fits}
 use borrow.Author.Tests.{not-true, not-false}
 use Rattle.events.specs.Event.{Scan}
 use borrow.Author.Needs.{needs}
@@ -7,10 +7,24 @@ use Rattle.chip.proofs.Chip.scan.Statement.{statement}
 use Rattle.chip.proofs.Chip.scan.Tie as tie
 
 returns : tie.Need-returns
-returns c = in-sleep (Scan _) (c .before .before .before .args .self) (not-true _ (c .before .if1 .taken)) (c .quiet .ensures)
+returns c = let l = c .before .before in let a = l .before .before .before .args in out-of-range (Scan _) (a .self) (scan-fits (a .counts) (l .counts-in-range .ensures) (l .before .inputs .ensures) (not-true _ (c .before .if1 .taken))) (c .quiet .ensures)
 
 returns-2 : tie.Need-returns-2
-returns-2 c = in-normal (Scan _) (c .before .before .before .before .args .self) (not-false _ (c .before .before .if1 .left)) (simp (c .quiet2 .ensures, c .before .scanned .ensures))
+returns-2 c = let i = c .before .before .before in let l = i .before in let a = l .before .before .before .args in in-range (Scan _) (a .self) (scan-fits (a .counts) (l .counts-in-range .ensures) (l .before .inputs .ensures) (not-false _ (i .if1 .left))) (in-sleep (Scan _) (a .self) (not-true _ (c .before .if2 .taken)) (c .quiet2 .ensures))
+
+returns-3 : tie.Need-returns-3
+returns-3 c = let i = c .before .before .before .before in let l = i .before in let a = l .before .before .before .args in in-range (Scan _) (a .self) (scan-fits (a .counts) (l .counts-in-range .ensures) (l .before .inputs .ensures) (not-false _ (i .if1 .left))) (in-normal (Scan _) (a .self) (not-false _ (c .before .before .if2 .left)) (simp (c .quiet3 .ensures, c .before .scanned .ensures)))
 
 pub scan-spec : {M : Type 1} → statement M
-scan-spec = tie.close (tie.spec (λ c κs. search needs) returns (λ c κs. search needs) (λ c κs. search needs) returns-2)
+scan-spec =
+    tie.close
+    (tie.spec
+    (λ c κs. search needs)
+    (λ c κs. search needs)
+    (λ c κs. search needs)
+    returns
+    (λ c κs. search needs)
+    returns-2
+    (λ c κs. search needs)
+    (λ c κs. search needs)
+    returns-3)

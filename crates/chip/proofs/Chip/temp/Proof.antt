@@ -1,5 +1,5 @@
--- TEMP: by the mode, what its definition says.
-use Rattle.chip.proofs.Modes.{in-normal, in-sleep}
+-- TEMP: by its counts and the mode, what its definition says.
+use Rattle.chip.proofs.Modes.{in-normal, in-sleep, in-range, out-of-range, temp-fits}
 use borrow.Author.Tests.{not-true, not-false}
 use Rattle.events.specs.Event.{Temp}
 use borrow.Author.Needs.{needs}
@@ -7,19 +7,24 @@ use Rattle.chip.proofs.Chip.temp.Statement.{statement}
 use Rattle.chip.proofs.Chip.temp.Tie as tie
 
 returns : tie.Need-returns
-returns c = in-sleep (Temp _) (c .before .before .before .args .self) (not-true _ (c .before .if1 .taken)) (c .quiet .ensures)
+returns c = let l = c .before .before in let a = l .before .before .before .args in out-of-range (Temp _) (a .self) (temp-fits (a .counts) (l .counts-in-range .ensures) (l .before .groups .ensures) (not-true _ (c .before .if1 .taken))) (c .quiet .ensures)
 
 returns-2 : tie.Need-returns-2
-returns-2 c = let b = c .before .before .before .before .before .before .before .before .before in in-normal (Temp _) (b .before .before .args .self) (not-false _ (b .if1 .left)) (simp (c .quiet2 .ensures, c .before .before .before .before .warmed .ensures, c .before .before .before .before .before .before .three .ensures, c .before .before .before .before .before .before .before .groups .ensures))
+returns-2 c = let i = c .before .before .before in let l = i .before in let a = l .before .before .before .args in in-range (Temp _) (a .self) (temp-fits (a .counts) (l .counts-in-range .ensures) (l .before .groups .ensures) (not-false _ (i .if1 .left))) (in-sleep (Temp _) (a .self) (not-true _ (c .before .if2 .taken)) (c .quiet2 .ensures))
+
+returns-3 : tie.Need-returns-3
+returns-3 c = let i = c .before .before .before .before in let l = i .before in let a = l .before .before .before .args in in-range (Temp _) (a .self) (temp-fits (a .counts) (l .counts-in-range .ensures) (l .before .groups .ensures) (not-false _ (i .if1 .left))) (in-normal (Temp _) (a .self) (not-false _ (c .before .before .if2 .left)) (simp (c .quiet3 .ensures, c .before .warmed .ensures)))
 
 pub temp-spec : {M : Type 1} → statement M
 temp-spec =
     tie.close
     (tie.spec
     (λ c κs. search needs)
+    (λ c κs. search needs)
+    (λ c κs. search needs)
     returns
     (λ c κs. search needs)
+    returns-2
     (λ c κs. search needs)
     (λ c κs. search needs)
-    (λ c κs. search needs)
-    returns-2)
+    returns-3)

@@ -1,0 +1,17 @@
+-- TEMP whose counts are judged: by the mode, what its definition says.
+use borrow.Author.Tests.{not-true, not-false}
+use Rattle.events.specs.Event.{Temp}
+use Rattle.chip.proofs.Modes.{in-normal}
+use Rattle.stream.proofs.Steps.{in-sleep}
+use borrow.Author.Needs.{needs}
+use Rattle.stream.proofs.heated.Statement.{statement}
+use Rattle.stream.proofs.heated.Tie as tie
+
+returns : tie.Need-returns
+returns c = in-sleep (Temp _) (c .before .before .before .args .chip) (not-true _ (c .before .if1 .taken)) (c .quiet .ensures)
+
+returns-2 : tie.Need-returns-2
+returns-2 c = in-normal (Temp _) (c .before .before .before .before .args .chip) (not-false _ (c .before .before .if1 .left)) (simp (c .quiet2 .ensures, c .before .warmed .ensures))
+
+pub heated-spec : {M : Type 1} → statement M
+heated-spec = tie.close (tie.spec (λ c κs. search needs) returns (λ c κs. search needs) (λ c κs. search needs) returns-2)
