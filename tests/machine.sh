@@ -1,6 +1,6 @@
 # shellcheck shell=bash
-# Sourced by ./play, ./listing and the scripts of tests/. What the proved crates are built into is for x86-64 Linux: elsewhere it is compiled for
-# with Debian's cross compiler and run under qemu-user.
+# Sourced by ./play, ./listing, .ci/run and the scripts of tests/. What the proved crates are built into is for x86-64 Linux: elsewhere
+# it is compiled for with Debian's cross compiler and run under qemu-user.
 # shellcheck disable=SC2034,SC2154  # me, root and usage are set, runner, compiler and program read by the script that sources this
 
 # Says one line under the name `me` of the script that sources this, and ends with a status.
@@ -41,8 +41,8 @@ want() {
 want_runner() {
     runner=()
     if ! native; then
-        want qemu-x86_64 qemu-user
         local libraries=/usr/x86_64-linux-gnu/lib
+        want qemu-x86_64 qemu-user libc6-amd64-cross
         want "$libraries/libc.so.6" libc6-amd64-cross
         runner=(qemu-x86_64 "$libraries/ld-linux-x86-64.so.2" --library-path "$libraries")
     fi
@@ -55,6 +55,7 @@ want_compiler() {
         compiler=(gcc)
     else
         want x86_64-linux-gnu-gcc gcc-x86-64-linux-gnu libc6-dev-amd64-cross
+        want /usr/x86_64-linux-gnu/include/stdio.h libc6-dev-amd64-cross
         compiler=(x86_64-linux-gnu-gcc)
     fi
 }
