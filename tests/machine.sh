@@ -1,6 +1,6 @@
 # shellcheck shell=bash
-# Sourced by ./play, ./listing, .ci/run and the scripts of tests/. What the proved crates are built into is for x86-64 Linux: elsewhere
-# it is compiled for with Debian's cross compiler and run under qemu-user.
+# Sourced by ./play, ./listing, .ci/run and the scripts of tests/. What the proved crates are built into is for x86-64 Linux:
+# elsewhere it is compiled for with Debian's cross compiler and run under qemu-user.
 # shellcheck disable=SC2034,SC2154  # me, root and usage are set, runner, compiler and program read by the script that sources this
 
 # Says one line under the name `me` of the script that sources this, and ends with a status.
