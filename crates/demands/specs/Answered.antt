@@ -18,8 +18,7 @@ use Rattle.chip.specs.declared.Chip.{Chip}
 use Rattle.chip.specs.declared.Stepped.{Stepped}
 use Rattle.chip.specs.Chip.{quiet, inShip, steppedAs}
 use Rattle.stream.specs.declared.Entry.{Entry}
-use Rattle.stream.specs.declared.Turn.{Turn}
-use Rattle.stream.specs.Stream.{entryOf, turned, turnOf, runs, entries}
+use Rattle.stream.specs.Stream.{Turn, entryOf, turned, turnOf, runs, entries}
 use Rattle.stream.specs.Standing.{acted-is, first-entries}
 use Rattle.demands.specs.Demand.{chip}
 use Rattle.demands.specs.History.{setup-is}

@@ -23,8 +23,7 @@ use Rattle.chip.specs.declared.Stepped.{Stepped}
 use Rattle.chip.specs.Chip.{inShip}
 use Rattle.chip.specs.Outward.{pinsOf}
 use Rattle.stream.specs.declared.Entry.{Entry}
-use Rattle.stream.specs.declared.Turn.{Turn}
-use Rattle.stream.specs.Stream.{turned, turnOf, runs, stands, entries, lastChip}
+use Rattle.stream.specs.Stream.{Turn, turned, turnOf, runs, stands, entries, lastChip}
 use Rattle.stream.specs.Standing.{acted-is, good-part, first-stands, first-entries}
 use Rattle.demands.specs.Demand.{chip}
 use Rattle.demands.specs.History.{setup-is}

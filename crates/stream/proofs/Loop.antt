@@ -19,9 +19,8 @@ use Rattle.records.specs.declared.Read.{Read}
 use Rattle.records.specs.declared.Read.the-variants.{Record, Refused, Cut}
 use Rattle.records.specs.Reading.{Placed, placed}
 use Rattle.chip.specs.declared.Chip.{Chip}
-use Rattle.stream.specs.Stream.{turnOf, turned, runs, stands, entries, lastChip, none, entryBytes, bytesOf, noted, Ran, Played}
+use Rattle.stream.specs.Stream.{Turn, turnOf, turned, runs, stands, entries, lastChip, none, entryBytes, bytesOf, noted, Ran, Played}
 use Rattle.stream.specs.declared.Entry.{Entry}
-use Rattle.stream.specs.declared.Turn.{Turn}
 
 pub rest-is : (s : List ℕ) (at : ℕ) → take (length s - at) (drop at s) ≡ drop at s
 rest-is s at = take-all (length s - at) (drop at s) (simp length-drop (omega arith))

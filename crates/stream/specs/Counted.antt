@@ -25,8 +25,7 @@ use Rattle.chip.specs.declared.Chip.{Chip}
 use Rattle.chip.specs.declared.Stepped.{Stepped}
 use Rattle.chip.specs.Chip.{inShip}
 use Rattle.chip.specs.Moves.{setup-next}
-use Rattle.stream.specs.declared.Turn.{Turn}
-use Rattle.stream.specs.Stream.{none, acted, turned, turnOf, runs, entries}
+use Rattle.stream.specs.Stream.{Turn, none, acted, turned, turnOf, runs, entries}
 use Rattle.stream.specs.Frames.{frames, framesAfter, framesOf}
 use Rattle.stream.specs.Standing.{acted-is, good-part}
 

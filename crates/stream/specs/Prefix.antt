@@ -19,8 +19,7 @@ use Rattle.records.specs.Record.{payloadOf, asRead, readOf, countsIn, countsBes
 use Rattle.records.specs.Reading.{Placed, placed}
 use Rattle.chip.specs.declared.Chip.{Chip}
 use Rattle.stream.specs.declared.Entry.{Entry}
-use Rattle.stream.specs.declared.Turn.{Turn}
-use Rattle.stream.specs.Stream.{none, acted, turn, turned, turnOf, runs, stands, entries}
+use Rattle.stream.specs.Stream.{Turn, none, acted, turn, turned, turnOf, runs, stands, entries}
 
 suc-add : (m n : ℕ) → suc m + n ≡ suc (m + n)
 suc-add m n = omega arith

@@ -24,7 +24,6 @@ use Rattle.chip.specs.Outward.{pinsOf}
 use Rattle.stream.specs.declared.Entry.{Entry}
 use Rattle.stream.specs.declared.Answer.{Answer}
 use Rattle.stream.specs.declared.Face.{Face}
-use Rattle.stream.specs.declared.Turn.{Turn}
 
 -- no chip yet: part 0, and with it SYS_STAT and pins 0
 abbrev pub none : Chip
@@ -71,6 +70,12 @@ acted Xready k c = steppedBy Xready k c
 acted (OnBus b) k c = steppedBy (OnBus b) k c
 
 -- ── what a record makes of a chip: its entry, the next chip and place, and whether it is the last ──
+pub record Turn : Type 0 where
+  pub chip : Chip
+  pub entry : Entry
+  pub next : ℕ
+  pub last : Bool
+
 abbrev pub turn : Stepped → ℕ → Bool → Turn
 turn s next last = record { chip = s .chip; entry = entryOf s; next = next; last = last }
 

@@ -54,14 +54,6 @@ pub enum Work {
     Other,
 }
 
-// What a record leaves: the chip, its entry, the bytes it took, and whether it is the last.
-pub struct Turn {
-    pub chip: Chip,
-    pub entry: Entry,
-    pub next: usize,
-    pub last: bool,
-}
-
 // No chip yet: part 0.
 fn no_chip() -> Chip
     ensures { λ r. ⌜ r ≡ none ⌝ }
@@ -210,13 +202,7 @@ fn act(chip: Chip, event: Event, rest: &[u8], next: usize) -> Stepped
 fn born(setup: Setup) -> Stepped
     ensures { λ r. ⌜ r ≡ bornOf setup ⌝ }
 {
-    let chip = chip::in_ship(setup);
-    Stepped {
-        chip,
-        number: 0,
-        flag: false,
-        byte: 0,
-    }
+    quiet(0, chip::in_ship(setup))
 }
 
 // An answer with no bus byte.

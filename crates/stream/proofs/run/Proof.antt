@@ -30,10 +30,9 @@ use Rattle.chip.specs.declared.Stepped.{Stepped}
 use Rattle.chip.specs.Chip.{quiet, withBus, withRuns, happenedBy}
 use Rattle.chip.specs.Parts.{landed}
 use Rattle.stream.specs.Often.{often, workOf, Sorted, sorted}
-use Rattle.stream.specs.Stream.{Ran, turnOf, noted, acted, turn, answerOf, answerHeard, unanswered, faceOf, entryOf, saying}
+use Rattle.stream.specs.Stream.{Turn, Ran, turnOf, noted, acted, turn, answerOf, answerHeard, unanswered, faceOf, entryOf, saying}
 use Rattle.stream.specs.declared.Answer.{Answer}
 use Rattle.stream.specs.declared.Face.{Face}
-use Rattle.stream.specs.declared.Turn.{Turn}
 use Rattle.stream.specs.declared.Work.{Work}
 use Rattle.stream.specs.declared.Work.the-variants.{Scans, Ticks, Hears}
 use Rattle.stream.proofs.Steps.{entry-is, short-turn, unfit-turn, found, done-turn, often-is, scan-arm, tick-arm, still-arm, bus-arm}
