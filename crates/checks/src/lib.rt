@@ -61,6 +61,7 @@ pub fn counts_wanted(setup: Setup, event: Event) -> u8
         Event::Load(_) => 0,
         Event::Xready => 0,
         Event::OnBus(_) => 0,
+        Event::Wires(_) => 0,
     }
 }
 
@@ -75,7 +76,7 @@ pub fn counts_fit(wanted: u8, counts: Counts) -> bool
     within_from(of, wanted as usize, 0)
 }
 
-// The number of an event whose counts fit: 2 for SETUP, 3 for a value out of range, or 0.
+// The number of an event whose counts fit: 2 for SETUP and a wiring record, 3 for a value out of range, or 0.
 fn value_refusal(setup: Setup, event: Event, of: [u16; 15]) -> u8
     ensures { λ r. ⌜ r ≡ refusalOf (eventOf setup event of) ⌝ }
 {
@@ -99,6 +100,7 @@ fn value_refusal(setup: Setup, event: Event, of: [u16; 15]) -> u8
         Event::Load(_) => 0,
         Event::Xready => 0,
         Event::OnBus(_) => 0,
+        Event::Wires(_) => 2,
     }
 }
 

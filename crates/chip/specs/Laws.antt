@@ -14,7 +14,9 @@ use Rattle.events.specs.declared.Setup.{Setup}
 use Rattle.events.specs.declared.BusEvent.the-variants.{Out}
 use Rattle.events.specs.Event.{Por, OnBus, fits}
 use Rattle.events.specs.Setup.{inputs}
-use Rattle.events.specs.Few.{few-inputs}
+use Rattle.wiring.specs.Rows.{wiredInputs, packCells, inputOf}
+use Rattle.wiring.specs.Numbered.{numbers}
+use Rattle.wiring.specs.Kept.{held-at, held-many}
 use Rattle.crc8.specs.Crc.{byteOn}
 use Rattle.bus.specs.declared.Line.{Line}
 use Rattle.bus.specs.declared.Phase.{Phase}
@@ -24,8 +26,6 @@ use Rattle.bus.specs.declared.Store.the-variants.{Nothing, At}
 use Rattle.bus.specs.declared.Outed.{Outed}
 use Rattle.bus.specs.Bus.{goes, refuses, stores, addressed, fed, checked, outIn, outed}
 use Rattle.settings.specs.Write.{ships}
-use Rattle.scan.specs.Scan.{cellPlaces}
-use Rattle.registers.specs.Read.{cellAt}
 use Rattle.values.specs.Values.{gives, cellMicrovolts}
 use Rattle.values.specs.declared.Reading.{Reading as ReadingValues}
 use Rattle.values.specs.Double.{IsDouble}
@@ -35,7 +35,7 @@ use Rattle.chip.specs.declared.Stepped.{Stepped}
 use Rattle.chip.specs.declared.outward.ForecastAnswer.the-variants.{Is}
 use Rattle.chip.specs.Chip.{quiet, answered, inShip, accepted, storedAt, stored, normally, asleep, happened, stepped}
 use Rattle.chip.specs.Moves.{normal-is}
-use Rattle.chip.specs.Outward.{voltageSaid, Forecasts}
+use Rattle.chip.specs.Outward.{packCounts, voltageSaid, Forecasts}
 use Rattle.chip.specs.Voltage.{cell-said}
 
 -- ── SHIP ──
@@ -113,26 +113,30 @@ module _ (g o : ℕ) (xs : List ℕ) where
       ∙ ap (fold _+ℤ_ (pos 0)) (map-last (cellMicrovolts g o) (getD xs n 0) (take n xs))
       ∙ fold-last (pos 0) (cellMicrovolts g o (getD xs n 0)) (map (cellMicrovolts g o) (take n xs))
 
-module _ (c : Chip) (on : c .awake ≡ true) (places : length (c .registers .measured .cells) ≡ cellPlaces) where
-  cell-given : (n : ℕ) → n < inputs (c .setup) → voltageSaid (suc n) c ≡ gives (cellMicrovolts (c .setup .gain) (c .setup .offset) (getD (c .registers .measured .cells) n 0))
+module _ (c : Chip) (on : c .awake ≡ true) where
+  -- a cell of the pack, by the count of its input
+  cell-given : (n : ℕ) → n < packCells (c .setup) → voltageSaid (suc n) c ≡ gives (cellMicrovolts (c .setup .gain) (c .setup .offset) (getD (packCounts c) n 0))
   cell-given n h =
-      let e : suc n - 1 ≡ n = omega arith in
+      let w = numbers (c .setup) .wired (suc n) (omega arith) (omega arith) in
       sym (cell-said (suc n) c on (omega arith) (omega arith))
-      ∙ ap (λ (k : ℕ). gives (cellMicrovolts (c .setup .gain) (c .setup .offset) (cellAt (c .setup) (c .registers .measured) k))) e
-      ∙ ap (λ (t : Bool). gives (cellMicrovolts (c .setup .gain) (c .setup .offset) (cond t (getD (c .registers .measured .cells) n 0) 0))) (lt-ltb n (inputs (c .setup)) h)
+      ∙ ap (λ (t : Bool). gives (cellMicrovolts (c .setup .gain) (c .setup .offset) (cond t (getD (c .registers .measured .cells) (inputOf (c .setup) (suc n) - 1) 0) 0)))
+      (lt-ltb (inputOf (c .setup) (suc n) - 1) (inputs (c .setup)) (omega (arith, w .from, w .below)))
+      ∙ ap (λ (x : ℕ). gives (cellMicrovolts (c .setup .gain) (c .setup .offset) x)) (sym (held-at (c .registers .measured .cells) (wiredInputs (c .setup)) n h))
 
-  sums : (n : ℕ) → n ≤ inputs (c .setup) → Comes c n (totalOf (c .setup .gain) (c .setup .offset) n (c .registers .measured .cells))
+  sums : (n : ℕ) → n ≤ packCells (c .setup) → Comes c n (totalOf (c .setup .gain) (c .setup .offset) n (packCounts c))
   unfolding fold
   sums zero h = none
   sums (suc n) h =
-      subst (Comes c (suc n)) (sym (total-more (c .setup .gain) (c .setup .offset) (c .registers .measured .cells) n (omega (arith, few-inputs (c .setup), places))))
-      (more (cellMicrovolts (c .setup .gain) (c .setup .offset) (getD (c .registers .measured .cells) n 0)) (sums n (omega arith)) (cell-given n (omega arith)))
+      subst (Comes c (suc n)) (sym (total-more (c .setup .gain) (c .setup .offset) (packCounts c) n (omega (arith, held-many (c .registers .measured .cells) (wiredInputs (c .setup))))))
+      (more (cellMicrovolts (c .setup .gain) (c .setup .offset) (getD (packCounts c) n 0)) (sums n (omega arith)) (cell-given n (omega arith)))
 
-  pub total-comes : Comes c (inputs (c .setup)) (totalOf (c .setup .gain) (c .setup .offset) (inputs (c .setup)) (c .registers .measured .cells))
-  total-comes = sums (inputs (c .setup)) (omega arith)
+  pub total-comes : Comes c (packCells (c .setup)) (totalOf (c .setup .gain) (c .setup .offset) (length (packCounts c)) (packCounts c))
+  total-comes =
+      subst (λ (n : ℕ). Comes c (packCells (c .setup)) (totalOf (c .setup .gain) (c .setup .offset) n (packCounts c)))
+      (sym (held-many (c .registers .measured .cells) (wiredInputs (c .setup)))) (sums (packCells (c .setup)) (omega arith))
 
   -- so a reading's total is a double equal to that sum
   pub reading-comes : (r : ReadingValues) → Forecasts c (Is r)
-      → IsDouble (r .total) (totalOf (c .setup .gain) (c .setup .offset) (inputs (c .setup)) (c .registers .measured .cells))
-      × Comes c (inputs (c .setup)) (totalOf (c .setup .gain) (c .setup .offset) (inputs (c .setup)) (c .registers .measured .cells))
+      → IsDouble (r .total) (totalOf (c .setup .gain) (c .setup .offset) (length (packCounts c)) (packCounts c))
+      × Comes c (packCells (c .setup)) (totalOf (c .setup .gain) (c .setup .offset) (length (packCounts c)) (packCounts c))
   reading-comes r f = (f .1 .total, total-comes)

@@ -5,8 +5,10 @@ use mathlib.Core.Bool.{Bool, true, false, _&&_, cond}
 use Prim.Native.Nat.{ℕ, _+_, _-_}
 use lib.Dec.{leb}
 use lib.IntN.{ℤ}
-use lib.ListN.{getD}
-use Rattle.events.specs.Setup.{inputs}
+use mathlib.Core.List.{List}
+use lib.ListN.{length}
+use Rattle.wiring.specs.Rows.{wiredInputs, packCells, inputOf}
+use Rattle.wiring.specs.Kept.{heldBy}
 use Rattle.settings.specs.Bit.{weighed}
 use Rattle.registers.specs.State.{alert}
 use Rattle.registers.specs.Read.{cellAt}
@@ -23,12 +25,16 @@ use Rattle.chip.specs.declared.outward.ForecastAnswer.the-variants as Fo
 abbrev pub pinsOf : Chip → ℕ
 pinsOf c = weighed (alert (c .registers .shown .status)) 4 + weighed (c .registers .shown .chg) 2 + weighed (c .registers .shown .dsg) 1
 
--- voltages: 4, then 6
+-- request M-107: the counts of the pack's cells, cell 1's first
+abbrev pub packCounts : Chip → List ℕ
+packCounts c = heldBy (c .registers .measured .cells) (wiredInputs (c .setup))
+
+-- voltages: 4, then 6 for a number past the pack's
 unfoldable pub voltageSaid : ℕ → Chip → Said ℤ
 voltageSaid n c =
     cond (c .awake)
-    (cond (leb 1 n && leb n (inputs (c .setup)))
-    (gives (cellMicrovolts (c .setup .gain) (c .setup .offset) (cellAt (c .setup) (c .registers .measured) (n - 1))))
+    (cond (leb 1 n && leb n (packCells (c .setup)))
+    (gives (cellMicrovolts (c .setup .gain) (c .setup .offset) (cellAt (c .setup) (c .registers .measured) (inputOf (c .setup) n - 1))))
     (refuses 6))
     (refuses 4)
 
@@ -42,10 +48,12 @@ abbrev pub saidForecast : ForecastAnswer → Said Reading
 saidForecast (Forecast.Is r) = gives r
 saidForecast Forecast.Asleep = refuses 4
 
--- least, greatest and total cell µV, and CC in hundredths, of the registers; 4 asleep
+-- least, greatest and total µV of the pack's cells, and CC in hundredths, of the registers; 4 asleep
+abbrev pub Reads : Chip → Reading → Type 0
+Reads c r = IsReading (c .setup .gain) (c .setup .offset) (length (packCounts c)) (packCounts c) (c .registers .measured .cc) r
+
 abbrev pub ForecastSaid : Chip → Said Reading → Type 0
-ForecastSaid c (gives r) =
-    (c .awake ≡ true) × IsReading (c .setup .gain) (c .setup .offset) (inputs (c .setup)) (c .registers .measured .cells) (c .registers .measured .cc) r
+ForecastSaid c (gives r) = (c .awake ≡ true) × Reads c r
 ForecastSaid c (refuses n) = (c .awake ≡ false) × (n ≡ 4)
 
 abbrev pub Forecasts : Chip → ForecastAnswer → Type 0

@@ -410,7 +410,7 @@ impl Chip {
 
 // An event of any kind, made by hand.
 impl Chip {
-    // With counts that fit. SETUP is none for a chip that stands.
+    // With counts that fit. SETUP and a wiring record are none for a chip that stands.
     fn happen(self, event: Event, counts: [u16; 15]) -> Stepped
         ensures { λ r. ⌜ r ≡ steppedAs (eventOf (self .setup) event counts) self ⌝ }
     {
@@ -426,6 +426,7 @@ impl Chip {
             Event::Load(level) => self.load(level),
             Event::Xready => self.xready(),
             Event::OnBus(bus) => self.on_bus(bus),
+            Event::Wires(_) => quiet(2, self),
         }
     }
 

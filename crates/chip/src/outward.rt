@@ -44,7 +44,7 @@ impl Chip {
             + settings::weigh(shown.dsg, 1)
     }
 
-    // The voltage of a cell, 1 to as many as the part has inputs.
+    // The voltage of a cell of the pack, 1 to as many as it has: as the part has inputs where there is no wiring record.
     pub fn voltage(self, cell: u8) -> CellAnswer
         ensures { λ r. ⌜ saidCell r ≡ voltageSaid cell self ⌝ }
     {
@@ -52,20 +52,20 @@ impl Chip {
             return CellAnswer::Asleep;
         }
         let setup = self.setup;
-        let inputs = setup.inputs();
+        let cells = wiring::cells(setup);
         if cell < 1 {
             return CellAnswer::NoCell;
         }
-        if inputs < cell {
+        if cells < cell {
             return CellAnswer::NoCell;
         }
         let registers = self.registers;
         let measured = registers.measured;
-        let count = measured.cell(setup, cell - 1);
+        let count = measured.cell(setup, wiring::input_of(setup, cell) - 1);
         CellAnswer::Is(values::cell_microvolts(setup.gain, setup.offset, RawCount(count)))
     }
 
-    // Forecasting's reading.
+    // Forecasting's reading, of the cells of the pack.
     pub fn forecast(self) -> ForecastAnswer
         ensures { λ r. ⌜ Forecasts self r ⌝ }
     {
@@ -76,11 +76,13 @@ impl Chip {
         let registers = self.registers;
         let measured = registers.measured;
         let cells = measured.cells;
+        let pack = wiring::pack(setup, cells);
+        let counts = pack.of;
         ForecastAnswer::Is(values::forecast(
             setup.gain,
             setup.offset,
-            setup.inputs(),
-            cells,
+            pack.many,
+            counts,
             measured.cc,
         ))
     }

@@ -29,7 +29,7 @@ use Rattle.demands.specs.Demand.{chip}
 use Rattle.demands.specs.History.{setup-is}
 
 abbrev pub calibrated : ℕ → ℕ → Setup → Setup
-calibrated gain offset u = record { part = u .part; crc = u .crc; address = u .address; gain = gain; offset = offset; floor = u .floor }
+calibrated gain offset u = record { part = u .part; crc = u .crc; address = u .address; gain = gain; offset = offset; floor = u .floor; cells = u .cells }
 
 -- the chip without gain code and offset, and without the two bytes that the bus owes of what it read
 abbrev pub bared : Chip → Chip

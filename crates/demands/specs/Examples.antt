@@ -61,10 +61,10 @@ status u es = statusByte (ran (inShip u) es .registers .shown .status)
 
 -- ── the setups and the frames ──
 abbrev plain : Setup
-plain = record { part = 1; crc = false; address = 8; gain = 10; offset = 30; floor = 1000 }
+plain = record { part = 1; crc = false; address = 8; gain = 10; offset = 30; floor = 1000; cells = 0 }
 
 abbrev guarded : Setup
-guarded = record { part = 1; crc = true; address = 8; gain = 10; offset = 30; floor = 1000 }
+guarded = record { part = 1; crc = true; address = 8; gain = 10; offset = 30; floor = 1000; cells = 0 }
 
 abbrev out : ℕ → Event
 out b = OnBus (Out b)

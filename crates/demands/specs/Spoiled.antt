@@ -127,7 +127,7 @@ remained m c (e ∷ es) =
 
 -- ── a worked case: 10 05 03 with a wrong CRC. The byte 03, its CRC and what follows go; the IN before the CRC, the scan and PIN remain ──
 abbrev guarded : Setup
-guarded = record { part = 1; crc = true; address = 8; gain = 10; offset = 30; floor = 1000 }
+guarded = record { part = 1; crc = true; address = 8; gain = 10; offset = 30; floor = 1000; cells = 0 }
 
 abbrev out : ℕ → Event
 out b = OnBus (Out b)

@@ -12,7 +12,7 @@ use Rattle.events.specs.declared.Setup.{Setup}
 use Rattle.events.specs.declared.Counts.{Counts}
 use Rattle.events.specs.declared.BusEvent.{BusEvent}
 use Rattle.events.specs.declared.Event.{Event as Coded}
-use Rattle.events.specs.declared.Event.the-variants.{Setup as Setup-, Por as Por-, Boot as Boot-, Pin as Pin-, Xready as Xready-, Scan as Scan-, Temp as Temp-, Count as Count-, Sense as Sense-, Load as Load-, OnBus as OnBus-}
+use Rattle.events.specs.declared.Event.the-variants.{Setup as Setup-, Por as Por-, Boot as Boot-, Pin as Pin-, Xready as Xready-, Scan as Scan-, Temp as Temp-, Count as Count-, Sense as Sense-, Load as Load-, OnBus as OnBus-, Wires as Wires-}
 
 -- an event of a chip that stands: SCAN has a count for each input, TEMP one for each five
 pub data Event : Type 0 where
@@ -65,12 +65,13 @@ countsWanted u (Count- n) = 0
 countsWanted u (Sense- v) = 0
 countsWanted u (Load- l) = 0
 countsWanted u (OnBus- b) = 0
+countsWanted u (Wires- n) = 0
 
 -- as many as wanted, and 0 in every place after them
 unfoldable pub countsFit : ℕ → Counts → Bool
 countsFit n k = eqb (k .many) n && within 0 (drop n (k .of))
 
--- what the code's event means to a chip that stands: an event, or the number 2
+-- what the code's event means to a chip that stands: an event, or the number 2, which SETUP and a wiring record have there
 pub data Meant : Type 0 where
   means : Event → Meant
   unfit : Meant
@@ -87,6 +88,7 @@ eventOf u (Count- n) xs = means (Count n)
 eventOf u (Sense- v) xs = means (Sense v)
 eventOf u (Load- l) xs = means (Load l)
 eventOf u (OnBus- b) xs = means (OnBus b)
+eventOf u (Wires- n) xs = unfit
 
 unfoldable pub meantOf : Setup → Coded → Counts → Meant
 meantOf u e k = cond (countsFit (countsWanted u e) k) (eventOf u e (k .of)) unfit

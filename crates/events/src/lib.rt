@@ -9,6 +9,8 @@ pub struct Setup {
     pub gain: u8,
     pub offset: u8,
     pub floor: u16,
+    // Request M-107: how many cells a wiring record gave the pack; 0 where there is none.
+    pub cells: u8,
 }
 
 // What the host does on the bus. IN holds whether the host does not acknowledge.
@@ -32,6 +34,8 @@ pub enum Event {
     Load(bool),
     Xready,
     OnBus(BusEvent),
+    // The number of cells of a pack.
+    Wires(u8),
 }
 
 // How many counts there are, and the counts: input 1 first, 0 from the first place that is not used.
@@ -73,6 +77,7 @@ pub fn setup_of(part: u8, crc: u8, address: u8, gain: u8, offset: u8, floor: u16
             gain,
             offset,
             floor,
+            cells: 0,
         });
     }
     Checked::Bad

@@ -42,3 +42,7 @@ IN = 0x0012
 
 abbrev pub STOP : ℕ
 STOP = 0x0013
+
+-- request M-107: the wiring record
+abbrev pub WIRES : ℕ
+WIRES = 0x0016

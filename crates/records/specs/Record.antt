@@ -1,7 +1,7 @@
 -- Document 01, "Events and their records" and "Numbers given back": reading, with the numbers 1, 2, 3 and 9. Assumes nothing.
 use Prim.Native.Nat.{ℕ, _+_, _-_, _*_, _/_}
 use mathlib.Core.List.{List}
-use mathlib.Core.Bool.{Bool, false, cond}
+use mathlib.Core.Bool.{Bool, false, cond, _&&_}
 use lib.ListN.{length, getD, take, drop, replicate}
 use lib.Dec.{ltb, leb, eqb}
 use Rattle.events.specs.Setup.{setupFits, checkedOf, setupNumber, groups, inputs}
@@ -12,9 +12,9 @@ use Rattle.events.specs.declared.Checked.{Checked}
 use Rattle.events.specs.declared.Checked.the-variants.{Good, Bad}
 use Rattle.events.specs.declared.BusEvent.the-variants.{Start, Out, In, Stop}
 use Rattle.events.specs.declared.Event.{Event}
-use Rattle.events.specs.declared.Event.the-variants.{Setup, Por, Boot, Scan, Temp, Count, Sense, Pin, Load, Xready, OnBus}
+use Rattle.events.specs.declared.Event.the-variants.{Setup, Por, Boot, Scan, Temp, Count, Sense, Pin, Load, Xready, OnBus, Wires}
 use Rattle.records.specs.Numbers.{le16, le32, signed32, bitOf, words, filled}
-use Rattle.records.specs.Kind.{SETUP, POR, BOOT, SCAN, TEMP, COUNT, SENSE, PIN, LOAD, XREADY, START, OUT, IN, STOP}
+use Rattle.records.specs.Kind.{SETUP, POR, BOOT, SCAN, TEMP, COUNT, SENSE, PIN, LOAD, XREADY, START, OUT, IN, STOP, WIRES}
 use Rattle.records.specs.declared.Payload.{Payload}
 use Rattle.records.specs.declared.Payload.the-variants.{Whole, Unfit}
 use Rattle.records.specs.declared.Read.{Read}
@@ -28,7 +28,7 @@ checkedIn (Good v) = Whole (Setup v)
 checkedIn Bad = Unfit (setupNumber Bad)
 
 abbrev pub setupGood : SetupValues → Bool
-setupGood v = setupFits (v .part) (bitOf (v .crc)) (v .address) (v .gain) (v .floor)
+setupGood v = setupFits (v .part) (bitOf (v .crc)) (v .address) (v .gain) (v .floor) && eqb (v .cells) 0
 
 unfoldable pub setupIn : List ℕ → Payload
 setupIn b =
@@ -69,10 +69,14 @@ inOf refused = OnBus (In refused)
 abbrev pub outIn : List ℕ → Payload
 outIn b = cond (eqb (length b) 1) (Whole (OnBus (Out (getD b 0 0)))) (Unfit 2)
 
+-- 1 byte: the number of cells, of any value
+abbrev pub wiresIn : List ℕ → Payload
+wiresIn b = cond (eqb (length b) 1) (Whole (Wires (getD b 0 0))) (Unfit 2)
+
 -- ── the kinds ──
 -- the inputs, and the groups of five, of the part that stands
 abbrev pub standing : ℕ → SetupValues
-standing part = record { part = part; crc = false; address = 0; gain = 0; offset = 0; floor = 0 }
+standing part = record { part = part; crc = false; address = 0; gain = 0; offset = 0; floor = 0; cells = 0 }
 
 abbrev pub groupsAt : ℕ → ℕ
 groupsAt part = groups (standing part)
@@ -95,7 +99,8 @@ laterOf kind part b =
     (cond (eqb kind START) (bareIn (OnBus Start) b)
     (cond (eqb kind OUT) (outIn b)
     (cond (eqb kind IN) (switchIn inOf b)
-    (cond (eqb kind STOP) (bareIn (OnBus Stop) b) (Unfit 2)))))))))))))
+    (cond (eqb kind STOP) (bareIn (OnBus Stop) b)
+    (cond (eqb kind WIRES) (wiresIn b) (Unfit 2))))))))))))))
 
 -- part 0: none stands yet, and SETUP alone is first
 unfoldable pub payloadOf : ℕ → ℕ → List ℕ → Payload
@@ -140,6 +145,7 @@ countsIn Pin b = noCounts
 countsIn (Load l) b = noCounts
 countsIn Xready b = noCounts
 countsIn (OnBus e) b = noCounts
+countsIn (Wires n) b = noCounts
 
 -- the counts beside what was read at the start of r
 abbrev pub countsBeside : List ℕ → Read → Counts

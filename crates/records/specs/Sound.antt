@@ -1,10 +1,11 @@
 -- What was read with success fits: the first record is a SETUP with its values in range, and every later one means an event
--- whose counts fit the part and whose values are in range, so that a chip has nothing to check again. Assumes nothing.
+-- whose counts fit the part and whose values are in range, so that a chip has nothing to check again; but for the wiring record, which is
+-- taken before a chip moves. Assumes nothing.
 use mathlib.Core.Path.{_≡_, refl, ap, sym, _∙_, subst}
 use mathlib.Core.Logic.{_≢_}
 use Prim.Native.Nat.{ℕ, zero, suc, _-_, _*_, _≤_}
 use mathlib.Core.List.{List}
-use mathlib.Core.Bool.{Bool, true, false, cond, _&&_}
+use mathlib.Core.Bool.{Bool, true, false, cond, _&&_, true≢false}
 use native.Mathlib.Omega.{arith}
 use lib.Dec.{leb, eqb}
 use lib.ListN.{length, getD, take, drop}
@@ -16,7 +17,7 @@ use Rattle.events.specs.declared.Setup.{Setup as SetupValues}
 use Rattle.events.specs.declared.Counts.{Counts}
 use Rattle.events.specs.declared.BusEvent.the-variants.{Start, Out, In, Stop}
 use Rattle.events.specs.declared.Event.{Event}
-use Rattle.events.specs.declared.Event.the-variants.{Setup, Por, Boot, Scan, Temp, Count, Sense, Pin, Load, Xready, OnBus}
+use Rattle.events.specs.declared.Event.the-variants.{Setup, Por, Boot, Scan, Temp, Count, Sense, Pin, Load, Xready, OnBus, Wires}
 use Rattle.records.specs.Numbers.{le16, le32, signed32, bitOf, words}
 use Rattle.records.specs.Kind.{SETUP}
 use Rattle.records.specs.Record.{setupGood, checkedIn, setupIn, countedIn, senseOf, payloadOf, laterOf, readOf, groupsAt, inputsAt, countsOf, countsIn, countsBeside}
@@ -52,7 +53,7 @@ crc-back p c a g f h =
     bit-back c (and-right (leb 1 p && leb p 3) (leb c 1) (and-left x (leb 0x08 a) (and-left (x && leb 0x08 a) (leb a 0x77) (and-left y (leb g 31) (and-left (y && leb g 31) (leb f 4095) h)))))
 
 pub setup-good : (p c a g o f : ℕ) → setupFits p c a g f ≡ true → setupGood (setupOf p c a g o f) ≡ true
-setup-good p c a g o f h = ap (λ (n : ℕ). setupFits p n a g f) (crc-back p c a g f h) ∙ h
+setup-good p c a g o f h = ap (λ (n : ℕ). setupFits p n a g f && true) (crc-back p c a g f h) ∙ ap (λ (t : Bool). t && true) h
 
 abbrev pub IsSetup : Event → Type 0
 IsSetup (Setup v) = setupGood v ≡ true
@@ -66,6 +67,7 @@ IsSetup Pin = ⊥
 IsSetup (Load l) = ⊥
 IsSetup Xready = ⊥
 IsSetup (OnBus b) = ⊥
+IsSetup (Wires n) = ⊥
 
 abbrev FirstOk : Payload → Type 0
 FirstOk (Whole e) = IsSetup e
@@ -94,8 +96,23 @@ pub record Meaning (u : SetupValues) (e : Event) (k : Counts) : Type 0 where
   pub meant : meantOf u e k ≡ means event
   pub fit : fits event ≡ true
 
+-- a wiring record means no event of a chip
+abbrev pub isWires : Event → Bool
+isWires (Setup v) = false
+isWires Por = false
+isWires Boot = false
+isWires Scan = false
+isWires Temp = false
+isWires (Count n) = false
+isWires (Sense v) = false
+isWires Pin = false
+isWires (Load l) = false
+isWires Xready = false
+isWires (OnBus b) = false
+isWires (Wires n) = true
+
 abbrev LaterOk : SetupValues → List ℕ → Payload → Type 0
-LaterOk u b (Whole e) = Meaning u e (countsIn e b)
+LaterOk u b (Whole e) = isWires e ≡ false → Meaning u e (countsIn e b)
 LaterOk u b (Unfit k) = Unit
 
 groups-at : (u : SetupValues) → groups u ≡ groupsAt (u .part)
@@ -137,19 +154,20 @@ later-ok : (u : SetupValues) (kind : ℕ) (b : List ℕ) → LaterOk u b (laterO
 unfolding countedIn senseOf meantOf countsFit countsIn fits
 later-ok u kind b =
     later-by (λ (kind : ℕ) (p : Payload). LaterOk u b p) (u .part) b
-    (sized 0 (Whole Por) (λ l. record { event = Por-; meant = refl; fit = refl }))
-    (sized 0 (Whole Boot) (λ l. record { event = Boot-; meant = refl; fit = refl }))
-    (sized (2 * inputsAt (u .part)) (cond counts (Whole Scan) (Unfit 3)) (λ l. ranged counts (Whole Scan) (scan-ok u b l)))
-    (sized (2 * groupsAt (u .part)) (cond counts (Whole Temp) (Unfit 3)) (λ l. ranged counts (Whole Temp) (temp-ok u b l)))
-    (sized 2 (Whole (Count (le16 b 0))) (λ l. record { event = Count- (le16 b 0); meant = refl; fit = refl }))
-    (sized 4 (senseOf (le32 b 0)) (λ l. ranged (senseFits value) (Whole (Sense value)) (λ f. record { event = Sense- value; meant = refl; fit = f })))
-    (sized 0 (Whole Pin) (λ l. record { event = Pin-; meant = refl; fit = refl }))
-    (sized 1 (cond bit (Whole (Load level)) (Unfit 3)) (λ l. ranged bit (Whole (Load level)) (λ f. record { event = Load- level; meant = refl; fit = refl })))
-    (sized 0 (Whole Xready) (λ l. record { event = Xready-; meant = refl; fit = refl }))
-    (sized 0 (Whole (OnBus Start)) (λ l. record { event = OnBus- Start; meant = refl; fit = refl }))
-    (sized 1 (Whole (OnBus (Out (getD b 0 0)))) (λ l. record { event = OnBus- (Out (getD b 0 0)); meant = refl; fit = refl }))
-    (sized 1 (cond bit (Whole (OnBus (In level))) (Unfit 3)) (λ l. ranged bit (Whole (OnBus (In level))) (λ f. record { event = OnBus- (In level); meant = refl; fit = refl })))
-    (sized 0 (Whole (OnBus Stop)) (λ l. record { event = OnBus- Stop; meant = refl; fit = refl }))
+    (sized 0 (Whole Por) (λ l w. record { event = Por-; meant = refl; fit = refl }))
+    (sized 0 (Whole Boot) (λ l w. record { event = Boot-; meant = refl; fit = refl }))
+    (sized (2 * inputsAt (u .part)) (cond counts (Whole Scan) (Unfit 3)) (λ l. ranged counts (Whole Scan) (λ f w. scan-ok u b l f)))
+    (sized (2 * groupsAt (u .part)) (cond counts (Whole Temp) (Unfit 3)) (λ l. ranged counts (Whole Temp) (λ f w. temp-ok u b l f)))
+    (sized 2 (Whole (Count (le16 b 0))) (λ l w. record { event = Count- (le16 b 0); meant = refl; fit = refl }))
+    (sized 4 (senseOf (le32 b 0)) (λ l. ranged (senseFits value) (Whole (Sense value)) (λ f w. record { event = Sense- value; meant = refl; fit = f })))
+    (sized 0 (Whole Pin) (λ l w. record { event = Pin-; meant = refl; fit = refl }))
+    (sized 1 (cond bit (Whole (Load level)) (Unfit 3)) (λ l. ranged bit (Whole (Load level)) (λ f w. record { event = Load- level; meant = refl; fit = refl })))
+    (sized 0 (Whole Xready) (λ l w. record { event = Xready-; meant = refl; fit = refl }))
+    (sized 0 (Whole (OnBus Start)) (λ l w. record { event = OnBus- Start; meant = refl; fit = refl }))
+    (sized 1 (Whole (OnBus (Out (getD b 0 0)))) (λ l w. record { event = OnBus- (Out (getD b 0 0)); meant = refl; fit = refl }))
+    (sized 1 (cond bit (Whole (OnBus (In level))) (Unfit 3)) (λ l. ranged bit (Whole (OnBus (In level))) (λ f w. record { event = OnBus- (In level); meant = refl; fit = refl })))
+    (sized 0 (Whole (OnBus Stop)) (λ l w. record { event = OnBus- Stop; meant = refl; fit = refl }))
+    (sized 1 (Whole (Wires (getD b 0 0))) (λ l w. absurd (true≢false w)))
     (λ (k : ℕ). tt)
     kind
   where
@@ -172,12 +190,12 @@ later-ok u kind b =
     ranged t x f = cond-by (LaterOk u b) t x (Unfit 3) f tt
 
 -- a record read at the part of a setup means an event that fits
-pub later-means : (u : SetupValues) (r : List ℕ) (e : Event) (next : ℕ) → u .part ≢ 0 → readOf (u .part) r ≡ Record e next
+pub later-means : (u : SetupValues) (r : List ℕ) (e : Event) (next : ℕ) → u .part ≢ 0 → readOf (u .part) r ≡ Record e next → isWires e ≡ false
     → Meaning u e (countsBeside r (Record e next))
 unfolding payloadOf
-later-means u r e next h q =
+later-means u r e next h q z =
     let w : WholeAt (u .part) r e next = read-whole (u .part) r e next q in
     let n : next - 4 ≡ le16 r 0 = omega (arith, w .ended) in
     let p : laterOf (le16 r 2) (u .part) (take (le16 r 0) (drop 4 r)) ≡ Whole e = simp (ne-eqb (u .part) 0 h) at (w .payload) in
     subst (λ (n : ℕ). Meaning u e (countsIn e (take n (drop 4 r)))) (sym n)
-    (subst (LaterOk u (take (le16 r 0) (drop 4 r))) p (later-ok u (le16 r 2) (take (le16 r 0) (drop 4 r))))
+    (subst (LaterOk u (take (le16 r 0) (drop 4 r))) p (later-ok u (le16 r 2) (take (le16 r 0) (drop 4 r))) z)

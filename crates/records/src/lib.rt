@@ -5,7 +5,7 @@ ghost use lib.ListN.{length};
 ghost use Rattle.events.specs.Event.{countMost, within};
 ghost use Rattle.records.specs.Numbers.{le16, le32, words, wordOr, filled};
 ghost use Rattle.records.specs.Frame.{frameOf, headerOf};
-ghost use Rattle.records.specs.Record.{senseOf, setupIn, bareIn, countedIn, countIn, senseIn, switchIn, loadOf, inOf, outIn, groupsAt, inputsAt, laterOf, payloadOf, readOf, numberOf, noCounts, countsOf, countsIn, takenAt};
+ghost use Rattle.records.specs.Record.{senseOf, setupIn, bareIn, countedIn, countIn, senseIn, switchIn, loadOf, inOf, outIn, wiresIn, groupsAt, inputsAt, laterOf, payloadOf, readOf, numberOf, noCounts, countsOf, countsIn, takenAt};
 use events::BusEvent;
 use events::Checked;
 use events::Counts;
@@ -171,6 +171,16 @@ fn host_out(b: &[u8]) -> Payload
     Payload::Whole(Event::OnBus(BusEvent::Out(b[0])))
 }
 
+// Any number of cells: who takes the record judges it.
+fn wires_in(b: &[u8]) -> Payload
+    ensures { λ r. ⌜ r ≡ wiresIn (now (b .entry)) ⌝ }
+{
+    if b.len() != 1 {
+        return Payload::Unfit(2);
+    }
+    Payload::Whole(Event::Wires(b[0]))
+}
+
 // How many groups of five inputs a part has: at most three.
 pub fn groups_at(part: u8) -> u8
     ensures { λ r. ⌜ r ≡ groupsAt part ⌝ }
@@ -202,6 +212,7 @@ fn later_of(kind: u16, part: u8, b: &[u8]) -> Payload
         0x0011 => host_out(b),
         0x0012 => host_in(b),
         0x0013 => bare_in(Event::OnBus(BusEvent::Stop), b),
+        0x0016 => wires_in(b),
         _ => Payload::Unfit(2),
     }
 }
@@ -308,6 +319,7 @@ pub fn counts_in(event: Event, payload: &[u8]) -> Counts
         Event::Load(_) => no_counts(),
         Event::Xready => no_counts(),
         Event::OnBus(_) => no_counts(),
+        Event::Wires(_) => no_counts(),
     }
 }
 

@@ -73,7 +73,7 @@ unnamed u r a h p q s = simp (le-ltb a 0x0C (omega arith), le-ltb a 0x34 h, ne-e
 
 -- ── no read depends on the offset, but 0x51 itself ──
 abbrev pub withOffset : ℕ → Setup → Setup
-withOffset o u = record { part = u .part; crc = u .crc; address = u .address; gain = u .gain; offset = o; floor = u .floor }
+withOffset o u = record { part = u .part; crc = u .crc; address = u .address; gain = u .gain; offset = o; floor = u .floor; cells = u .cells }
 
 pub offset-alone : (o : ℕ) (u : Setup) (r : Registers) (a : ℕ) → (a ≡ 0x51 → ⊥) → readAt (withOffset o u) r a ≡ readAt u r a
 unfolding readAt lowByte balanceByte wordAt fixedByte groups inputs

@@ -5,7 +5,7 @@ use Prim.Native.Nat.{ℕ}
 use mathlib.Core.List.{List, [], _∷_}
 use mathlib.Core.Bool.{Bool, true, false, cond, _&&_}
 use lib.IntN.{ℤ}
-use lib.Dec.{leb}
+use lib.Dec.{leb, eqb}
 use borrow.Author.Tests.{ne-eqb, eq-eqb}
 use Rattle.events.specs.Event.{countsFit}
 use Rattle.events.specs.declared.Setup.{Setup}
@@ -13,7 +13,8 @@ use Rattle.events.specs.declared.Counts.{Counts}
 use Rattle.events.specs.declared.BusEvent.{BusEvent}
 use Rattle.events.specs.declared.BusEvent.the-variants.{Start, Out, In, Stop}
 use Rattle.events.specs.declared.Event.{Event}
-use Rattle.events.specs.declared.Event.the-variants.{Setup as SetupEvent, OnBus}
+use Rattle.events.specs.declared.Event.the-variants.{Setup as SetupEvent, OnBus, Wires}
+use Rattle.wiring.specs.Rows.{hasRow}
 use Rattle.records.specs.Numbers.{bitOf}
 use Rattle.records.specs.Record.{setupGood, noCounts}
 use Rattle.writer.specs.Write.{recordOf, recordFor, bytes32, bits32, valueRefusal, refusalFor, Writes, Puts}
@@ -30,11 +31,11 @@ and-true : (b : Bool) → b && true ≡ b
 and-true true = refl
 and-true false = refl
 
-pub good-is : (v : Setup) → leb 1 (v .part) && leb (v .part) 3 && leb 0x08 (v .address) && leb (v .address) 0x77 && leb (v .gain) 31 && leb (v .floor) 4095 ≡ setupGood v
+pub good-is : (v : Setup) → leb 1 (v .part) && leb (v .part) 3 && leb 0x08 (v .address) && leb (v .address) 0x77 && leb (v .gain) 31 && leb (v .floor) 4095 && eqb (v .cells) 0 ≡ setupGood v
 good-is v =
     let e : leb 1 (v .part) && leb (v .part) 3 && leb (bitOf (v .crc)) 1 ≡ leb 1 (v .part) && leb (v .part) 3 =
     ap (λ (t : Bool). leb 1 (v .part) && leb (v .part) 3 && t) (bit-fits (v .crc)) ∙ and-true (leb 1 (v .part) && leb (v .part) 3) in
-    ap (λ (t : Bool). t && leb 0x08 (v .address) && leb (v .address) 0x77 && leb (v .gain) 31 && leb (v .floor) 4095) (sym e)
+    ap (λ (t : Bool). t && leb 0x08 (v .address) && leb (v .address) 0x77 && leb (v .gain) 31 && leb (v .floor) 4095 && eqb (v .cells) 0) (sym e)
 
 -- what follows for an event from what follows for the one it was found to be
 pub at-record : (k : Counts) (old : List ℕ) {r : Wrote} {new : List ℕ} {e e′ : Event} → e ≡ e′ → Writes (recordFor e′ k) old r new → Writes (recordFor e k) old r new
@@ -63,7 +64,7 @@ at-refusal k part {r} {e} {e′} q o p =
 
 -- SETUP's number says nothing of the part that stands
 pub at-setup : (k : Counts) (part : ℕ) {r : ℕ} {e : Event} (v : Setup) → e ≡ SetupEvent v → r ≡ refusalFor (SetupEvent v) k 0 → r ≡ refusalFor e k part
-unfolding refusalFor
+unfolding refusalFor valueRefusal
 at-setup k part v q p = p ∙ ap (λ (e : Event). refusalFor e k part) (sym q)
 
 -- SETUP's number from the answers of the three looks
@@ -76,6 +77,18 @@ setup-number v k p f g hp hf hg =
   where
     number : Bool → Bool → Bool → ℕ
     number p f g = cond p (cond f (cond g 0 1) 2) 1
+
+-- and a wiring record's
+pub wires-number : (n part : ℕ) (k : Counts) (p f g : Bool) → leb 1 part && leb part 3 ≡ p → f ≡ countsFit 0 k → g ≡ hasRow part n → cond p (cond f (cond g 0 13) 2) 1 ≡ refusalFor (Wires n) k part
+unfolding refusalFor valueRefusal
+wires-number n part k p f g hp hf hg =
+    ap (λ (p : Bool). number p f g) (sym hp) ∙ ap (λ (f : Bool). number (leb 1 part && leb part 3) f g) hf ∙ ap (λ (g : Bool). number (leb 1 part && leb part 3) (countsFit 0 k) g) hg
+  where
+    number : Bool → Bool → Bool → ℕ
+    number p f g = cond p (cond f (cond g 0 13) 2) 1
+
+pub at-wires : (k : Counts) (part : ℕ) {r : ℕ} {e : Event} (n : ℕ) → e ≡ Wires n → r ≡ refusalFor (Wires n) k part → r ≡ refusalFor e k part
+at-wires k part n q p = p ∙ ap (λ (e : Event). refusalFor e k part) (sym q)
 
 -- an event that is refused, and one that is not
 pub refused-puts : (k j : ℕ) (bytes old : List ℕ) → j ≡ k → (j ≡ 0 → ⊥) → Puts k bytes old (Refused j) old

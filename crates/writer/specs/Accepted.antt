@@ -8,7 +8,7 @@ use lib.Dec.{leb}
 use Rattle.events.specs.Event.{countsWanted, countsFit}
 use Rattle.events.specs.declared.Counts.{Counts}
 use Rattle.events.specs.declared.Event.{Event}
-use Rattle.events.specs.declared.Event.the-variants.{Setup as Setup-, Por, Boot, Scan, Temp, Count, Sense, Pin, Load, Xready, OnBus}
+use Rattle.events.specs.declared.Event.the-variants.{Setup as Setup-, Por, Boot, Scan, Temp, Count, Sense, Pin, Load, Xready, OnBus, Wires}
 use Rattle.checks.specs.Counted.{fit-is}
 use Rattle.records.specs.Record.{standing}
 use Rattle.records.specs.Counted.{few-groups, few-inputs}
@@ -27,11 +27,12 @@ wanted-few part Pin = omega arith
 wanted-few part (Load l) = omega arith
 wanted-few part Xready = omega arith
 wanted-few part (OnBus b) = omega arith
+wanted-few part (Wires n) = omega arith
 
 pub record Accepted (e : Event) (k : Counts) (part : ℕ) : Type 0 where
   pub part-fits : leb 1 (partFor e part) && leb (partFor e part) 3 ≡ true
   pub counts-fit : countsFit (countsWanted (standing part) e) k ≡ true
-  pub values-fit : valueRefusal e k ≡ 0
+  pub values-fit : valueRefusal e k part ≡ 0
 
 accepted-by : (t u : Bool) (n : ℕ) → cond t (cond u n 2) 1 ≡ 0 → (t ≡ true) × (u ≡ true) × (n ≡ 0)
 accepted-by true true n h = (refl, refl, h)
@@ -41,8 +42,8 @@ accepted-by false u n h = absurd (omega arith)
 pub accepted : (e : Event) (k : Counts) (part : ℕ) → refusalFor e k part ≡ 0 → Accepted e k part
 unfolding refusalFor
 accepted e k part h =
-    let a : (leb 1 (partFor e part) && leb (partFor e part) 3 ≡ true) × (countsFit (countsWanted (standing part) e) k ≡ true) × (valueRefusal e k ≡ 0) =
-    accepted-by (leb 1 (partFor e part) && leb (partFor e part) 3) (countsFit (countsWanted (standing part) e) k) (valueRefusal e k) h in
+    let a : (leb 1 (partFor e part) && leb (partFor e part) 3 ≡ true) × (countsFit (countsWanted (standing part) e) k ≡ true) × (valueRefusal e k part ≡ 0) =
+    accepted-by (leb 1 (partFor e part) && leb (partFor e part) 3) (countsFit (countsWanted (standing part) e) k) (valueRefusal e k part) h in
     record { part-fits = a .0; counts-fit = a .1; values-fit = a .2 }
 
 pub not-refused : (e : Event) (k : Counts) (part : ℕ) → Accepted e k part → refusalFor e k part ≡ 0

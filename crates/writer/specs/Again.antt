@@ -1,5 +1,5 @@
--- The other way round: a record that was read is one that the writer accepts, and its bytes are those that the writer writes for it.
--- Assumes nothing.
+-- The other way round: a record that was read is one that the writer accepts, but for a wiring record without a row, and its bytes are those
+-- that the writer writes for it. Assumes nothing.
 use mathlib.Core.Path.{_≡_, refl, ap, ap₂, sym, _∙_, subst}
 use Prim.Native.Nat.{ℕ, suc, zero, _+_, _-_, _*_, _/_, _%_, _<_, _≤_}
 use mathlib.Core.List.{List, [], _∷_}
@@ -17,13 +17,14 @@ use Rattle.events.specs.declared.Setup.{Setup as SetupValues}
 use Rattle.events.specs.declared.Counts.{Counts}
 use Rattle.events.specs.declared.BusEvent.the-variants.{Start, Out, In, Stop}
 use Rattle.events.specs.declared.Event.{Event}
-use Rattle.events.specs.declared.Event.the-variants.{Setup, Por, Boot, Scan, Temp, Count, Sense, Pin, Load, Xready, OnBus}
-use Rattle.records.specs.Kind.{SETUP, POR, BOOT, SCAN, TEMP, COUNT, SENSE, PIN, LOAD, XREADY, START, OUT, IN, STOP}
+use Rattle.events.specs.declared.Event.the-variants.{Setup, Por, Boot, Scan, Temp, Count, Sense, Pin, Load, Xready, OnBus, Wires}
+use Rattle.wiring.specs.Rows.{hasRow}
+use Rattle.records.specs.Kind.{SETUP, POR, BOOT, SCAN, TEMP, COUNT, SENSE, PIN, LOAD, XREADY, START, OUT, IN, STOP, WIRES}
 use Rattle.records.specs.Numbers.{le16, le32, signed32, bitOf, words}
 use Rattle.records.specs.Record.{setupGood, checkedIn, setupIn, countedIn, senseOf, groupsAt, inputsAt, standing, laterOf, payloadOf, readOf, countsOf, countsIn, countsBeside}
 use Rattle.records.specs.Counted.{many-is, counts-taken, few-groups, few-inputs}
 use Rattle.records.specs.Reading.{WholeAt, read-whole, later-by, cond-by}
-use Rattle.records.specs.Sound.{bit-back, crc-back, and-left, IsSetup, first-setup, Meaning, later-means}
+use Rattle.records.specs.Sound.{bit-back, crc-back, and-left, IsSetup, first-setup, Meaning, isWires, later-means}
 use Rattle.records.specs.declared.Payload.{Payload}
 use Rattle.records.specs.declared.Payload.the-variants.{Whole, Unfit}
 use Rattle.records.specs.declared.Read.the-variants.{Record}
@@ -63,6 +64,7 @@ module _ (b : List ℕ) (h : Bytes b) where
       (sized OUT 1 (Whole (OnBus (Out (getD b 0 0)))) (λ l. (refl, one-forth b l)))
       (sized IN 1 (cond bit (Whole (OnBus (In level))) (Unfit 3)) (λ l. ranged IN bit (Whole (OnBus (In level))) (λ f. (refl, switch-forth l f))))
       (sized STOP 0 (Whole (OnBus Stop)) (λ l. (refl, none-forth b l)))
+      (sized WIRES 1 (Whole (Wires (getD b 0 0))) (λ l. (refl, one-forth b l)))
       (λ (k : ℕ). tt)
       kind
     where
@@ -159,10 +161,11 @@ setup-accepted (Setup v) part b h = record { part-fits = setup-part v h; counts-
     setup-part v h =
         let x : Bool = leb 1 (v .part) && leb (v .part) 3 in
         let y : Bool = x && leb (bitOf (v .crc)) 1 && leb 0x08 (v .address) && leb (v .address) 0x77 in
+        let f : setupFits (v .part) (bitOf (v .crc)) (v .address) (v .gain) (v .floor) ≡ true = and-left _ (eqb (v .cells) 0) h in
         and-left x (leb (bitOf (v .crc)) 1)
         (and-left (x && leb (bitOf (v .crc)) 1) (leb 0x08 (v .address))
         (and-left (x && leb (bitOf (v .crc)) 1 && leb 0x08 (v .address)) (leb (v .address) 0x77)
-        (and-left y (leb (v .gain) 31) (and-left (y && leb (v .gain) 31) (leb (v .floor) 4095) h))))
+        (and-left y (leb (v .gain) 31) (and-left (y && leb (v .gain) 31) (leb (v .floor) 4095) f))))
 setup-accepted Por part b h = absurd h
 setup-accepted Boot part b h = absurd h
 setup-accepted Scan part b h = absurd h
@@ -173,6 +176,7 @@ setup-accepted Pin part b h = absurd h
 setup-accepted (Load l) part b h = absurd h
 setup-accepted Xready part b h = absurd h
 setup-accepted (OnBus x) part b h = absurd h
+setup-accepted (Wires n) part b h = absurd h
 
 meant-by : (t : Bool) (x : Meant) (ev : Meant-event) → cond t x unfit ≡ means ev → (t ≡ true) × (x ≡ means ev)
 meant-by true x ev h = (refl, h)
@@ -185,7 +189,7 @@ module _ (k : Counts) (part : ℕ) where
   counts-value : (n : ℕ) → countsFit n k ≡ true → within countMost (take n (k .of)) ≡ true → _≡_ {A = ℕ} (cond (within countMost (take (k .many) (k .of))) 0 3) 0
   counts-value n c f = let w : within countMost (take (k .many) (k .of)) ≡ true = ap (λ (i : ℕ). within countMost (take i (k .of))) (fit-is n k c .0) ∙ f in simp w
 
-  value-fits : (e : Event) (ev : Meant-event) → countsFit (countsWanted (standing part) e) k ≡ true → eventOf (standing part) e (k .of) ≡ means ev → fits ev ≡ true → valueRefusal e k ≡ 0
+  value-fits : (e : Event) (ev : Meant-event) → countsFit (countsWanted (standing part) e) k ≡ true → eventOf (standing part) e (k .of) ≡ means ev → fits ev ≡ true → valueRefusal e k part ≡ 0
   unfolding valueRefusal fits
   value-fits (Setup v) ev c m f = absurd (let z : _≡_ {A = ℕ} 0 1 = cc in omega arith)
   value-fits Por ev c m f = refl
@@ -198,6 +202,7 @@ module _ (k : Counts) (part : ℕ) where
   value-fits (Load l) ev c m f = refl
   value-fits Xready ev c m f = refl
   value-fits (OnBus b) ev c m f = refl
+  value-fits (Wires n) ev c m f = absurd (let z : _≡_ {A = ℕ} 0 1 = cc in omega arith)
 
   stood : (e : Event) → leb 1 part && leb part 3 ≡ true → (ev : Meant-event) → countsFit (countsWanted (standing part) e) k ≡ true → eventOf (standing part) e (k .of) ≡ means ev → leb 1 (partFor e part) && leb (partFor e part) 3 ≡ true
   stood (Setup v) p ev c m = absurd (let z : _≡_ {A = ℕ} 0 1 = cc in omega arith)
@@ -211,6 +216,7 @@ module _ (k : Counts) (part : ℕ) where
   stood (Load l) p ev c m = p
   stood Xready p ev c m = p
   stood (OnBus b) p ev c m = p
+  stood (Wires n) p ev c m = p
 
   later-accepted : (e : Event) → leb 1 part && leb part 3 ≡ true → Meaning (standing part) e k → Accepted e k part
   unfolding meantOf
@@ -218,11 +224,11 @@ module _ (k : Counts) (part : ℕ) where
       let m : (countsFit (countsWanted (standing part) e) k ≡ true) × (eventOf (standing part) e (k .of) ≡ means (g .event)) = meant-by _ _ (g .event) (g .meant) in
       record { part-fits = stood e p (g .event) (m .0) (m .1); counts-fit = m .0; values-fit = value-fits e (g .event) (m .0) (m .1) (g .fit) }
 
-accepted-at : (part : ℕ) (r : List ℕ) (e : Event) (next : ℕ) → part ≤ 3 → readOf part r ≡ Record e next → Accepted e (countsBeside r (Record e next)) part
-accepted-at zero r e next h ok = setup-accepted e zero (take (next - 4) (drop 4 r)) (first-setup r e next ok)
-accepted-at (suc n) r e next h ok =
+accepted-at : (part : ℕ) (r : List ℕ) (e : Event) (next : ℕ) → part ≤ 3 → isWires e ≡ false → readOf part r ≡ Record e next → Accepted e (countsBeside r (Record e next)) part
+accepted-at zero r e next h w ok = setup-accepted e zero (take (next - 4) (drop 4 r)) (first-setup r e next ok)
+accepted-at (suc n) r e next h w ok =
     later-accepted (countsBeside r (Record e next)) (suc n) e (simp (le-leb 1 (suc n) (omega arith), le-leb (suc n) 3 h))
-    (later-means (standing (suc n)) r e next (λ z. omega (arith, z)) ok)
+    (later-means (standing (suc n)) r e next (λ z. omega (arith, z)) ok w)
 
 -- ── THE OTHER WAY ROUND ──
 module _ (part : ℕ) (r : List ℕ) (e : Event) (next : ℕ) (ok : readOf part r ≡ Record e next) where
@@ -241,5 +247,12 @@ module _ (part : ℕ) (r : List ℕ) (e : Event) (next : ℕ) (ok : readOf part 
       ∙ ap₂ recordOf (sym (s .0)) (s .1) ∙ frame-forth r h (whole .header) (whole .room) ∙ ap (λ (i : ℕ). take i r) (sym (whole .ended))
 
   -- and the writer refuses none of them
-  pub same-accepted : part ≤ 3 → refusalFor e (countsBeside r (Record e next)) part ≡ 0
-  same-accepted h = not-refused e (countsBeside r (Record e next)) part (accepted-at part r e next h ok)
+  pub same-accepted : part ≤ 3 → isWires e ≡ false → refusalFor e (countsBeside r (Record e next)) part ≡ 0
+  same-accepted h w = not-refused e (countsBeside r (Record e next)) part (accepted-at part r e next h w ok)
+
+-- but a wiring record, which is read with any number of cells, where the part has no row for it
+pub same-wires : (part : ℕ) (r : List ℕ) (n next : ℕ) → readOf part r ≡ Record (Wires n) next → part ≤ 3
+    → refusalFor (Wires n) (countsBeside r (Record (Wires n) next)) part ≡ cond (hasRow part n) 0 13
+unfolding refusalFor valueRefusal countsIn countsFit
+same-wires zero r n next ok h = absurd (first-setup r (Wires n) next ok)
+same-wires (suc k) r n next ok h = simp (le-leb 1 (suc k) (omega arith), le-leb (suc k) 3 h)

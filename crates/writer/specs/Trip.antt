@@ -11,19 +11,19 @@ use lib.ListN.{length, take, drop, length-append}
 use lib.Seq.{take-append-seam, length-take-le}
 use native.Mathlib.Nat.{zero-add}
 use borrow.Author.Tests.{le-ltb, ne-eqb, eq-eqb, leb-true, eqb-true}
-use Rattle.events.specs.Setup.{setupOf, checkedOf}
+use Rattle.events.specs.Setup.{setupFits, setupOf, checkedOf}
 use Rattle.events.specs.Event.{within, countMost, countsFit}
 use Rattle.events.specs.declared.Setup.{Setup as SetupValues}
 use Rattle.events.specs.declared.Counts.{Counts}
 use Rattle.events.specs.declared.Checked.the-variants.{Good}
 use Rattle.events.specs.declared.BusEvent.the-variants.{Start, Out, In, Stop}
 use Rattle.events.specs.declared.Event.{Event}
-use Rattle.events.specs.declared.Event.the-variants.{Setup, Por, Boot, Scan, Temp, Count, Sense, Pin, Load, Xready, OnBus}
+use Rattle.events.specs.declared.Event.the-variants.{Setup, Por, Boot, Scan, Temp, Count, Sense, Pin, Load, Xready, OnBus, Wires}
 use Rattle.records.specs.Numbers.{bitOf, filled}
 use Rattle.records.specs.Record.{setupGood, checkedIn, setupIn, countedIn, groupsAt, inputsAt, laterOf, payloadOf, asRead, readOf, noCounts, countsOf, countsIn, countsBeside, takenFrom, takenAt}
 use Rattle.records.specs.Counted.{many-is}
 use Rattle.records.specs.Reading.{taken-moved}
-use Rattle.records.specs.Sound.{and-left}
+use Rattle.records.specs.Sound.{and-left, and-right}
 use Rattle.records.specs.declared.Payload.the-variants.{Whole}
 use Rattle.records.specs.declared.Read.the-variants.{Record}
 use Rattle.records.specs.declared.Taken.{Taken}
@@ -46,6 +46,7 @@ standsFor Pin part = part
 standsFor (Load l) part = part
 standsFor Xready part = part
 standsFor (OnBus b) part = part
+standsFor (Wires n) part = part
 
 -- the frame of a record, whatever follows it
 pub framed : (part kind : ℕ) (b rest : List ℕ) → length b < 65536 → readOf part (recordOf kind b ++ rest) ≡ asRead (4 + length b) (payloadOf kind part b)
@@ -55,16 +56,18 @@ framed part kind b rest h =
     simp (back16 (length b), back16 kind, le-ltb (length (recordOf kind b ++ rest)) 4 (omega arith), le-ltb (length (recordOf kind b ++ rest) - 4) (length b) (omega arith), take-append-seam b rest)
 
 -- ── each payload is read as its event ──
-setup-same : (v : SetupValues) → setupOf (v .part) (bitOf (v .crc)) (v .address) (v .gain) (v .offset) (v .floor) ≡ v
-setup-same v =
-    ap (λ (t : Bool). with-crc t) (bit-same (v .crc))
+setup-same : (v : SetupValues) → v .cells ≡ 0 → setupOf (v .part) (bitOf (v .crc)) (v .address) (v .gain) (v .offset) (v .floor) ≡ v
+setup-same v z =
+    ap (λ (t : Bool). with-crc t 0) (bit-same (v .crc)) ∙ ap (with-crc (v .crc)) (sym z)
   where
-    with-crc : Bool → SetupValues
-    with-crc t = record { part = v .part; crc = t; address = v .address; gain = v .gain; offset = v .offset; floor = v .floor }
+    with-crc : Bool → ℕ → SetupValues
+    with-crc t n = record { part = v .part; crc = t; address = v .address; gain = v .gain; offset = v .offset; floor = v .floor; cells = n }
 
 checked-good : (v : SetupValues) → setupGood v ≡ true → checkedOf (v .part) (bitOf (v .crc)) (v .address) (v .gain) (v .offset) (v .floor) ≡ Good v
 unfolding checkedOf
-checked-good v h = simp h (ap Good (setup-same v))
+checked-good v h =
+    let f : setupFits (v .part) (bitOf (v .crc)) (v .address) (v .gain) (v .floor) ≡ true = and-left _ (eqb (v .cells) 0) h in
+    simp f (ap Good (setup-same v (eqb-true (v .cells) 0 (and-right (setupFits (v .part) (bitOf (v .crc)) (v .address) (v .gain) (v .floor)) _ h))))
 
 picked : (n : ℕ) (t : Bool) → cond t 0 (suc n) ≡ 0 → t ≡ true
 picked n true h = refl
@@ -108,6 +111,7 @@ payload-back (OnBus (Out b)) k part a l = simp (ne-eqb part 0 (stands part (a .p
 payload-back (OnBus (In true)) k part a l = simp (ne-eqb part 0 (stands part (a .part-fits)))
 payload-back (OnBus (In false)) k part a l = simp (ne-eqb part 0 (stands part (a .part-fits)))
 payload-back (OnBus Stop) k part a l = simp (ne-eqb part 0 (stands part (a .part-fits)))
+payload-back (Wires n) k part a l = simp (ne-eqb part 0 (stands part (a .part-fits)))
 
 payload-short : (e : Event) (k : Counts) (part : ℕ) → Accepted e k part → length (k .of) ≡ 15 → length (payloadFor e k) < 65536
 payload-short (Setup v) k part a l = omega arith
@@ -124,6 +128,7 @@ payload-short (OnBus Start) k part a l = omega arith
 payload-short (OnBus (Out b)) k part a l = omega arith
 payload-short (OnBus (In t)) k part a l = omega arith
 payload-short (OnBus Stop) k part a l = omega arith
+payload-short (Wires n) k part a l = omega arith
 
 -- ── and the counts as they were ──
 zero-head : (x : ℕ) (l : Bool) (t : Bool) → leb x 0 ≡ t → t && l ≡ true → (0 ≡ x) × (l ≡ true)
@@ -180,6 +185,7 @@ counts-back Pin k part a l = none-back k 0 (a .counts-fit) l refl
 counts-back (Load t) k part a l = none-back k 0 (a .counts-fit) l refl
 counts-back Xready k part a l = none-back k 0 (a .counts-fit) l refl
 counts-back (OnBus b) k part a l = none-back k 0 (a .counts-fit) l refl
+counts-back (Wires n) k part a l = none-back k 0 (a .counts-fit) l refl
 
 -- ── THE ROUND TRIP ──
 -- what is accepted is read back, whatever follows it

@@ -11,8 +11,9 @@ use Rattle.events.specs.declared.Setup.{Setup as SetupValues}
 use Rattle.events.specs.declared.Counts.{Counts}
 use Rattle.events.specs.declared.BusEvent.the-variants.{Start, Out, In, Stop}
 use Rattle.events.specs.declared.Event.{Event}
-use Rattle.events.specs.declared.Event.the-variants.{Setup, Por, Boot, Scan, Temp, Count, Sense, Pin, Load, Xready, OnBus}
-use Rattle.records.specs.Kind.{SETUP, POR, BOOT, SCAN, TEMP, COUNT, SENSE, PIN, LOAD, XREADY, START, OUT, IN, STOP}
+use Rattle.events.specs.declared.Event.the-variants.{Setup, Por, Boot, Scan, Temp, Count, Sense, Pin, Load, Xready, OnBus, Wires}
+use Rattle.wiring.specs.Rows.{hasRow}
+use Rattle.records.specs.Kind.{SETUP, POR, BOOT, SCAN, TEMP, COUNT, SENSE, PIN, LOAD, XREADY, START, OUT, IN, STOP, WIRES}
 use Rattle.records.specs.Numbers.{bitOf}
 use Rattle.records.specs.Record.{setupGood, standing}
 use Rattle.writer.specs.declared.Wrote.{Wrote}
@@ -54,6 +55,7 @@ kindFor (OnBus Start) = START
 kindFor (OnBus (Out b)) = OUT
 kindFor (OnBus (In n)) = IN
 kindFor (OnBus Stop) = STOP
+kindFor (Wires n) = WIRES
 
 -- part, CRC, address, gain code, offset (1 each), floor (2)
 abbrev pub setupBytes : SetupValues → List ℕ
@@ -79,11 +81,12 @@ payloadFor (OnBus Start) k = []
 payloadFor (OnBus (Out b)) k = b ∷ []
 payloadFor (OnBus (In n)) k = bitOf n ∷ []
 payloadFor (OnBus Stop) k = []
+payloadFor (Wires n) k = n ∷ []
 
 unfoldable pub recordFor : Event → Counts → List ℕ
 recordFor e k = recordOf (kindFor e) (payloadFor e k)
 
--- ── refusals: 1 (part not 1 to 3), 2 (counts not fitting it), 1 or 3 ──
+-- ── refusals: 1 (part not 1 to 3), 2 (counts not fitting it), 1, 3 or 13 ──
 -- the part that counts: SETUP's own for SETUP
 abbrev pub partFor : Event → ℕ → ℕ
 partFor (Setup v) part = v .part
@@ -97,26 +100,28 @@ partFor Pin part = part
 partFor (Load l) part = part
 partFor Xready part = part
 partFor (OnBus b) part = part
+partFor (Wires n) part = part
 
--- 1 for a value of SETUP out of range, 3 for another
-unfoldable pub valueRefusal : Event → Counts → ℕ
-valueRefusal (Setup v) k = cond (setupGood v) 0 1
-valueRefusal Por k = 0
-valueRefusal Boot k = 0
-valueRefusal Scan k = cond (within countMost (take (k .many) (k .of))) 0 3
-valueRefusal Temp k = cond (within countMost (take (k .many) (k .of))) 0 3
-valueRefusal (Count n) k = 0
-valueRefusal (Sense v) k = cond (senseFits v) 0 3
-valueRefusal Pin k = 0
-valueRefusal (Load l) k = 0
-valueRefusal Xready k = 0
-valueRefusal (OnBus b) k = 0
+-- 1 for a value of SETUP out of range, 13 for a number of cells that the part has no row for, 3 for another
+unfoldable pub valueRefusal : Event → Counts → ℕ → ℕ
+valueRefusal (Setup v) k part = cond (setupGood v) 0 1
+valueRefusal Por k part = 0
+valueRefusal Boot k part = 0
+valueRefusal Scan k part = cond (within countMost (take (k .many) (k .of))) 0 3
+valueRefusal Temp k part = cond (within countMost (take (k .many) (k .of))) 0 3
+valueRefusal (Count n) k part = 0
+valueRefusal (Sense v) k part = cond (senseFits v) 0 3
+valueRefusal Pin k part = 0
+valueRefusal (Load l) k part = 0
+valueRefusal Xready k part = 0
+valueRefusal (OnBus b) k part = 0
+valueRefusal (Wires n) k part = cond (hasRow part n) 0 13
 
 -- the number that an event is refused with at a part, or 0
 unfoldable pub refusalFor : Event → Counts → ℕ → ℕ
 refusalFor e k part =
     cond (leb 1 (partFor e part) && leb (partFor e part) 3)
-    (cond (countsFit (countsWanted (standing part) e) k) (valueRefusal e k) 2)
+    (cond (countsFit (countsWanted (standing part) e) k) (valueRefusal e k part) 2)
     1
 
 -- ── then 5, where the buffer is too short; no other byte than the record's is written ──

@@ -3,7 +3,7 @@ ghost use mathlib.Core.Path.{_≡_};
 ghost use Prim.Native.Nat.{_*_, _≤_};
 ghost use mathlib.Core.List.{[], _∷_};
 ghost use lib.ListN.{length, take};
-ghost use Rattle.events.specs.declared.Event.the-variants.{Setup as SetupEvent, OnBus};
+ghost use Rattle.events.specs.declared.Event.the-variants.{Setup as SetupEvent, OnBus, Wires};
 ghost use Rattle.records.specs.Numbers.{bitOf};
 ghost use Rattle.records.specs.Record.{setupGood, standing, noCounts};
 ghost use Rattle.writer.specs.Write.{bits32, bytes16, bytes32, wordBytes, writtenOf, recordOf, recordFor, refusalFor, setupBytes, Writes, Puts};
@@ -42,6 +42,7 @@ fn setup_good(v: Setup) -> bool
         & (v.address <= 0x77)
         & (v.gain <= 31)
         & (v.floor <= 4095)
+        & (v.cells == 0)
 }
 
 // A record with no payload.
@@ -170,6 +171,7 @@ fn standing_at(part: u8) -> Setup
         gain: 0,
         offset: 0,
         floor: 0,
+        cells: 0,
     }
 }
 
@@ -183,6 +185,22 @@ fn setup_refusal(v: Setup, counts: Counts) -> u8
                 return 0;
             }
             return 1;
+        }
+        return 2;
+    }
+    1
+}
+
+// The part, the counts and the row of a wiring record, in this order.
+fn wires_refusal(cells: u8, counts: Counts, part: u8) -> u8
+    ensures { λ r. ⌜ r ≡ refusalFor (Wires cells) counts part ⌝ }
+{
+    if (1 <= part) & (part <= 3) {
+        if checks::counts_fit(0, counts) {
+            if wiring::has_row(part, cells) {
+                return 0;
+            }
+            return 13;
         }
         return 2;
     }
@@ -215,6 +233,7 @@ fn refusal(event: Event, counts: Counts, part: u8) -> u8
         Event::Load(_) => refusal_at(event, counts, part),
         Event::Xready => refusal_at(event, counts, part),
         Event::OnBus(_) => refusal_at(event, counts, part),
+        Event::Wires(cells) => wires_refusal(cells, counts, part),
     }
 }
 
@@ -246,11 +265,12 @@ fn put_event(event: Event, counts: Counts, out: &mut [u8]) -> Wrote
         Event::Load(level) => write_byte(out, 0x0008, bit_of(level)),
         Event::Xready => write_bare(out, 0x0009),
         Event::OnBus(bus) => put_bus(bus, out),
+        Event::Wires(cells) => write_byte(out, 0x0016, cells),
     }
 }
 
-// Writes an event's record at a part, SETUP's own for SETUP. It refuses with 1 (part not 1 to 3), 2 (counts not fitting it), 1 or 3
-// (a value out of range), then 5 (no room), and writes no other byte than the record's.
+// Writes an event's record at a part, SETUP's own for SETUP. It refuses with 1 (part not 1 to 3), 2 (counts not fitting it), 1, 3 or
+// 13 (a value out of range, no row for a number of cells), then 5 (no room), and writes no other byte than the record's.
 pub fn write_record(event: Event, counts: Counts, part: u8, out: &mut [u8]) -> Wrote
     ensures { λ r. ⌜ Puts (refusalFor event counts part) (recordFor event counts) (now (out .entry)) r (now (out .exit)) ⌝ }
 {

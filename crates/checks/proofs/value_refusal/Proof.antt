@@ -83,6 +83,7 @@ value-refusal-spec =
     (λ c. search needs)
     (λ c. search needs)
     (λ c. search needs)
+    (λ c. search needs)
     returns-2
     returns-3
     returns-4
@@ -95,4 +96,5 @@ value-refusal-spec =
     returns-11
     returns-12
     returns-13
-    returns-14)
+    returns-14
+    (λ c. search needs))

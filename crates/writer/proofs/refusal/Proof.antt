@@ -1,6 +1,6 @@
 -- `refusal` asks SETUP's looks or those of every other event, case by case.
 use mathlib.Core.Path.{refl}
-use Rattle.writer.proofs.Refusals.{at-setup, at-refusal}
+use Rattle.writer.proofs.Refusals.{at-setup, at-refusal, at-wires}
 use borrow.Author.Needs.{needs}
 use Rattle.writer.proofs.refusal.Statement.{statement}
 use Rattle.writer.proofs.refusal.Tie as tie
@@ -38,10 +38,15 @@ returns-10 c = let a = c .before .before .before in at-refusal (a .args .counts)
 returns-11 : tie.Need-returns-11
 returns-11 c = let a = c .before .before .before in at-refusal (a .args .counts) (a .args .part) (c .before .enum-told10 .given .1) refl (c .refusal-at10 .ensures)
 
+returns-12 : tie.Need-returns-12
+returns-12 c = let a = c .before .before .before .before in at-wires (a .args .counts) (a .args .part) _ (c .before .before .event2 .given .1) (c .wires-refusal .ensures)
+
 pub refusal-spec : {M : Type 1} → statement M
 refusal-spec =
     tie.close
     (tie.spec
+    (λ c. search needs)
+    (λ c κs. search needs)
     (λ c. search needs)
     (λ c κs. search needs)
     (λ c. search needs)
@@ -74,4 +79,5 @@ refusal-spec =
     returns-8
     returns-9
     returns-10
-    returns-11)
+    returns-11
+    returns-12)

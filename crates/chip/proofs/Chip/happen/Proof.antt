@@ -52,10 +52,15 @@ returns-11 : tie.Need-returns-11
 unfolding fits
 returns-11 c = as-event (c .before .before .before .before .args .counts) (c .before .before .before .before .args .self) (c .before .before .event4 .given .1) (in-range (OnBus _) (c .before .before .before .before .args .self) refl (c .on-bus .ensures))
 
+returns-12 : tie.Need-returns-12
+returns-12 c = as-event (c .before .before .before .args .counts) (c .before .before .before .args .self) (c .before .enum-told8 .given .1) (c .quiet2 .ensures)
+
 pub happen-spec : {M : Type 1} → statement M
 happen-spec =
     tie.close
     (tie.spec
+    (λ c. search needs)
+    (λ c κs. search needs)
     (λ c. search needs)
     (λ c κs. search needs)
     (λ c. search needs)
@@ -88,4 +93,5 @@ happen-spec =
     returns-8
     returns-9
     returns-10
-    returns-11)
+    returns-11
+    returns-12)

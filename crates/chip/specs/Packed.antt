@@ -1,0 +1,48 @@
+-- A reading of counts in fifteen places is one of the counts alone. Assumes nothing.
+use mathlib.Core.Path.{_≡_, sym, ap, subst, _∙_}
+use mathlib.Core.List.{List}
+use Prim.Native.Nat.{ℕ, _≤_}
+use native.Mathlib.Omega.{arith}
+use lib.IntN.{ℤ, pos, _+ℤ_}
+use lib.ListN.{length, getD, take}
+use lib.Seq.{take-length}
+use Rattle.scan.specs.Scan.{padded}
+use Rattle.events.specs.declared.Counts.{Counts}
+use Rattle.wiring.specs.Rows.{wiredInputs}
+use Rattle.wiring.specs.Numbered.{few-cells}
+use Rattle.wiring.specs.Kept.{countsOf, padded-at, take-padded, held-many}
+use Rattle.values.specs.Values.{cellMicrovolts}
+use Rattle.values.specs.Double.{IsDouble}
+use Rattle.values.specs.Forecast.{IsReading, fold, lesser, greater, voltages}
+use Rattle.values.specs.declared.Reading.{Reading}
+use Rattle.chip.specs.declared.Chip.{Chip}
+use Rattle.chip.specs.Outward.{packCounts, Reads}
+
+module _ (code offset : ℕ) (xs : List ℕ) (few : length xs ≤ 15) where
+  counts : take (length xs) (padded 15 xs) ≡ take (length xs) xs
+  counts = take-padded 15 xs few ∙ sym (take-length xs)
+
+  first : cellMicrovolts code offset (getD (padded 15 xs) 0 0) ≡ cellMicrovolts code offset (getD xs 0 0)
+  first = ap (cellMicrovolts code offset) (padded-at 15 xs 0 (omega arith))
+
+  folded : (f : ℤ → ℤ → ℤ) → fold f (cellMicrovolts code offset (getD (padded 15 xs) 0 0)) (voltages code offset (take (length xs) (padded 15 xs)))
+      ≡ fold f (cellMicrovolts code offset (getD xs 0 0)) (voltages code offset (take (length xs) xs))
+  folded f =
+      ap (λ (z : ℤ). fold f z (voltages code offset (take (length xs) (padded 15 xs)))) first
+      ∙ ap (λ (l : List ℕ). fold f (cellMicrovolts code offset (getD xs 0 0)) (voltages code offset l)) counts
+
+  pub unpadded : (cc : ℕ) (r : Reading) → IsReading code offset (length xs) (padded 15 xs) cc r → IsReading code offset (length xs) xs cc r
+  unpadded cc r p =
+      record {
+        least = subst (IsDouble (r .least)) (folded lesser) (p .least);
+        greatest = subst (IsDouble (r .greatest)) (folded greater) (p .greatest);
+        total = subst (IsDouble (r .total)) (ap (λ (l : List ℕ). fold _+ℤ_ (pos 0) (voltages code offset l)) counts) (p .total);
+        current = p .current;
+      }
+
+-- the reading of a pack's counts
+pub pack-reads : (c : Chip) (k : Counts) (r : Reading) → k ≡ countsOf (packCounts c)
+    → IsReading (c .setup .gain) (c .setup .offset) (k .many) (k .of) (c .registers .measured .cc) r → Reads c r
+pack-reads c k r q p =
+    unpadded (c .setup .gain) (c .setup .offset) (packCounts c) (omega (arith, few-cells (c .setup), held-many (c .registers .measured .cells) (wiredInputs (c .setup)))) (c .registers .measured .cc) r
+    (subst (λ (k : Counts). IsReading (c .setup .gain) (c .setup .offset) (k .many) (k .of) (c .registers .measured .cc) r) q p)

@@ -1,0 +1,4 @@
+pub mod Rows
+pub mod Upward
+pub mod Numbered
+pub mod Kept

@@ -1,0 +1,116 @@
+// Request M-107: which inputs the cells of a pack are wired to, by tables 3 to 5 of source document 000.
+ghost use mathlib.Core.Path.{_≡_};
+ghost use Rattle.wiring.specs.Rows.{hasRow, wiredBits, wiredWith, wiredInputs, packCells, inputOf};
+ghost use Rattle.wiring.specs.Kept.{kept, countsOf, heldBy};
+use events::Counts;
+use events::Setup;
+
+// The inputs that have a cell, by the number of cells: input 1 is the lowest bit. No two parts have a number in common.
+const WIRED: [u16; 16] = [
+    0,
+    0,
+    0,
+    0x0013,
+    0x0017,
+    0x001F,
+    0x0273,
+    0x0277,
+    0x02F7,
+    0x02FF,
+    0x03FF,
+    0x4EF7,
+    0x5EF7,
+    0x5EFF,
+    0x5FFF,
+    0x7FFF,
+];
+
+// All inputs of no part, and of parts 1 to 3.
+const INPUTS: [u16; 4] = [0, 0x001F, 0x03FF, 0x7FFF];
+
+pub enum Wiring {
+    With(Setup),
+    // Number 13.
+    NoRow,
+}
+
+// Whether a part has a row for a number of cells.
+pub fn has_row(part: u8, cells: u8) -> bool
+    ensures { λ r. ⌜ r ≡ hasRow part cells ⌝ }
+{
+    ((part == 1) & (3 <= cells) & (cells <= 5))
+        | ((part == 2) & (6 <= cells) & (cells <= 10))
+        | ((part == 3) & (11 <= cells) & (cells <= 15))
+}
+
+// The setup with a wiring record's number of cells.
+pub fn wire(setup: Setup, cells: u8) -> Wiring
+    ensures { λ r. ⌜ r ≡ wiredWith setup cells ⌝ }
+{
+    if has_row(setup.part, cells) {
+        return Wiring::With(Setup { cells, ..setup });
+    }
+    Wiring::NoRow
+}
+
+// The inputs that have a cell, input 1 the lowest bit: all of the part's where there is no wiring record.
+pub fn wired(setup: Setup) -> u16
+    ensures { λ r. ⌜ r ≡ wiredBits setup ⌝ }
+{
+    if has_row(setup.part, setup.cells) {
+        return WIRED[setup.cells as usize];
+    }
+    INPUTS[setup.groups() as usize]
+}
+
+// How many cells the pack has: as many as the part has inputs where there is no wiring record.
+pub fn cells(setup: Setup) -> u8
+    ensures { λ r. ⌜ r ≡ packCells setup ⌝ }
+{
+    if has_row(setup.part, setup.cells) {
+        return setup.cells;
+    }
+    setup.inputs()
+}
+
+// Of fifteen numbers those whose bit is set, in their order.
+fn packed(mask: u16, of: [u16; 15]) -> Counts
+    ensures { λ r. ⌜ r ≡ countsOf (kept mask of) ⌝ }
+{
+    let mut rest = mask;
+    let mut out = [0u16; 15];
+    let mut many = 0;
+    for i in 0..15 {
+        if rest % 2 == 1 {
+            out[many] = of[i];
+            many += 1;
+        }
+        rest = rest / 2;
+    }
+    Counts {
+        many: many as u8,
+        of: out,
+    }
+}
+
+// Of what each input holds what the cells of the pack hold, cell 1's first.
+pub fn pack(setup: Setup, held: [u16; 15]) -> Counts
+    ensures { λ r. ⌜ r ≡ countsOf (heldBy held (wiredInputs setup)) ⌝ }
+{
+    packed(wired(setup), held)
+}
+
+// The input of a cell of the pack, or 0 where it has no such cell.
+pub fn input_of(setup: Setup, cell: u8) -> u8
+    ensures { λ r. ⌜ r ≡ inputOf setup cell ⌝ }
+{
+    let inputs = pack(setup, [1, 2, 3, 4, 5, 6, 7, 8, 9, 10, 11, 12, 13, 14, 15]);
+    if cell < 1 {
+        return 0;
+    }
+    if inputs.many < cell {
+        return 0;
+    }
+    let of = inputs.of;
+    of[(cell - 1) as usize] as u8
+}
