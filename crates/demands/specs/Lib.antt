@@ -16,6 +16,7 @@ pub mod Clearing
 pub mod Spoiled
 pub mod Opened
 pub mod NoTrace
+pub mod Wired
 pub mod Streams
 pub mod Answered
 pub mod Latches

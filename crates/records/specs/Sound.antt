@@ -111,6 +111,21 @@ isWires Xready = false
 isWires (OnBus b) = false
 isWires (Wires n) = true
 
+-- to know something of every event, it is enough to know it of a wiring record and of every other
+pub wires-by : (P : Event → Type 0) → ((n : ℕ) → P (Wires n)) → ((e : Event) → isWires e ≡ false → P e) → (e : Event) → P e
+wires-by P w f (Setup v) = f (Setup v) refl
+wires-by P w f Por = f Por refl
+wires-by P w f Boot = f Boot refl
+wires-by P w f Scan = f Scan refl
+wires-by P w f Temp = f Temp refl
+wires-by P w f (Count n) = f (Count n) refl
+wires-by P w f (Sense v) = f (Sense v) refl
+wires-by P w f Pin = f Pin refl
+wires-by P w f (Load l) = f (Load l) refl
+wires-by P w f Xready = f Xready refl
+wires-by P w f (OnBus b) = f (OnBus b) refl
+wires-by P w f (Wires n) = w n
+
 abbrev LaterOk : SetupValues → List ℕ → Payload → Type 0
 LaterOk u b (Whole e) = isWires e ≡ false → Meaning u e (countsIn e b)
 LaterOk u b (Unfit k) = Unit

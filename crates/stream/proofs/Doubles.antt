@@ -9,10 +9,9 @@ use lib.Ieee.{Float}
 use lib.ListN.{length, drop, set}
 use borrow.Author.Tests.{eq-eqb, ne-eqb, lt-ltb, le-ltb}
 use Rattle.records.specs.Record.{readOf, numberOf}
-use Rattle.events.specs.Setup.{inputs}
-use Rattle.values.specs.Forecast.{IsReading}
 use Rattle.values.specs.declared.Reading.{Reading}
 use Rattle.chip.specs.declared.Chip.{Chip}
+use Rattle.chip.specs.Outward.{Reads}
 use Rattle.stream.specs.Stream.{lastChip}
 use Rattle.stream.specs.Forecast.{readingNumber, isGiven, Doubles, Contents, Read4}
 
@@ -53,7 +52,7 @@ module _ (s : List ℕ) (old : List Float) (c : Chip) (h : c ≡ lastChip s) whe
     read-short a l = of-chip s old old 5 c h (simp (stands, a, lt-ltb _ _ l)) (by-given false c old old (simp (stands, a, lt-ltb _ _ l)) refl)
 
     pub read-given : c .awake ≡ true → 4 ≤ length old → (r : Reading)
-        → IsReading (c .setup .gain) (c .setup .offset) (inputs (c .setup)) (c .registers .measured .cells) (c .registers .measured .cc) r
+        → Reads c r
         → Read4 s old 0 (set (set (set (set old 0 (r .least)) 1 (r .greatest)) 2 (r .total)) 3 (r .cc))
     read-given a l r i =
         of-chip s old _ 0 c h (simp (stands, a, le-ltb _ _ l))

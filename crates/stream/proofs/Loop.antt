@@ -86,76 +86,76 @@ ran {s} {old} {out} {c} {n} done e l m =
     }
 
 -- a turn of a run, where bytes are left
-runs-cons : (f : ℕ) (chip : Chip) (l : List ℕ) → 0 < length l
-    → runs (suc f) chip l ≡ turnOf chip l .entry ∷ cond (turnOf chip l .last) [] (runs f (turnOf chip l .chip) (drop (turnOf chip l .next) l))
-runs-cons f chip [] h = absurd (not-suc-le-zero h)
-runs-cons f chip (b ∷ l) h = refl
+runs-cons : (f : ℕ) (o : Bool) (chip : Chip) (l : List ℕ) → 0 < length l
+    → runs (suc f) o chip l ≡ turnOf o chip l .entry ∷ cond (turnOf o chip l .last) [] (runs f (turnOf o chip l .fresh) (turnOf o chip l .chip) (drop (turnOf o chip l .next) l))
+runs-cons f o chip [] h = absurd (not-suc-le-zero h)
+runs-cons f o chip (b ∷ l) h = refl
 
-stands-cons : (f : ℕ) (chip : Chip) (l : List ℕ) → 0 < length l
-    → stands (suc f) chip l ≡ cond (turnOf chip l .last) (turnOf chip l .chip) (stands f (turnOf chip l .chip) (drop (turnOf chip l .next) l))
-stands-cons f chip [] h = absurd (not-suc-le-zero h)
-stands-cons f chip (b ∷ l) h = refl
+stands-cons : (f : ℕ) (o : Bool) (chip : Chip) (l : List ℕ) → 0 < length l
+    → stands (suc f) o chip l ≡ cond (turnOf o chip l .last) (turnOf o chip l .chip) (stands f (turnOf o chip l .fresh) (turnOf o chip l .chip) (drop (turnOf o chip l .next) l))
+stands-cons f o chip [] h = absurd (not-suc-le-zero h)
+stands-cons f o chip (b ∷ l) h = refl
 
-stands-nil : (f : ℕ) (chip : Chip) → stands f chip [] ≡ chip
-stands-nil zero chip = refl
-stands-nil (suc f) chip = refl
+stands-nil : (f : ℕ) (o : Bool) (chip : Chip) → stands f o chip [] ≡ chip
+stands-nil zero o chip = refl
+stands-nil (suc f) o chip = refl
 
-runs-nil : (f : ℕ) (chip : Chip) → runs f chip [] ≡ []
-runs-nil zero chip = refl
-runs-nil (suc f) chip = refl
+runs-nil : (f : ℕ) (o : Bool) (chip : Chip) → runs f o chip [] ≡ []
+runs-nil zero o chip = refl
+runs-nil (suc f) o chip = refl
 
 -- a turn that is not the last goes past a header, and stays within the bytes
-turned-next : (chip : Chip) (rest : List ℕ) (x : Read) → Placed (length rest) x → turned chip rest x .last ≡ false
-    → (4 ≤ turned chip rest x .next) × (turned chip rest x .next ≤ length rest)
-turned-next chip rest (Record e n) h l = h
-turned-next chip rest (Refused k n) h l = h
-turned-next chip rest Cut h l = let z : _≡_ {A = ℕ} 0 1 = cc in absurd (omega arith)
+turned-next : (o : Bool) (chip : Chip) (rest : List ℕ) (x : Read) → Placed (length rest) x → turned o chip rest x .last ≡ false
+    → (4 ≤ turned o chip rest x .next) × (turned o chip rest x .next ≤ length rest)
+turned-next o chip rest (Record e n) h l = h
+turned-next o chip rest (Refused k n) h l = h
+turned-next o chip rest Cut h l = let z : _≡_ {A = ℕ} 0 1 = cc in absurd (omega arith)
 
-turn-next : (chip : Chip) (rest : List ℕ) → turnOf chip rest .last ≡ false → (4 ≤ turnOf chip rest .next) × (turnOf chip rest .next ≤ length rest)
+turn-next : (o : Bool) (chip : Chip) (rest : List ℕ) → turnOf o chip rest .last ≡ false → (4 ≤ turnOf o chip rest .next) × (turnOf o chip rest .next ≤ length rest)
 unfolding turnOf
-turn-next chip rest l = turned-next chip rest (readOf (chip .setup .part) rest) (placed (chip .setup .part) rest) l
+turn-next o chip rest l = turned-next o chip rest (readOf (chip .setup .part) rest) (placed (chip .setup .part) rest) l
 
 -- what stands at the loop's head: the entries done, and those that are still to come
-pub record Going (s old out : List ℕ) (chip : Chip) (at n : ℕ) : Type 0 where
+pub record Going (s old out : List ℕ) (o : Bool) (chip : Chip) (at n : ℕ) : Type 0 where
   pub done : List Entry
   pub made : Made done old out n
-  pub whole : entries s ≡ done ++ runs (length s - n) chip (drop at s)
-  pub ends : lastChip s ≡ stands (length s - n) chip (drop at s)
+  pub whole : entries s ≡ done ++ runs (length s - n) o chip (drop at s)
+  pub ends : lastChip s ≡ stands (length s - n) o chip (drop at s)
   pub slow : 4 * n ≤ at
   pub inside : at ≤ length s
 
-pub going-none : (s old : List ℕ) → Going s old old none 0 0
+pub going-none : (s old : List ℕ) → Going s old old false none 0 0
 unfolding entries lastChip
 going-none s old =
     let z : length s ≡ length s - 0 = omega arith in
-    record { done = []; made = made-none old; whole = ap (λ (k : ℕ). runs k none s) z; ends = ap (λ (k : ℕ). stands k none s) z; slow = omega arith; inside = omega arith }
+    record { done = []; made = made-none old; whole = ap (λ (k : ℕ). runs k false none s) z; ends = ap (λ (k : ℕ). stands k false none s) z; slow = omega arith; inside = omega arith }
 
-module _ (s old out : List ℕ) (chip : Chip) (at n : ℕ) (g : Going s old out chip at n) where
+module _ (s old out : List ℕ) (o : Bool) (chip : Chip) (at n : ℕ) (g : Going s old out o chip at n) where
   pub going-end : length s ≤ at → Ran s old chip out
   going-end h =
       let e : drop at s ≡ [] = drop-of-length-le s h in
-      ran (g .done) (g .whole ∙ rw (e, runs-nil (length s - n) chip, append-nil) refl) (sym (g .ends ∙ rw (e, stands-nil (length s - n) chip) refl)) (g .made)
+      ran (g .done) (g .whole ∙ rw (e, runs-nil (length s - n) o chip, append-nil) refl) (sym (g .ends ∙ rw (e, stands-nil (length s - n) o chip) refl)) (g .made)
 
   -- a turn t, and the buffer new after its entry was noted
-  module _ (h : at < length s) (t : Turn) (q : t ≡ turnOf chip (take (length s - at) (drop at s))) (new : List ℕ) (w : new ≡ noted out n (t .entry)) where
-    turn-is : t ≡ turnOf chip (drop at s)
-    turn-is = q ∙ ap (turnOf chip) (rest-is s at)
+  module _ (h : at < length s) (t : Turn) (q : t ≡ turnOf o chip (take (length s - at) (drop at s))) (new : List ℕ) (w : new ≡ noted out n (t .entry)) where
+    turn-is : t ≡ turnOf o chip (drop at s)
+    turn-is = q ∙ ap (turnOf o chip) (rest-is s at)
 
-    step : entries s ≡ g .done ++ (t .entry ∷ cond (t .last) [] (runs (length s - (n + 1)) (t .chip) (drop (at + t .next) s)))
+    step : entries s ≡ g .done ++ (t .entry ∷ cond (t .last) [] (runs (length s - (n + 1)) (t .fresh) (t .chip) (drop (at + t .next) s)))
     step =
         let l : 4 * n ≤ at = g .slow in
         let f : length s - n ≡ suc (length s - (n + 1)) = omega arith in
         g .whole ∙ ap (λ (m : List Entry). g .done ++ m)
-        (ap (λ (k : ℕ). runs k chip (drop at s)) f
-        ∙ runs-cons (length s - (n + 1)) chip (drop at s) (simp length-drop (omega arith))
+        (ap (λ (k : ℕ). runs k o chip (drop at s)) f
+        ∙ runs-cons (length s - (n + 1)) o chip (drop at s) (simp length-drop (omega arith))
         ∙ rw (← turn-is, drop-drop) refl)
 
-    step-ends : lastChip s ≡ cond (t .last) (t .chip) (stands (length s - (n + 1)) (t .chip) (drop (at + t .next) s))
+    step-ends : lastChip s ≡ cond (t .last) (t .chip) (stands (length s - (n + 1)) (t .fresh) (t .chip) (drop (at + t .next) s))
     step-ends =
         let l : 4 * n ≤ at = g .slow in
         let f : length s - n ≡ suc (length s - (n + 1)) = omega arith in
-        g .ends ∙ ap (λ (k : ℕ). stands k chip (drop at s)) f
-        ∙ stands-cons (length s - (n + 1)) chip (drop at s) (simp length-drop (omega arith))
+        g .ends ∙ ap (λ (k : ℕ). stands k o chip (drop at s)) f
+        ∙ stands-cons (length s - (n + 1)) o chip (drop at s) (simp length-drop (omega arith))
         ∙ rw (← turn-is, drop-drop) refl
 
     made-new : Made (g .done ++ (t .entry ∷ [])) old new (n + 1)
@@ -166,11 +166,11 @@ module _ (s old out : List ℕ) (chip : Chip) (at n : ℕ) (g : Going s old out 
 
     pub going-place : t .last ≡ false → (4 ≤ t .next) × (at + t .next ≤ length s)
     going-place e =
-        let p : (4 ≤ t .next) × (t .next ≤ length (drop at s)) = rw turn-is (turn-next chip (drop at s) (rw turn-is at e)) in
+        let p : (4 ≤ t .next) × (t .next ≤ length (drop at s)) = rw turn-is (turn-next o chip (drop at s) (rw turn-is at e)) in
         let d : length (drop at s) ≡ length s - at = length-drop at s in
         (p .0, omega arith)
 
-    pub going-more : t .last ≡ false → Going s old new (t .chip) (at + t .next) (n + 1)
+    pub going-more : t .last ≡ false → Going s old new (t .fresh) (t .chip) (at + t .next) (n + 1)
     going-more e =
         let l : 4 * n ≤ at = g .slow in
         let p : (4 ≤ t .next) × (at + t .next ≤ length s) = going-place e in

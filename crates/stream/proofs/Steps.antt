@@ -6,14 +6,14 @@ use mathlib.Core.List.{List, [], _∷_}
 use Prim.Native.Nat.{ℕ, _+_, _-_}
 use native.Mathlib.Omega.{arith}
 use lib.Dec.{eqb}
-use borrow.Author.Tests.{eqb-true, eqb-false, ne-eqb}
+use borrow.Author.Tests.{eqb-true, eqb-false, eq-eqb, ne-eqb}
 use types.Run.{OneOf}
 use denote.Enum.Declared.{tagOf}
 use Rattle.events.specs.declared.Setup.{Setup as SetupValues}
 use Rattle.events.specs.declared.Counts.{Counts}
 use Rattle.events.specs.declared.BusEvent.{BusEvent}
 use Rattle.events.specs.declared.Event.{Event}
-use Rattle.events.specs.declared.Event.the-variants.{Setup, Por, Boot, Scan, Temp, Count, Sense, Pin, Load, Xready, OnBus}
+use Rattle.events.specs.declared.Event.the-variants.{Setup, Por, Boot, Scan, Temp, Count, Sense, Pin, Load, Xready, OnBus, Wires}
 use Rattle.events.specs.Event.{Event as Happening, Scan as Scanned, Sense as Ticked, OnBus as Signalled, Meant, means, unfit, fits, eventOf, meantOf, countsFit, countsWanted}
 use Rattle.events.proofs.Event.{the-type as event-type}
 use Rattle.records.specs.declared.Read.the-variants.{Record}
@@ -26,7 +26,9 @@ use Rattle.records.specs.Record.{payloadOf, asRead, readOf, countsBeside}
 use Rattle.events.specs.Setup.{inputs}
 use lib.ListN.{take, drop}
 use lib.IntN.{ℤ}
-use Rattle.records.specs.Sound.{IsSetup, first-setup, Meaning, later-means}
+use Rattle.records.specs.Sound.{IsSetup, first-setup, Meaning, isWires, later-means}
+use Rattle.wiring.specs.declared.Wiring.{Wiring}
+use Rattle.wiring.specs.Rows.{wiredWith}
 use Rattle.settings.specs.Bit.{weighed}
 use Rattle.registers.specs.declared.Status.{Status}
 use Rattle.registers.specs.State.{alert}
@@ -39,7 +41,7 @@ use Rattle.chip.specs.declared.Heard.{Heard}
 use Rattle.chip.specs.Parts.{raisedBy, heardOf, landed, told, tick-parts, still-tick, bus-parts}
 use Rattle.chip.proofs.Modes.{in-normal}
 use Rattle.chip.specs.Chip.{quiet, withBus, withRuns, normally, asleep, happened, stepped, steppedAs, steppedBy, happenedAs, happenedBy}
-use Rattle.stream.specs.Stream.{unanswered, answerOf, answerHeard, faceOf, entryWith, entryOf, saying, bornOf, acted, turn, turned, turnOf}
+use Rattle.stream.specs.Stream.{unanswered, answerOf, answerHeard, faceOf, entryWith, entryOf, saying, bornOf, wiredAs, wires, acted, staysFresh, turn, turned, turnOf}
 use Rattle.stream.specs.declared.Answer.{Answer}
 use Rattle.stream.specs.declared.Entry.{Entry}
 use Rattle.stream.specs.declared.Face.{Face}
@@ -65,19 +67,20 @@ checked c e k m =
 abbrev Later : Event → Type 0
 Later e = OneOf (1 ∷ 2 ∷ 3 ∷ 4 ∷ 5 ∷ 6 ∷ 7 ∷ 8 ∷ 9 ∷ 10 ∷ []) (tagOf event-type e)
 
-other-acted : (c : Chip) (e : Event) (k : Counts) → Later e → steppedBy e k c ≡ acted e k c
+other-acted : (o : Bool) (c : Chip) (e : Event) (k : Counts) → Later e → steppedBy e k c ≡ acted o e k c
 unfolding acted
-other-acted c (Setup v) k o = absurd (⊎-elim (λ h. omega arith) (⊎-elim (λ h. omega arith) (⊎-elim (λ h. omega arith) (⊎-elim (λ h. omega arith) (⊎-elim (λ h. omega arith) (⊎-elim (λ h. omega arith) (⊎-elim (λ h. omega arith) (⊎-elim (λ h. omega arith) (⊎-elim (λ h. omega arith) (λ h. omega arith))))))))) o)
-other-acted c Por k o = refl
-other-acted c Boot k o = refl
-other-acted c Scan k o = refl
-other-acted c Temp k o = refl
-other-acted c (Count n) k o = refl
-other-acted c (Sense v) k o = refl
-other-acted c Pin k o = refl
-other-acted c (Load l) k o = refl
-other-acted c Xready k o = refl
-other-acted c (OnBus b) k o = refl
+other-acted op c (Setup v) k o = absurd (⊎-elim (λ h. omega arith) (⊎-elim (λ h. omega arith) (⊎-elim (λ h. omega arith) (⊎-elim (λ h. omega arith) (⊎-elim (λ h. omega arith) (⊎-elim (λ h. omega arith) (⊎-elim (λ h. omega arith) (⊎-elim (λ h. omega arith) (⊎-elim (λ h. omega arith) (λ h. omega arith))))))))) o)
+other-acted op c Por k o = refl
+other-acted op c Boot k o = refl
+other-acted op c Scan k o = refl
+other-acted op c Temp k o = refl
+other-acted op c (Count n) k o = refl
+other-acted op c (Sense v) k o = refl
+other-acted op c Pin k o = refl
+other-acted op c (Load l) k o = refl
+other-acted op c Xready k o = refl
+other-acted op c (OnBus b) k o = refl
+other-acted op c (Wires n) k o = absurd (⊎-elim (λ h. omega arith) (⊎-elim (λ h. omega arith) (⊎-elim (λ h. omega arith) (⊎-elim (λ h. omega arith) (⊎-elim (λ h. omega arith) (⊎-elim (λ h. omega arith) (⊎-elim (λ h. omega arith) (⊎-elim (λ h. omega arith) (⊎-elim (λ h. omega arith) (λ h. omega arith))))))))) o)
 
 other-first : (e : Event) → IsSetup e → Later e → ⊥
 other-first (Setup v) f o = ⊎-elim (λ h. omega arith) (⊎-elim (λ h. omega arith) (⊎-elim (λ h. omega arith) (⊎-elim (λ h. omega arith) (⊎-elim (λ h. omega arith) (⊎-elim (λ h. omega arith) (⊎-elim (λ h. omega arith) (⊎-elim (λ h. omega arith) (⊎-elim (λ h. omega arith) (λ h. omega arith))))))))) o
@@ -91,18 +94,34 @@ other-first Pin f o = f
 other-first (Load l) f o = f
 other-first Xready f o = f
 other-first (OnBus b) f o = f
+other-first (Wires n) f o = f
+
+-- and no wiring record
+other-wires : (e : Event) → Later e → isWires e ≡ false
+other-wires (Setup v) o = refl
+other-wires Por o = refl
+other-wires Boot o = refl
+other-wires Scan o = refl
+other-wires Temp o = refl
+other-wires (Count n) o = refl
+other-wires (Sense v) o = refl
+other-wires Pin o = refl
+other-wires (Load l) o = refl
+other-wires Xready o = refl
+other-wires (OnBus b) o = refl
+other-wires (Wires n) o = absurd (⊎-elim (λ h. omega arith) (⊎-elim (λ h. omega arith) (⊎-elim (λ h. omega arith) (⊎-elim (λ h. omega arith) (⊎-elim (λ h. omega arith) (⊎-elim (λ h. omega arith) (⊎-elim (λ h. omega arith) (⊎-elim (λ h. omega arith) (⊎-elim (λ h. omega arith) (λ h. omega arith))))))))) o)
 
 meaning : (c : Chip) (r : List ℕ) (e : Event) (next : ℕ) (t : Bool) → eqb (c .setup .part) 0 ≡ t → readOf (c .setup .part) r ≡ Record e next → Later e
     → Meaning (c .setup) e (countsBeside r (Record e next))
 meaning c r e next true t q o =
     absurd (other-first e (first-setup r e next (subst (λ (p : ℕ). readOf p r ≡ Record e next) (eqb-true (c .setup .part) 0 t) q)) o)
-meaning c r e next false t q o = later-means (c .setup) r e next (eqb-false (c .setup .part) 0 t) q
+meaning c r e next false t q o = later-means (c .setup) r e next (eqb-false (c .setup .part) 0 t) q (other-wires e o)
 
-pub other-is : {s : Stepped} (c : Chip) (r : List ℕ) (e : Event) (next : ℕ) (xs : List ℕ) → readOf (c .setup .part) r ≡ Record e next → Later e
-    → xs ≡ countsBeside r (Record e next) .of → s ≡ happenedBy e xs c → s ≡ acted e (countsBeside r (Record e next)) c
-other-is c r e next xs q o b h =
+pub other-is : {s : Stepped} (op : Bool) (c : Chip) (r : List ℕ) (e : Event) (next : ℕ) (xs : List ℕ) → readOf (c .setup .part) r ≡ Record e next → Later e
+    → xs ≡ countsBeside r (Record e next) .of → s ≡ happenedBy e xs c → s ≡ acted op e (countsBeside r (Record e next)) c
+other-is op c r e next xs q o b h =
     h ∙ ap (λ (xs : List ℕ). happenedBy e xs c) b ∙ checked c e (countsBeside r (Record e next)) (meaning c r e next (eqb (c .setup .part) 0) refl q o)
-    ∙ other-acted c e (countsBeside r (Record e next)) o
+    ∙ other-acted op c e (countsBeside r (Record e next)) o
 
 -- what is often done, found to be e′
 clash : false ≡ true → ⊥
@@ -119,28 +138,30 @@ other-often (Sense v) q = inr (inr (inr (inr (inr (inl refl)))))
 other-often Pin q = absurd (clash q)
 other-often (Load l) q = absurd (clash q)
 other-often Xready q = absurd (clash q)
+other-often (Wires n) q = absurd (clash q)
 other-often (OnBus b) q = inr (inr (inr (inr (inr (inr (inr (inr (inr refl))))))))
 
 pub as-event : {s : Stepped} {e e′ : Event} (xs : List ℕ) (c : Chip) → e ≡ e′ → s ≡ happenedBy e′ xs c → s ≡ happenedBy e xs c
 as-event xs c q h = h ∙ ap (λ (e : Event). happenedBy e xs c) (sym q)
 
-pub often-is : {s : Stepped} (c : Chip) (r : List ℕ) (e e′ : Event) (next : ℕ) (xs : List ℕ) → readOf (c .setup .part) r ≡ Record e next → e ≡ e′ → often e′ ≡ true
-    → xs ≡ countsBeside r (Record e next) .of → s ≡ happenedBy e′ xs c → s ≡ acted e (countsBeside r (Record e next)) c
-often-is c r e e′ next xs q t o b h = other-is c r e next xs q (other-often e (ap often t ∙ o)) b (as-event xs c t h)
+pub often-is : {s : Stepped} (op : Bool) (c : Chip) (r : List ℕ) (e e′ : Event) (next : ℕ) (xs : List ℕ) → readOf (c .setup .part) r ≡ Record e next → e ≡ e′ → often e′ ≡ true
+    → xs ≡ countsBeside r (Record e next) .of → s ≡ happenedBy e′ xs c → s ≡ acted op e (countsBeside r (Record e next)) c
+often-is op c r e e′ next xs q t o b h = other-is op c r e next xs q (other-often e (ap often t ∙ o)) b (as-event xs c t h)
 
 -- what is seldom done is other work
-pub seldom-work : (e : Event) → OneOf (0 ∷ 1 ∷ 2 ∷ 4 ∷ 5 ∷ 7 ∷ 8 ∷ 9 ∷ []) (tagOf event-type e) → Other ≡ awakeWork e
+pub seldom-work : (e : Event) → OneOf (0 ∷ 1 ∷ 2 ∷ 4 ∷ 5 ∷ 7 ∷ 8 ∷ 9 ∷ 11 ∷ []) (tagOf event-type e) → Other ≡ awakeWork e
 seldom-work (Setup v) o = refl
 seldom-work Por o = refl
 seldom-work Boot o = refl
-seldom-work Scan o = absurd (⊎-elim (λ h. omega arith) (⊎-elim (λ h. omega arith) (⊎-elim (λ h. omega arith) (⊎-elim (λ h. omega arith) (⊎-elim (λ h. omega arith) (⊎-elim (λ h. omega arith) (⊎-elim (λ h. omega arith) (λ h. omega arith))))))) o)
+seldom-work Scan o = absurd (⊎-elim (λ h. omega arith) (⊎-elim (λ h. omega arith) (⊎-elim (λ h. omega arith) (⊎-elim (λ h. omega arith) (⊎-elim (λ h. omega arith) (⊎-elim (λ h. omega arith) (⊎-elim (λ h. omega arith) (⊎-elim (λ h. omega arith) (λ h. omega arith)))))))) o)
 seldom-work Temp o = refl
 seldom-work (Count n) o = refl
-seldom-work (Sense v) o = absurd (⊎-elim (λ h. omega arith) (⊎-elim (λ h. omega arith) (⊎-elim (λ h. omega arith) (⊎-elim (λ h. omega arith) (⊎-elim (λ h. omega arith) (⊎-elim (λ h. omega arith) (⊎-elim (λ h. omega arith) (λ h. omega arith))))))) o)
+seldom-work (Sense v) o = absurd (⊎-elim (λ h. omega arith) (⊎-elim (λ h. omega arith) (⊎-elim (λ h. omega arith) (⊎-elim (λ h. omega arith) (⊎-elim (λ h. omega arith) (⊎-elim (λ h. omega arith) (⊎-elim (λ h. omega arith) (⊎-elim (λ h. omega arith) (λ h. omega arith)))))))) o)
 seldom-work Pin o = refl
 seldom-work (Load l) o = refl
 seldom-work Xready o = refl
-seldom-work (OnBus b) o = absurd (⊎-elim (λ h. omega arith) (⊎-elim (λ h. omega arith) (⊎-elim (λ h. omega arith) (⊎-elim (λ h. omega arith) (⊎-elim (λ h. omega arith) (⊎-elim (λ h. omega arith) (⊎-elim (λ h. omega arith) (λ h. omega arith))))))) o)
+seldom-work (Wires n) o = refl
+seldom-work (OnBus b) o = absurd (⊎-elim (λ h. omega arith) (⊎-elim (λ h. omega arith) (⊎-elim (λ h. omega arith) (⊎-elim (λ h. omega arith) (⊎-elim (λ h. omega arith) (⊎-elim (λ h. omega arith) (⊎-elim (λ h. omega arith) (⊎-elim (λ h. omega arith) (λ h. omega arith)))))))) o)
 
 -- in SHIP
 off : (a t : Bool) → (a && t) ≡ false → t ≡ true → a ≡ false
@@ -160,34 +181,56 @@ in-sleep e c a h = h ∙ sym (by (c .awake) a)
     by false q = refl
 
 -- SETUP
-pub setup-is : {s : Stepped} (c : Chip) (e : Event) (v : SetupValues) (k : Counts) → e ≡ Setup v → s ≡ bornOf v → s ≡ acted e k c
+pub setup-is : {s : Stepped} (op : Bool) (c : Chip) (e : Event) (v : SetupValues) (k : Counts) → e ≡ Setup v → s ≡ bornOf v → s ≡ acted op e k c
 unfolding acted
-setup-is c e v k q h = h ∙ ap (λ (e : Event). acted e k c) (sym q)
+setup-is op c e v k q h = h ∙ ap (λ (e : Event). acted op e k c) (sym q)
+
+-- a wiring record
+pub wires-is : {s : Stepped} (op : Bool) (c : Chip) (e : Event) (n : ℕ) (k : Counts) → e ≡ Wires n → s ≡ wires op n c → s ≡ acted op e k c
+unfolding acted
+wires-is op c e n k q h = h ∙ ap (λ (e : Event). acted op e k c) (sym q)
+
+pub wires-closed : {s : Stepped} (n : ℕ) (c : Chip) {op : Bool} → op ≡ false → s ≡ quiet 2 c → s ≡ wires op n c
+wires-closed n c e h = h ∙ sym (ap (λ (o : Bool). wires o n c) e)
+
+pub wires-fresh : {s : Stepped} {w w′ : Wiring} (n : ℕ) (c : Chip) {op : Bool} → op ≡ true → w ≡ wiredWith (c .setup) n → w ≡ w′ → s ≡ wiredAs w′ c → s ≡ wires op n c
+wires-fresh n c e h q p = p ∙ ap (λ (w : Wiring). wiredAs w c) (sym q ∙ h) ∙ sym (ap (λ (o : Bool). wires o n c) e)
 
 -- an entry of what was answered and what the chip shows
 pub entry-is : {e : Entry} {a : Answer} {f : Face} (s : Stepped) → e ≡ entryWith a f → a ≡ answerOf s → f ≡ faceOf (s .chip) → e ≡ entryOf s
 entry-is {e} {a} {f} s h p q = h ∙ ap (λ (a : Answer). entryWith a f) p ∙ ap (entryWith (answerOf s)) q
 
 -- ── turns, by the header and the payload ──
-pub short-turn : (c : Chip) (rest : List ℕ) → headerOf rest ≡ Short → turn (quiet 9 c) 0 true ≡ turnOf c rest
+pub short-turn : (o : Bool) (c : Chip) (rest : List ℕ) → headerOf rest ≡ Short → turn (quiet 9 c) o 0 true ≡ turnOf o c rest
 unfolding turnOf
-short-turn c rest h = sym (ap (turned c rest) (short-reads (c .setup .part) rest h))
+short-turn o c rest h = sym (ap (turned o c rest) (short-reads (c .setup .part) rest h))
 
-module _ (c : Chip) (rest : List ℕ) (kind next : ℕ) (h : headerOf rest ≡ Header kind next) (p : Payload) (q : p ≡ payloadOf kind (c .setup .part) (take (next - 4) (drop 4 rest))) where
+module _ (o : Bool) (c : Chip) (rest : List ℕ) (kind next : ℕ) (h : headerOf rest ≡ Header kind next) (p : Payload) (q : p ≡ payloadOf kind (c .setup .part) (take (next - 4) (drop 4 rest))) where
   read-as : asRead next p ≡ readOf (c .setup .part) rest
   read-as = ap (asRead next) q ∙ sym (framed-reads rest kind next h (c .setup .part))
 
-  pub unfit-turn : (k : ℕ) → p ≡ Unfit k → turn (quiet k c) next (eqb (c .setup .part) 0) ≡ turnOf c rest
+  pub unfit-turn : (k : ℕ) → p ≡ Unfit k → turn (quiet k c) o next (eqb (c .setup .part) 0) ≡ turnOf o c rest
   unfolding turnOf
-  unfit-turn k w = ap (turned c rest) (ap (asRead next) (sym w) ∙ read-as)
+  unfit-turn k w = ap (turned o c rest) (ap (asRead next) (sym w) ∙ read-as)
 
   pub found : (e : Event) → p ≡ Whole e → readOf (c .setup .part) rest ≡ Record e next
   found e w = sym read-as ∙ ap (asRead next) w
 
   -- a record that was read and done
-  pub done-turn : (e : Event) (s : Stepped) → p ≡ Whole e → s ≡ acted e (countsBeside rest (Record e next)) c → turn s next false ≡ turnOf c rest
+  pub done-turn : (e : Event) (s : Stepped) → p ≡ Whole e → s ≡ acted o e (countsBeside rest (Record e next)) c → turn s (staysFresh o c s) next false ≡ turnOf o c rest
   unfolding turnOf
-  done-turn e s w d = ap (λ (s : Stepped). turn s next false) d ∙ ap (turned c rest) (ap (asRead next) (sym w) ∙ read-as)
+  done-turn e s w d = ap (λ (s : Stepped). turn s (staysFresh o c s) next false) d ∙ ap (turned o c rest) (ap (asRead next) (sym w) ∙ read-as)
+
+-- after what is often done no wiring record is taken
+pub closes : (o : Bool) (c : Chip) (r : List ℕ) (e e′ : Event) (next : ℕ) (s : Stepped) → readOf (c .setup .part) r ≡ Record e next → e ≡ e′ → often e′ ≡ true → s .number ≡ 0 → false ≡ staysFresh o c s
+closes o c r e e′ next s q t f z =
+    by o (eqb (c .setup .part) 0) refl (eqb (s .number) 0) (eq-eqb (s .number) 0 z)
+  where
+    by : (o b : Bool) → eqb (c .setup .part) 0 ≡ b → (n : Bool) → n ≡ true → false ≡ b || (o && not n)
+    by o true h n m = absurd (other-first e (first-setup r e next (subst (λ (p : ℕ). readOf p r ≡ Record e next) (eqb-true (c .setup .part) 0 h) q)) (other-often e (ap often t ∙ f)))
+    by true false h true m = refl
+    by true false h false m = absurd (clash m)
+    by false false h n m = refl
 
 -- ── what each arm of the loop comes to, in NORMAL ──
 pub scan-arm : (c : Chip) (xs : List ℕ) (d : Chip) → c .awake ≡ true → d ≡ normally (Scanned (take (inputs (c .setup)) xs)) c .chip → saying (unanswered 0) d ≡ happenedBy Scan xs c

@@ -11,8 +11,8 @@ use borrow.Author.Tests.{ne-eqb, ltb-false}
 use Rattle.events.specs.declared.Setup.{Setup as SetupValues}
 use Rattle.events.specs.declared.Counts.{Counts}
 use Rattle.events.specs.declared.Event.{Event}
-use Rattle.events.specs.declared.Event.the-variants.{Setup, Por, Boot, Scan, Temp, Count, Sense, Pin, Load, Xready, OnBus}
-use Rattle.events.specs.Event.{Event as Happening, means, meantOf}
+use Rattle.events.specs.declared.Event.the-variants.{Setup, Por, Boot, Scan, Temp, Count, Sense, Pin, Load, Xready, OnBus, Wires}
+use Rattle.events.specs.Setup.{withCells}
 use Rattle.records.specs.declared.Payload.{Payload}
 use Rattle.records.specs.declared.Payload.the-variants.{Whole, Unfit}
 use Rattle.records.specs.declared.Read.{Read}
@@ -20,14 +20,12 @@ use Rattle.records.specs.declared.Read.the-variants.{Record, Refused, Cut}
 use Rattle.records.specs.Numbers.{le16}
 use Rattle.records.specs.Frame.{frameOf}
 use Rattle.records.specs.Record.{setupGood, payloadOf, asRead, readOf, countsBeside}
-use Rattle.records.specs.Sound.{IsSetup, first-setup, Meaning, later-means}
+use Rattle.records.specs.Sound.{IsSetup, first-setup}
 use Rattle.chip.specs.declared.Chip.{Chip}
-use Rattle.chip.specs.declared.Stepped.{Stepped}
 use Rattle.chip.specs.Chip.{inShip}
-use Rattle.chip.specs.Moves.{setup-next}
-use Rattle.stream.specs.Stream.{Turn, none, acted, turned, turnOf, runs, entries}
+use Rattle.stream.specs.Stream.{Turn, none, acted, staysFresh, turned, turnOf, runs, entries}
 use Rattle.stream.specs.Frames.{frames, framesAfter, framesOf}
-use Rattle.stream.specs.Standing.{acted-is, good-part}
+use Rattle.stream.specs.Standing.{acted-keeps, good-part}
 
 -- ── the frame of what was read ──
 abbrev pub Framed : List ℕ → Read → Type 0
@@ -61,18 +59,14 @@ frame-place r h = by (readOf 0 r) (framed 0 r)
     by (Refused k next) f = (omega (arith, f .0, f .1), omega (arith, f .0, f .2))
     by Cut f = absurd (h f)
 
--- ── the part stays: no record that is read later is a SETUP ──
-stays : (e : Event) (k : Counts) (c : Chip) (ev : Happening) → meantOf (c .setup) e k ≡ means ev → acted e k c .chip .setup ≡ c .setup
-stays e k c ev m = ap (λ (s : Stepped). s .chip .setup) (acted-is e k c ev m) ∙ setup-next ev c
-
 -- ── once a part stands, there is an entry for each frame ──
 abbrev Stands : Chip → Type 0
 Stands c = c .setup .part ≢ 0
 
 -- a turn's entry and what follows it, by what was read
-module _ (f : ℕ) (c : Chip) (r : List ℕ) (p : Stands c) (ih : (c : Chip) (s : List ℕ) → Stands c → length (runs f c s) ≡ frames f s) where
+module _ (f : ℕ) (o : Bool) (c : Chip) (r : List ℕ) (p : Stands c) (ih : (o : Bool) (c : Chip) (s : List ℕ) → Stands c → length (runs f o c s) ≡ frames f s) where
   after : Turn → ℕ
-  after t = suc (length (cond (t .last) [] (runs f (t .chip) (drop (t .next) r))))
+  after t = suc (length (cond (t .last) [] (runs f (t .fresh) (t .chip) (drop (t .next) r))))
 
   abbrev framesNow : ℕ
   framesNow = suc (cond (eqb (frameOf r) 0) 0 (frames f (drop (frameOf r) r)))
@@ -80,36 +74,35 @@ module _ (f : ℕ) (c : Chip) (r : List ℕ) (p : Stands c) (ih : (c : Chip) (s 
   past : (n : ℕ) → frameOf r ≡ n → 4 ≤ n → framesNow ≡ suc (frames f (drop n r))
   past n e h = ap (λ (k : ℕ). suc (cond (eqb k 0) 0 (frames f (drop k r)))) e ∙ simp (ne-eqb n 0 (λ z. omega arith))
 
-  turn-frames : (x : Read) → readOf (c .setup .part) r ≡ x → Framed r x → after (turned c r x) ≡ framesNow
+  turn-frames : (x : Read) → readOf (c .setup .part) r ≡ x → Framed r x → after (turned o c r x) ≡ framesNow
   unfolding after
   turn-frames (Record e next) q g =
       let k : Counts = countsBeside r (Record e next) in
-      let m : Meaning (c .setup) e k = later-means (c .setup) r e next p q in
-      let u : acted e k c .chip .setup ≡ c .setup = stays e k c (m .event) (m .meant) in
-      ap suc (ih (acted e k c .chip) (drop next r) (λ z. p (ap (λ (v : SetupValues). v .part) (sym u) ∙ z))) ∙ sym (past next (g .0) (g .1))
+      let u : withCells 0 (acted o e k c .chip .setup) ≡ withCells 0 (c .setup) = acted-keeps o c r e next p q in
+      ap suc (ih (staysFresh o c (acted o e k c)) (acted o e k c .chip) (drop next r) (λ z. p (ap (λ (v : SetupValues). v .part) (sym u) ∙ z))) ∙ sym (past next (g .0) (g .1))
   turn-frames (Refused k next) q g =
-      simp (ne-eqb (c .setup .part) 0 p) (ap suc (ih c (drop next r) p) ∙ sym (past next (g .0) (g .1)))
+      simp (ne-eqb (c .setup .part) 0 p) (ap suc (ih o c (drop next r) p) ∙ sym (past next (g .0) (g .1)))
   turn-frames Cut q g = sym (ap (λ (k : ℕ). suc (cond (eqb k 0) 0 (frames f (drop k r)))) g)
 
-pub frames-are : (f : ℕ) (c : Chip) (s : List ℕ) → Stands c → length (runs f c s) ≡ frames f s
+pub frames-are : (f : ℕ) (o : Bool) (c : Chip) (s : List ℕ) → Stands c → length (runs f o c s) ≡ frames f s
 unfolding turnOf after
-frames-are zero c s p = refl
-frames-are (suc f) c [] p = refl
-frames-are (suc f) c (b ∷ s) p = turn-frames f c (b ∷ s) p (λ c s p. frames-are f c s p) (readOf (c .setup .part) (b ∷ s)) refl (framed (c .setup .part) (b ∷ s))
+frames-are zero o c s p = refl
+frames-are (suc f) o c [] p = refl
+frames-are (suc f) o c (b ∷ s) p = turn-frames f o c (b ∷ s) p (λ o c s p. frames-are f o c s p) (readOf (c .setup .part) (b ∷ s)) refl (framed (c .setup .part) (b ∷ s))
 
 -- ── the first record ──
 part-stands : (v : SetupValues) → setupGood v ≡ true → v .part ≢ 0
 part-stands v h z = omega (arith, good-part v h .0, z)
 
 first-frames : (b : ℕ) (s : List ℕ) (x : Read) → readOf 0 (b ∷ s) ≡ x
-    → length (turned none (b ∷ s) x .entry ∷ cond (turned none (b ∷ s) x .last) [] (runs (length s) (turned none (b ∷ s) x .chip) (drop (turned none (b ∷ s) x .next) (b ∷ s)))) ≡ framesAfter (b ∷ s) x
+    → length (turned false none (b ∷ s) x .entry ∷ cond (turned false none (b ∷ s) x .last) [] (runs (length s) (turned false none (b ∷ s) x .fresh) (turned false none (b ∷ s) x .chip) (drop (turned false none (b ∷ s) x .next) (b ∷ s)))) ≡ framesAfter (b ∷ s) x
 unfolding acted
 first-frames b s (Record e next) q =
     let n : length s ≡ length (b ∷ s) - 1 = omega arith in
     by e (first-setup (b ∷ s) e next q) ∙ ap (λ (k : ℕ). suc (frames k (drop next (b ∷ s)))) n
   where
-    by : (e : Event) → IsSetup e → suc (length (runs (length s) (acted e (countsBeside (b ∷ s) (Record e next)) none .chip) (drop next (b ∷ s)))) ≡ suc (frames (length s) (drop next (b ∷ s)))
-    by (Setup v) g = ap suc (frames-are (length s) (inShip v) (drop next (b ∷ s)) (part-stands v g))
+    by : (e : Event) → IsSetup e → suc (length (runs (length s) true (acted false e (countsBeside (b ∷ s) (Record e next)) none .chip) (drop next (b ∷ s)))) ≡ suc (frames (length s) (drop next (b ∷ s)))
+    by (Setup v) g = ap suc (frames-are (length s) true (inShip v) (drop next (b ∷ s)) (part-stands v g))
     by Por g = absurd g
     by Boot g = absurd g
     by Scan g = absurd g
@@ -120,6 +113,7 @@ first-frames b s (Record e next) q =
     by (Load l) g = absurd g
     by Xready g = absurd g
     by (OnBus x) g = absurd g
+    by (Wires n) g = absurd g
 first-frames b s (Refused k next) q = refl
 first-frames b s Cut q = refl
 

@@ -7,10 +7,9 @@ use lib.Dec.{eqb, ltb}
 use lib.Ieee.{Float}
 use lib.ListN.{length, drop}
 use Rattle.records.specs.Record.{readOf, numberOf}
-use Rattle.events.specs.Setup.{inputs}
-use Rattle.values.specs.Forecast.{IsReading}
 use Rattle.values.specs.declared.Reading.{Reading}
 use Rattle.chip.specs.declared.Chip.{Chip}
+use Rattle.chip.specs.Outward.{Reads}
 use Rattle.stream.specs.Stream.{lastChip}
 
 -- where no chip stands the first record's number, 9 for an empty stream; 4 asleep; then 5 for room below 4
@@ -24,7 +23,7 @@ isGiven c room = not (eqb (c .setup .part) 0) && c .awake && not (ltb room 4)
 -- the four doubles of a chip's reading, and what was there after them
 pub record Doubles (c : Chip) (old new : List Float) : Type 0 where
   pub reading : Reading
-  pub is : IsReading (c .setup .gain) (c .setup .offset) (inputs (c .setup)) (c .registers .measured .cells) (c .registers .measured .cc) reading
+  pub is : Reads c reading
   pub wrote : new ≡ reading .least ∷ reading .greatest ∷ reading .total ∷ reading .cc ∷ drop 4 old
 
 -- they are written where a reading is given, and else nothing is

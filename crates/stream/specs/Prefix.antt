@@ -19,7 +19,7 @@ use Rattle.records.specs.Record.{payloadOf, asRead, readOf, countsIn, countsBes
 use Rattle.records.specs.Reading.{Placed, placed}
 use Rattle.chip.specs.declared.Chip.{Chip}
 use Rattle.stream.specs.declared.Entry.{Entry}
-use Rattle.stream.specs.Stream.{Turn, none, acted, turn, turned, turnOf, runs, stands, entries}
+use Rattle.stream.specs.Stream.{Turn, none, acted, staysFresh, turn, turned, turnOf, runs, stands, entries}
 
 suc-add : (m n : ℕ) → suc m + n ≡ suc (m + n)
 suc-add m n = omega arith
@@ -64,88 +64,96 @@ same-read part p s false false et eu w =
     ∙ ap (λ (m : List ℕ). asRead (4 + le16 p 0) (payloadOf (le16 p 2) part m)) q)
 
 -- a turn that is not the last is the same whatever follows
-same-turned : (c : Chip) (p s : List ℕ) (x : Read) → Placed (length p) x → turned c p x .last ≡ false → turned c (p ++ s) x ≡ turned c p x
-same-turned c p s (Record e next) g l =
-    ap (λ (b : List ℕ). turn (acted e (countsIn e b) c) next false) (same-part p s (next - 4) (omega (arith, g .0, g .1)))
-same-turned c p s (Refused k next) g l = refl
-same-turned c p s Cut g l = cc
+same-turned : (o : Bool) (c : Chip) (p s : List ℕ) (x : Read) → Placed (length p) x → turned o c p x .last ≡ false → turned o c (p ++ s) x ≡ turned o c p x
+same-turned o c p s (Record e next) g l =
+    ap (λ (b : List ℕ). turn (acted o e (countsIn e b) c) (staysFresh o c (acted o e (countsIn e b) c)) next false) (same-part p s (next - 4) (omega (arith, g .0, g .1)))
+same-turned o c p s (Refused k next) g l = refl
+same-turned o c p s Cut g l = cc
 
-last-whole : (c : Chip) (p : List ℕ) (x : Read) → turned c p x .last ≡ false → IsWhole x
-last-whole c p (Record e next) l = tt
-last-whole c p (Refused k next) l = tt
-last-whole c p Cut l = let z : _≡_ {A = ℕ} 0 1 = cc in absurd (omega arith)
+last-whole : (o : Bool) (c : Chip) (p : List ℕ) (x : Read) → turned o c p x .last ≡ false → IsWhole x
+last-whole o c p (Record e next) l = tt
+last-whole o c p (Refused k next) l = tt
+last-whole o c p Cut l = let z : _≡_ {A = ℕ} 0 1 = cc in absurd (omega arith)
 
-same-turn : (c : Chip) (p s : List ℕ) → turnOf c p .last ≡ false → turnOf c (p ++ s) ≡ turnOf c p
+same-turn : (o : Bool) (c : Chip) (p s : List ℕ) → turnOf o c p .last ≡ false → turnOf o c (p ++ s) ≡ turnOf o c p
 unfolding turnOf
-same-turn c p s l =
+same-turn o c p s l =
     let part : ℕ = c .setup .part in
-    ap (turned c (p ++ s)) (same-read part p s (ltb (length p) 4) (ltb (length p - 4) (le16 p 0)) refl refl (last-whole c p (readOf part p) l))
-    ∙ same-turned c p s (readOf part p) (placed part p) l
+    ap (turned o c (p ++ s)) (same-read part p s (ltb (length p) 4) (ltb (length p - 4) (le16 p 0)) refl refl (last-whole o c p (readOf part p) l))
+    ∙ same-turned o c p s (readOf part p) (placed part p) l
 
-turned-inside : (c : Chip) (p : List ℕ) (x : Read) → Placed (length p) x → turned c p x .last ≡ false → turned c p x .next ≤ length p
-turned-inside c p (Record e next) g l = g .1
-turned-inside c p (Refused k next) g l = g .1
-turned-inside c p Cut g l = omega arith
+turned-inside : (o : Bool) (c : Chip) (p : List ℕ) (x : Read) → Placed (length p) x → turned o c p x .last ≡ false → turned o c p x .next ≤ length p
+turned-inside o c p (Record e next) g l = g .1
+turned-inside o c p (Refused k next) g l = g .1
+turned-inside o c p Cut g l = omega arith
 
-turn-inside : (c : Chip) (p : List ℕ) → turnOf c p .last ≡ false → turnOf c p .next ≤ length p
+turn-inside : (o : Bool) (c : Chip) (p : List ℕ) → turnOf o c p .last ≡ false → turnOf o c p .next ≤ length p
 unfolding turnOf
-turn-inside c p l = turned-inside c p (readOf (c .setup .part) p) (placed (c .setup .part) p) l
+turn-inside o c p l = turned-inside o c p (readOf (c .setup .part) p) (placed (c .setup .part) p) l
 
 -- ── whole records: each turn but the last is followed by another, and the last ends with the bytes ──
-pub data Whole-records : Chip → List ℕ → Type 0 where
-  none-left : (c : Chip) → Whole-records c []
-  one-more : (c : Chip) (b : ℕ) (p : List ℕ) → turnOf c (b ∷ p) .last ≡ false → Whole-records (turnOf c (b ∷ p) .chip) (drop (turnOf c (b ∷ p) .next) (b ∷ p))
-      → Whole-records c (b ∷ p)
+pub data Whole-records : Bool → Chip → List ℕ → Type 0 where
+  none-left : (o : Bool) (c : Chip) → Whole-records o c []
+  one-more : (o : Bool) (c : Chip) (b : ℕ) (p : List ℕ) → turnOf o c (b ∷ p) .last ≡ false → Whole-records (turnOf o c (b ∷ p) .fresh) (turnOf o c (b ∷ p) .chip) (drop (turnOf o c (b ∷ p) .next) (b ∷ p))
+      → Whole-records o c (b ∷ p)
 
 -- how many they are
-abbrev pub many : {c : Chip} {p : List ℕ} → Whole-records c p → ℕ
-many (none-left c) = 0
-many (one-more c b p l w) = suc (many w)
+abbrev pub many : {o : Bool} {c : Chip} {p : List ℕ} → Whole-records o c p → ℕ
+many (none-left o c) = 0
+many (one-more o c b p l w) = suc (many w)
+
+-- whether a wiring record may follow them
+abbrev pub stays : ℕ → Bool → Chip → List ℕ → Bool
+stays zero o c s = o
+stays (suc f) o c [] = o
+stays (suc f) o c (b ∷ s) =
+    cond (turnOf o c (b ∷ s) .last) (turnOf o c (b ∷ s) .fresh)
+    (stays f (turnOf o c (b ∷ s) .fresh) (turnOf o c (b ∷ s) .chip) (drop (turnOf o c (b ∷ s) .next) (b ∷ s)))
 
 -- THE PREFIX: the entries of whole records and what follows them are the entries of the records, then those of what follows on the chip that they leave
-pub prefix : {c : Chip} {p : List ℕ} (w : Whole-records c p) (f : ℕ) (s : List ℕ)
-    → runs (many w + f) c (p ++ s) ≡ runs (many w) c p ++ runs f (stands (many w) c p) s
-prefix (none-left c) f s = ap (λ (n : ℕ). runs n c s) (zero-add f)
-prefix (one-more c b p l w) f s =
-    let g : (turnOf c (b ∷ p) .next) ≤ length (b ∷ p) = turn-inside c (b ∷ p) l in
-    ap (λ (n : ℕ). runs n c (b ∷ (p ++ s))) (suc-add (many w) f)
-    ∙ ap (λ (t : Turn). t .entry ∷ cond (t .last) [] (runs (many w + f) (t .chip) (drop (t .next) (b ∷ (p ++ s))))) (same-turn c (b ∷ p) s l)
-    ∙ simp l (ap (λ (e : List Entry). turnOf c (b ∷ p) .entry ∷ e)
-    (ap (runs (many w + f) (turnOf c (b ∷ p) .chip)) (drop-append-le (turnOf c (b ∷ p) .next) (b ∷ p) s g) ∙ prefix w f s))
+pub prefix : {o : Bool} {c : Chip} {p : List ℕ} (w : Whole-records o c p) (f : ℕ) (s : List ℕ)
+    → runs (many w + f) o c (p ++ s) ≡ runs (many w) o c p ++ runs f (stays (many w) o c p) (stands (many w) o c p) s
+prefix (none-left o c) f s = ap (λ (n : ℕ). runs n o c s) (zero-add f)
+prefix (one-more o c b p l w) f s =
+    let g : (turnOf o c (b ∷ p) .next) ≤ length (b ∷ p) = turn-inside o c (b ∷ p) l in
+    ap (λ (n : ℕ). runs n o c (b ∷ (p ++ s))) (suc-add (many w) f)
+    ∙ ap (λ (t : Turn). t .entry ∷ cond (t .last) [] (runs (many w + f) (t .fresh) (t .chip) (drop (t .next) (b ∷ (p ++ s))))) (same-turn o c (b ∷ p) s l)
+    ∙ simp l (ap (λ (e : List Entry). turnOf o c (b ∷ p) .entry ∷ e)
+    (ap (runs (many w + f) (turnOf o c (b ∷ p) .fresh) (turnOf o c (b ∷ p) .chip)) (drop-append-le (turnOf o c (b ∷ p) .next) (b ∷ p) s g) ∙ prefix w f s))
 
 -- each record takes a byte at least
-turned-past : (c : Chip) (p : List ℕ) (x : Read) → Placed (length p) x → turned c p x .last ≡ false → 1 ≤ turned c p x .next
-turned-past c p (Record e next) g l = omega (arith, g .0)
-turned-past c p (Refused k next) g l = omega (arith, g .0)
-turned-past c p Cut g l = let z : _≡_ {A = ℕ} 0 1 = cc in absurd (omega arith)
+turned-past : (o : Bool) (c : Chip) (p : List ℕ) (x : Read) → Placed (length p) x → turned o c p x .last ≡ false → 1 ≤ turned o c p x .next
+turned-past o c p (Record e next) g l = omega (arith, g .0)
+turned-past o c p (Refused k next) g l = omega (arith, g .0)
+turned-past o c p Cut g l = let z : _≡_ {A = ℕ} 0 1 = cc in absurd (omega arith)
 
-turn-past : (c : Chip) (p : List ℕ) → turnOf c p .last ≡ false → 1 ≤ turnOf c p .next
+turn-past : (o : Bool) (c : Chip) (p : List ℕ) → turnOf o c p .last ≡ false → 1 ≤ turnOf o c p .next
 unfolding turnOf
-turn-past c p l = turned-past c p (readOf (c .setup .part) p) (placed (c .setup .part) p) l
+turn-past o c p l = turned-past o c p (readOf (c .setup .part) p) (placed (c .setup .part) p) l
 
-few : {c : Chip} {p : List ℕ} (w : Whole-records c p) → many w ≤ length p
-few (none-left c) = omega arith
-few (one-more c b p l w) =
-    let h : many w ≤ length (drop (turnOf c (b ∷ p) .next) (b ∷ p)) = few w in
-    let d : length (drop (turnOf c (b ∷ p) .next) (b ∷ p)) ≡ length (b ∷ p) - turnOf c (b ∷ p) .next = length-drop (turnOf c (b ∷ p) .next) (b ∷ p) in
-    omega (arith, turn-past c (b ∷ p) l)
+few : {o : Bool} {c : Chip} {p : List ℕ} (w : Whole-records o c p) → many w ≤ length p
+few (none-left o c) = omega arith
+few (one-more o c b p l w) =
+    let h : many w ≤ length (drop (turnOf o c (b ∷ p) .next) (b ∷ p)) = few w in
+    let d : length (drop (turnOf o c (b ∷ p) .next) (b ∷ p)) ≡ length (b ∷ p) - turnOf o c (b ∷ p) .next = length-drop (turnOf o c (b ∷ p) .next) (b ∷ p) in
+    omega (arith, turn-past o c (b ∷ p) l)
 
-no-more : (f : ℕ) (c : Chip) → runs f c [] ≡ []
-no-more zero c = refl
-no-more (suc f) c = refl
+no-more : (f : ℕ) (o : Bool) (c : Chip) → runs f o c [] ≡ []
+no-more zero o c = refl
+no-more (suc f) o c = refl
 
 -- the entries of whole records alone
-alone : {c : Chip} {p : List ℕ} (w : Whole-records c p) → runs (length p) c p ≡ runs (many w) c p
-alone {c} {p} w =
+alone : {o : Bool} {c : Chip} {p : List ℕ} (w : Whole-records o c p) → runs (length p) o c p ≡ runs (many w) o c p
+alone {o} {c} {p} w =
     let k : ℕ = length p - many w in
     let e : length p ≡ many w + k = omega (arith, few w) in
-    ap (λ (n : ℕ). runs n c p) e ∙ ap (runs (many w + k) c) (sym (append-nil p)) ∙ prefix w k [] ∙ ap (λ (l : List Entry). runs (many w) c p ++ l) (no-more k _) ∙ append-nil _
+    ap (λ (n : ℕ). runs n o c p) e ∙ ap (runs (many w + k) o c) (sym (append-nil p)) ∙ prefix w k [] ∙ ap (λ (l : List Entry). runs (many w) o c p ++ l) (no-more k _ _) ∙ append-nil _
 
 -- the same of streams: whole records from the first on give a prefix of the entries of every stream that they begin
-pub entries-prefix : (p s : List ℕ) (w : Whole-records none p) → entries (p ++ s) ≡ entries p ++ runs (length (p ++ s) - many w) (stands (many w) none p) s
+pub entries-prefix : (p s : List ℕ) (w : Whole-records false none p) → entries (p ++ s) ≡ entries p ++ runs (length (p ++ s) - many w) (stays (many w) false none p) (stands (many w) false none p) s
 unfolding entries
 entries-prefix p s w =
     let k : ℕ = length (p ++ s) - many w in
     let l : length (p ++ s) ≡ length p + length s = length-append p s in
     let e : length (p ++ s) ≡ many w + k = omega (arith, few w) in
-    ap (λ (n : ℕ). runs n none (p ++ s)) e ∙ prefix w k s ∙ ap (λ (x : List Entry). x ++ runs k (stands (many w) none p) s) (sym (alone w))
+    ap (λ (n : ℕ). runs n false none (p ++ s)) e ∙ prefix w k s ∙ ap (λ (x : List Entry). x ++ runs k (stays (many w) false none p) (stands (many w) false none p) s) (sym (alone w))

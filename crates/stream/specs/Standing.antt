@@ -1,4 +1,4 @@
--- Whether a chip stands: a first record that is read with success makes one, whose part stays 1 to 3; else the first record's number is not 0,
+-- Whether a chip stands: a first record that is read with success makes one, whose setup stays, but for the cells, and its part 1 to 3; else the first record's number is not 0,
 -- so that no reading is done with nothing given. Assumes nothing.
 use mathlib.Core.Path.{_≡_, refl, ap, sym, _∙_, subst}
 use mathlib.Core.Bool.{Bool, true, false, cond, _&&_, not}
@@ -14,8 +14,10 @@ use Rattle.events.specs.declared.Counts.{Counts}
 use Rattle.events.specs.declared.Checked.{Checked}
 use Rattle.events.specs.declared.Checked.the-variants.{Good, Bad}
 use Rattle.events.specs.declared.Event.{Event}
-use Rattle.events.specs.declared.Event.the-variants.{Setup, Por, Boot, Scan, Temp, Count, Sense, Pin, Load, Xready, OnBus}
-use Rattle.events.specs.Setup.{checkedOf}
+use Rattle.events.specs.declared.Event.the-variants.{Setup, Por, Boot, Scan, Temp, Count, Sense, Pin, Load, Xready, OnBus, Wires}
+use Rattle.events.specs.Setup.{setupFits, checkedOf, withCells}
+use Rattle.wiring.specs.Rows.{hasRow, wiredWith}
+use Rattle.wiring.specs.declared.Wiring.the-variants.{With, NoRow}
 use Rattle.events.specs.Event.{Event as Happening, Meant, means, unfit, meantOf, countsFit}
 use Rattle.records.specs.declared.Payload.{Payload}
 use Rattle.records.specs.declared.Payload.the-variants.{Whole, Unfit}
@@ -25,12 +27,12 @@ use Rattle.records.specs.Numbers.{le16, bitOf}
 use Rattle.records.specs.Kind.{SETUP}
 use Rattle.records.specs.Record.{setupGood, checkedIn, setupIn, payloadOf, asRead, readOf, numberOf, countsBeside}
 use Rattle.records.specs.Reading.{cond-by}
-use Rattle.records.specs.Sound.{and-left, and-right, IsSetup, first-setup, Meaning, later-means}
+use Rattle.records.specs.Sound.{and-left, and-right, IsSetup, first-setup, Meaning, wires-by, later-means}
 use Rattle.chip.specs.declared.Chip.{Chip}
 use Rattle.chip.specs.declared.Stepped.{Stepped}
-use Rattle.chip.specs.Chip.{inShip, stepped, steppedAs, steppedBy}
+use Rattle.chip.specs.Chip.{quiet, inShip, stepped, steppedAs, steppedBy}
 use Rattle.chip.specs.Moves.{setup-next}
-use Rattle.stream.specs.Stream.{none, entryOf, bornOf, acted, turned, turnOf, runs, stands, entries, lastChip}
+use Rattle.stream.specs.Stream.{Turn, none, entryOf, bornOf, wiredAs, acted, turned, turnOf, runs, stands, entries, lastChip}
 use Rattle.stream.specs.Forecast.{readingNumber, isGiven}
 
 -- ── a record that means an event steps the chip by it ──
@@ -42,52 +44,70 @@ no-setup-read : (v : SetupValues) (k : Counts) (c : Chip) (ev : Happening) → m
 unfolding meantOf
 no-setup-read v k c ev m = no-setup (countsFit 0 k) ev m
 
-acted-by : (e : Event) (k : Counts) (c : Chip) (ev : Happening) → meantOf (c .setup) e k ≡ means ev → acted e k c ≡ steppedBy e k c
+no-wires-read : (n : ℕ) (k : Counts) (c : Chip) (ev : Happening) → meantOf (c .setup) (Wires n) k ≡ means ev → ⊥
+unfolding meantOf
+no-wires-read n k c ev m = no-setup (countsFit 0 k) ev m
+
+acted-by : (o : Bool) (e : Event) (k : Counts) (c : Chip) (ev : Happening) → meantOf (c .setup) e k ≡ means ev → acted o e k c ≡ steppedBy e k c
 unfolding acted
-acted-by (Setup v) k c ev m = absurd (no-setup-read v k c ev m)
-acted-by Por k c ev m = refl
-acted-by Boot k c ev m = refl
-acted-by Scan k c ev m = refl
-acted-by Temp k c ev m = refl
-acted-by (Count n) k c ev m = refl
-acted-by (Sense v) k c ev m = refl
-acted-by Pin k c ev m = refl
-acted-by (Load l) k c ev m = refl
-acted-by Xready k c ev m = refl
-acted-by (OnBus b) k c ev m = refl
+acted-by o (Setup v) k c ev m = absurd (no-setup-read v k c ev m)
+acted-by o Por k c ev m = refl
+acted-by o Boot k c ev m = refl
+acted-by o Scan k c ev m = refl
+acted-by o Temp k c ev m = refl
+acted-by o (Count n) k c ev m = refl
+acted-by o (Sense v) k c ev m = refl
+acted-by o Pin k c ev m = refl
+acted-by o (Load l) k c ev m = refl
+acted-by o Xready k c ev m = refl
+acted-by o (OnBus b) k c ev m = refl
+acted-by o (Wires n) k c ev m = absurd (no-wires-read n k c ev m)
 
-pub acted-is : (e : Event) (k : Counts) (c : Chip) (ev : Happening) → meantOf (c .setup) e k ≡ means ev → acted e k c ≡ stepped ev c
-acted-is e k c ev m = acted-by e k c ev m ∙ ap (λ (x : Meant). steppedAs x c) m
+pub acted-is : (o : Bool) (e : Event) (k : Counts) (c : Chip) (ev : Happening) → meantOf (c .setup) e k ≡ means ev → acted o e k c ≡ stepped ev c
+acted-is o e k c ev m = acted-by o e k c ev m ∙ ap (λ (x : Meant). steppedAs x c) m
 
--- ── the setup of a chip that stands stays ──
-setup-turned : (c : Chip) (r : List ℕ) → c .setup .part ≢ 0 → (x : Read) → readOf (c .setup .part) r ≡ x → turned c r x .chip .setup ≡ c .setup
-setup-turned c r p (Record e next) q =
-    let m : Meaning (c .setup) e (countsBeside r (Record e next)) = later-means (c .setup) r e next p q in
-    ap (λ (s : Stepped). s .chip .setup) (acted-is e (countsBeside r (Record e next)) c (m .event) (m .meant)) ∙ setup-next (m .event) c
-setup-turned c r p (Refused k next) q = refl
-setup-turned c r p Cut q = refl
+-- ── the setup of a chip that stands stays, but for the number of cells ──
+wired-keeps : (o t : Bool) (n : ℕ) (c : Chip) → withCells 0 (cond o (wiredAs (cond t (With (withCells n (c .setup))) NoRow) c) (quiet 2 c) .chip .setup) ≡ withCells 0 (c .setup)
+wired-keeps true true n c = refl
+wired-keeps true false n c = refl
+wired-keeps false t n c = refl
 
-setup-turn : (c : Chip) (r : List ℕ) → c .setup .part ≢ 0 → turnOf c r .chip .setup ≡ c .setup
+pub acted-keeps : (o : Bool) (c : Chip) (r : List ℕ) (e : Event) (next : ℕ) → c .setup .part ≢ 0 → readOf (c .setup .part) r ≡ Record e next
+    → withCells 0 (acted o e (countsBeside r (Record e next)) c .chip .setup) ≡ withCells 0 (c .setup)
+unfolding acted wiredWith
+acted-keeps o c r e next p =
+    wires-by (λ (e : Event). readOf (c .setup .part) r ≡ Record e next → withCells 0 (acted o e (countsBeside r (Record e next)) c .chip .setup) ≡ withCells 0 (c .setup))
+    (λ n q. wired-keeps o (hasRow (c .setup .part) n) n c)
+    (λ e w q.
+    let m : Meaning (c .setup) e (countsBeside r (Record e next)) = later-means (c .setup) r e next p q w in
+    ap (λ (s : Stepped). withCells 0 (s .chip .setup)) (acted-is o e (countsBeside r (Record e next)) c (m .event) (m .meant)) ∙ ap (withCells 0) (setup-next (m .event) c)) e
+
+setup-turned : (o : Bool) (c : Chip) (r : List ℕ) → c .setup .part ≢ 0 → (x : Read) → readOf (c .setup .part) r ≡ x → withCells 0 (turned o c r x .chip .setup) ≡ withCells 0 (c .setup)
+setup-turned o c r p (Record e next) q = acted-keeps o c r e next p q
+setup-turned o c r p (Refused k next) q = refl
+setup-turned o c r p Cut q = refl
+
+setup-turn : (o : Bool) (c : Chip) (r : List ℕ) → c .setup .part ≢ 0 → withCells 0 (turnOf o c r .chip .setup) ≡ withCells 0 (c .setup)
 unfolding turnOf
-setup-turn c r p = setup-turned c r p (readOf (c .setup .part) r) refl
+setup-turn o c r p = setup-turned o c r p (readOf (c .setup .part) r) refl
 
-pub setup-stands : (f : ℕ) (c : Chip) (s : List ℕ) → c .setup .part ≢ 0 → stands f c s .setup ≡ c .setup
-setup-stands zero c s p = refl
-setup-stands (suc f) c [] p = refl
-setup-stands (suc f) c (b ∷ s) p =
-    let d : Chip = turnOf c (b ∷ s) .chip in
-    let rest : List ℕ = drop (turnOf c (b ∷ s) .next) (b ∷ s) in
-    let same : d .setup ≡ c .setup = setup-turn c (b ∷ s) p in
-    by (turnOf c (b ∷ s) .last) d (stands f d rest) same (setup-stands f d rest (λ z. p (ap (λ (v : SetupValues). v .part) (sym same) ∙ z)) ∙ same)
+pub setup-stands : (f : ℕ) (o : Bool) (c : Chip) (s : List ℕ) → c .setup .part ≢ 0 → withCells 0 (stands f o c s .setup) ≡ withCells 0 (c .setup)
+setup-stands zero o c s p = refl
+setup-stands (suc f) o c [] p = refl
+setup-stands (suc f) o c (b ∷ s) p =
+    let t : Turn = turnOf o c (b ∷ s) in
+    let same : withCells 0 (t .chip .setup) ≡ withCells 0 (c .setup) = setup-turn o c (b ∷ s) p in
+    by (t .last) (t .chip) (stands f (t .fresh) (t .chip) (drop (t .next) (b ∷ s))) same
+    (setup-stands f (t .fresh) (t .chip) (drop (t .next) (b ∷ s)) (λ z. p (ap (λ (v : SetupValues). v .part) (sym same) ∙ z)) ∙ same)
   where
-    by : (t : Bool) (d e : Chip) → d .setup ≡ c .setup → e .setup ≡ c .setup → cond t d e .setup ≡ c .setup
+    by : (t : Bool) (d e : Chip) → withCells 0 (d .setup) ≡ withCells 0 (c .setup) → withCells 0 (e .setup) ≡ withCells 0 (c .setup) → withCells 0 (cond t d e .setup) ≡ withCells 0 (c .setup)
     by true d e x y = x
     by false d e x y = y
 
 -- ── the first record ──
 pub good-part : (v : SetupValues) → setupGood v ≡ true → (1 ≤ v .part) × (v .part ≤ 3)
 good-part v h =
-    let both : leb 1 (v .part) && leb (v .part) 3 ≡ true = first (leb 1 (v .part)) (leb (v .part) 3) (leb (bitOf (v .crc)) 1) (leb 0x08 (v .address)) (leb (v .address) 0x77) (leb (v .gain) 31) (leb (v .floor) 4095) h in
+    let both : leb 1 (v .part) && leb (v .part) 3 ≡ true = first (leb 1 (v .part)) (leb (v .part) 3) (leb (bitOf (v .crc)) 1) (leb 0x08 (v .address)) (leb (v .address) 0x77) (leb (v .gain) 31) (leb (v .floor) 4095) (and-left (setupFits (v .part) (bitOf (v .crc)) (v .address) (v .gain) (v .floor)) (eqb (v .cells) 0) h) in
     (leb-true 1 (v .part) (and-left (leb 1 (v .part)) (leb (v .part) 3) both), leb-true (v .part) 3 (and-right (leb 1 (v .part)) (leb (v .part) 3) both))
   where
     first : (a b c d e f g : Bool) → a && b && c && d && e && f && g ≡ true → a && b ≡ true
@@ -96,27 +116,27 @@ good-part v h =
     first false b c d e f g h = h
 
 -- it makes the chip, and no later record another
-pub first-stands : (s : List ℕ) (v : SetupValues) (next : ℕ) → readOf 0 s ≡ Record (Setup v) next → lastChip s ≡ stands (length s - 1) (inShip v) (drop next s)
+pub first-stands : (s : List ℕ) (v : SetupValues) (next : ℕ) → readOf 0 s ≡ Record (Setup v) next → lastChip s ≡ stands (length s - 1) true (inShip v) (drop next s)
 unfolding lastChip turnOf acted readOf
 first-stands [] v next q = let z : _≡_ {A = ℕ} 0 1 = cc in absurd (omega arith)
 first-stands (b ∷ s) v next q =
     let n : length s ≡ length (b ∷ s) - 1 = omega arith in
-    ap (λ (x : Read). cond (turned none (b ∷ s) x .last) (turned none (b ∷ s) x .chip) (stands (length s) (turned none (b ∷ s) x .chip) (drop (turned none (b ∷ s) x .next) (b ∷ s)))) q
-    ∙ ap (λ (f : ℕ). stands f (inShip v) (drop next (b ∷ s))) n
+    ap (λ (x : Read). cond (turned false none (b ∷ s) x .last) (turned false none (b ∷ s) x .chip) (stands (length s) (turned false none (b ∷ s) x .fresh) (turned false none (b ∷ s) x .chip) (drop (turned false none (b ∷ s) x .next) (b ∷ s)))) q
+    ∙ ap (λ (f : ℕ). stands f true (inShip v) (drop next (b ∷ s))) n
 
 pub first-entries : (s : List ℕ) (v : SetupValues) (next : ℕ) → readOf 0 s ≡ Record (Setup v) next
-    → entries s ≡ entryOf (bornOf v) ∷ runs (length s - 1) (inShip v) (drop next s)
+    → entries s ≡ entryOf (bornOf v) ∷ runs (length s - 1) true (inShip v) (drop next s)
 unfolding entries turnOf acted readOf
 first-entries [] v next q = let z : _≡_ {A = ℕ} 0 1 = cc in absurd (omega arith)
 first-entries (b ∷ s) v next q =
     let n : length s ≡ length (b ∷ s) - 1 = omega arith in
-    ap (λ (x : Read). turned none (b ∷ s) x .entry ∷ cond (turned none (b ∷ s) x .last) [] (runs (length s) (turned none (b ∷ s) x .chip) (drop (turned none (b ∷ s) x .next) (b ∷ s)))) q
-    ∙ ap (λ (f : ℕ). entryOf (bornOf v) ∷ runs f (inShip v) (drop next (b ∷ s))) n
+    ap (λ (x : Read). turned false none (b ∷ s) x .entry ∷ cond (turned false none (b ∷ s) x .last) [] (runs (length s) (turned false none (b ∷ s) x .fresh) (turned false none (b ∷ s) x .chip) (drop (turned false none (b ∷ s) x .next) (b ∷ s)))) q
+    ∙ ap (λ (f : ℕ). entryOf (bornOf v) ∷ runs f true (inShip v) (drop next (b ∷ s))) n
 
-pub first-setup-stays : (s : List ℕ) (v : SetupValues) (next : ℕ) → readOf 0 s ≡ Record (Setup v) next → lastChip s .setup ≡ v
+pub first-setup-stays : (s : List ℕ) (v : SetupValues) (next : ℕ) → readOf 0 s ≡ Record (Setup v) next → withCells 0 (lastChip s .setup) ≡ withCells 0 v
 first-setup-stays s v next q =
     let g : (1 ≤ v .part) × (v .part ≤ 3) = good-part v (first-setup s (Setup v) next q) in
-    ap (λ (c : Chip). c .setup) (first-stands s v next q) ∙ setup-stands (length s - 1) (inShip v) (drop next s) (λ z. omega (arith, g .0))
+    ap (λ (c : Chip). withCells 0 (c .setup)) (first-stands s v next q) ∙ setup-stands (length s - 1) true (inShip v) (drop next s) (λ z. omega (arith, g .0))
 
 -- refused, its number is not 0
 abbrev Numbered : Payload → Type 0
@@ -176,6 +196,7 @@ made-by s (Record e next) q w h = by e q (first-setup s e next q)
     by (Load l) q g = absurd g
     by Xready q g = absurd g
     by (OnBus x) q g = absurd g
+    by (Wires n) q g = absurd g
 made-by s (Refused k next) q w h = absurd (w h)
 made-by s Cut q w h = absurd (omega (arith, h))
 

@@ -2,7 +2,7 @@
 use mathlib.Core.Path.{_≡_}
 use Prim.Native.Nat.{ℕ, zero, suc, _+_, _-_, _*_}
 use mathlib.Core.List.{List, [], _∷_, _++_}
-use mathlib.Core.Bool.{Bool, true, false, cond}
+use mathlib.Core.Bool.{Bool, true, false, cond, not, _&&_, _||_}
 use lib.ListN.{length, drop}
 use lib.Seq.{sets}
 use lib.Dec.{eqb, leb}
@@ -10,10 +10,13 @@ use lib.IntN.{ℤ, pos, negsuc}
 use Rattle.events.specs.declared.Setup.{Setup as SetupValues}
 use Rattle.events.specs.declared.Counts.{Counts}
 use Rattle.events.specs.declared.Event.{Event}
-use Rattle.events.specs.declared.Event.the-variants.{Setup, Por, Boot, Scan, Temp, Count, Sense, Pin, Load, Xready, OnBus}
+use Rattle.events.specs.declared.Event.the-variants.{Setup, Por, Boot, Scan, Temp, Count, Sense, Pin, Load, Xready, OnBus, Wires}
 use Rattle.records.specs.declared.Read.{Read}
 use Rattle.records.specs.declared.Read.the-variants.{Record, Refused, Cut}
 use Rattle.records.specs.Record.{standing, readOf, countsIn, countsBeside}
+use Rattle.wiring.specs.Rows.{wiredWith, wiredNumber}
+use Rattle.wiring.specs.declared.Wiring.{Wiring}
+use Rattle.wiring.specs.declared.Wiring.the-variants.{With, NoRow}
 use Rattle.settings.specs.Bit.{weighed}
 use Rattle.registers.specs.Read.{statusByte}
 use Rattle.chip.specs.declared.Chip.{Chip}
@@ -55,58 +58,76 @@ entryOf s = entryWith (answerOf s) (faceOf (s .chip))
 abbrev pub bornOf : SetupValues → Stepped
 bornOf v = quiet 0 (inShip v)
 
--- SETUP, which the reader gives only first, makes the chip; every other event happens to it
-unfoldable pub acted : Event → Counts → Chip → Stepped
-acted (Setup v) k c = bornOf v
-acted Por k c = steppedBy Por k c
-acted Boot k c = steppedBy Boot k c
-acted Scan k c = steppedBy Scan k c
-acted Temp k c = steppedBy Temp k c
-acted (Count n) k c = steppedBy (Count n) k c
-acted (Sense v) k c = steppedBy (Sense v) k c
-acted Pin k c = steppedBy Pin k c
-acted (Load l) k c = steppedBy (Load l) k c
-acted Xready k c = steppedBy Xready k c
-acted (OnBus b) k c = steppedBy (OnBus b) k c
+-- request M-107: a wiring record makes the chip anew, with its cells; it is taken straight after SETUP, and elsewhere it is 2
+abbrev pub wiredAs : Wiring → Chip → Stepped
+wiredAs (With u) c = bornOf u
+wiredAs NoRow c = quiet (wiredNumber NoRow) c
 
--- ── what a record makes of a chip: its entry, the next chip and place, and whether it is the last ──
+abbrev pub wires : Bool → ℕ → Chip → Stepped
+wires fresh n c = cond fresh (wiredAs (wiredWith (c .setup) n) c) (quiet 2 c)
+
+-- SETUP, which the reader gives only first, makes the chip; every other event happens to it. `fresh` says that only SETUP and refused records
+-- stand before
+unfoldable pub acted : Bool → Event → Counts → Chip → Stepped
+acted o (Setup v) k c = bornOf v
+acted o Por k c = steppedBy Por k c
+acted o Boot k c = steppedBy Boot k c
+acted o Scan k c = steppedBy Scan k c
+acted o Temp k c = steppedBy Temp k c
+acted o (Count n) k c = steppedBy (Count n) k c
+acted o (Sense v) k c = steppedBy (Sense v) k c
+acted o Pin k c = steppedBy Pin k c
+acted o (Load l) k c = steppedBy (Load l) k c
+acted o Xready k c = steppedBy Xready k c
+acted o (OnBus b) k c = steppedBy (OnBus b) k c
+acted o (Wires n) k c = wires o n c
+
+-- .. and after a record: after SETUP, which alone meets no part, and after a refused one
+abbrev pub staysFresh : Bool → Chip → Stepped → Bool
+staysFresh o c s = eqb (c .setup .part) 0 || (o && not (eqb (s .number) 0))
+
+-- ── what a record makes of a chip: its entry, the next chip and place, whether a wiring record may follow, and whether it is the last ──
 pub record Turn : Type 0 where
   pub chip : Chip
+  pub fresh : Bool
   pub entry : Entry
   pub next : ℕ
   pub last : Bool
 
-abbrev pub turn : Stepped → ℕ → Bool → Turn
-turn s next last = record { chip = s .chip; entry = entryOf s; next = next; last = last }
+abbrev pub turn : Stepped → Bool → ℕ → Bool → Turn
+turn s fresh next last = record { chip = s .chip; fresh = fresh; entry = entryOf s; next = next; last = last }
 
 -- of any record
-abbrev pub turned : Chip → List ℕ → Read → Turn
-turned c rest (Record e next) = turn (acted e (countsBeside rest (Record e next)) c) next false
-turned c rest (Refused k next) = turn (quiet k c) next (eqb (c .setup .part) 0)
-turned c rest Cut = turn (quiet 9 c) 0 true
+abbrev pub turned : Bool → Chip → List ℕ → Read → Turn
+turned o c rest (Record e next) =
+    turn (acted o e (countsBeside rest (Record e next)) c) (staysFresh o c (acted o e (countsBeside rest (Record e next)) c)) next false
+turned o c rest (Refused k next) = turn (quiet k c) o next (eqb (c .setup .part) 0)
+turned o c rest Cut = turn (quiet 9 c) o 0 true
 
-unfoldable pub turnOf : Chip → List ℕ → Turn
-turnOf c rest = turned c rest (readOf (c .setup .part) rest)
+unfoldable pub turnOf : Bool → Chip → List ℕ → Turn
+turnOf o c rest = turned o c rest (readOf (c .setup .part) rest)
 
 -- ── the entries of a stream, and the chip that stands at its end: a refused first record, or number 9, is the last; no bytes left ends
 -- it without an entry. Each record takes a byte at least, so the stream's length is fuel enough ──
-abbrev pub runs : ℕ → Chip → List ℕ → List Entry
-runs zero c s = []
-runs (suc f) c [] = []
-runs (suc f) c (b ∷ s) =
-    turnOf c (b ∷ s) .entry ∷ cond (turnOf c (b ∷ s) .last) [] (runs f (turnOf c (b ∷ s) .chip) (drop (turnOf c (b ∷ s) .next) (b ∷ s)))
+abbrev pub runs : ℕ → Bool → Chip → List ℕ → List Entry
+runs zero o c s = []
+runs (suc f) o c [] = []
+runs (suc f) o c (b ∷ s) =
+    turnOf o c (b ∷ s) .entry
+    ∷ cond (turnOf o c (b ∷ s) .last) [] (runs f (turnOf o c (b ∷ s) .fresh) (turnOf o c (b ∷ s) .chip) (drop (turnOf o c (b ∷ s) .next) (b ∷ s)))
 
-abbrev pub stands : ℕ → Chip → List ℕ → Chip
-stands zero c s = c
-stands (suc f) c [] = c
-stands (suc f) c (b ∷ s) =
-    cond (turnOf c (b ∷ s) .last) (turnOf c (b ∷ s) .chip) (stands f (turnOf c (b ∷ s) .chip) (drop (turnOf c (b ∷ s) .next) (b ∷ s)))
+abbrev pub stands : ℕ → Bool → Chip → List ℕ → Chip
+stands zero o c s = c
+stands (suc f) o c [] = c
+stands (suc f) o c (b ∷ s) =
+    cond (turnOf o c (b ∷ s) .last) (turnOf o c (b ∷ s) .chip)
+    (stands f (turnOf o c (b ∷ s) .fresh) (turnOf o c (b ∷ s) .chip) (drop (turnOf o c (b ∷ s) .next) (b ∷ s)))
 
 unfoldable pub entries : List ℕ → List Entry
-entries s = runs (length s) none s
+entries s = runs (length s) false none s
 
 unfoldable pub lastChip : List ℕ → Chip
-lastChip s = stands (length s) none s
+lastChip s = stands (length s) false none s
 
 abbrev pub entryBytes : Entry → List ℕ
 entryBytes e = e .number ∷ e .flag ∷ e .byte ∷ e .stat ∷ e .pins ∷ []

@@ -4,7 +4,7 @@ ghost use Prim.Native.Nat.{_+_, _*_, _<_, _^_};
 ghost use lib.ListN.{length, take};
 ghost use Rattle.records.specs.Record.{readOf, countsBeside};
 ghost use Rattle.records.specs.declared.Read.the-variants.{Record};
-ghost use Rattle.stream.specs.Stream.{none, faceOf, answerOf, unanswered as unansweredSpec, answerHeard, entryWith, bornOf, acted, noted, Ran, Played};
+ghost use Rattle.stream.specs.Stream.{none, faceOf, answerOf, unanswered as unansweredSpec, answerHeard, entryWith, bornOf, wires, acted, noted, Ran, Played};
 ghost use mathlib.Core.Bool.{false, _&&_};
 ghost use Rattle.chip.specs.Chip.{quiet as quietSpec, happened, happenedBy};
 ghost use Rattle.events.specs.Event.{Temp};
@@ -20,6 +20,7 @@ use events::Event;
 use events::Setup;
 use records::Framed;
 use records::Payload;
+use wiring::Wiring;
 
 mod convert;
 mod forecast;
@@ -65,6 +66,7 @@ fn no_chip() -> Chip
         gain: 0,
         offset: 0,
         floor: 0,
+        cells: 0,
     })
 }
 
@@ -141,7 +143,8 @@ fn work_of(awake: bool, event: Event) -> Work
         | Event::Count(_)
         | Event::Pin
         | Event::Load(_)
-        | Event::Xready => Work::Other,
+        | Event::Xready
+        | Event::Wires(_) => Work::Other,
     }
 }
 
@@ -162,6 +165,7 @@ fn seldom(chip: Chip, event: Event, counts: [u16; 15]) -> Stepped
         Event::Load(level) => chip.load(level),
         Event::Xready => chip.xready(),
         Event::OnBus(bus) => chip.doze(bus),
+        Event::Wires(_) => quiet(2, chip),
     }
 }
 
@@ -184,21 +188,46 @@ fn counted(part: u8, event: Event, rest: &[u8], next: usize) -> [u16; 15]
     counts.of
 }
 
-// A record that was read, done: SETUP makes the chip, every other event happens to it.
-fn act(chip: Chip, event: Event, rest: &[u8], next: usize) -> Stepped
+// A record that was read, done: SETUP makes the chip, a wiring record makes it anew, every other event happens to it.
+fn act(chip: Chip, fresh: bool, event: Event, rest: &[u8], next: usize) -> Stepped
     requires { ⌜ readOf (chip .setup .part) (now rest) ≡ Record event next ⌝ }
     requires { ⌜ (chip .awake && often event) ≡ false ⌝ }
-    ensures { λ r. ⌜ r ≡ acted event (countsBeside (now (rest .entry)) (Record event next)) chip ⌝ }
+    ensures { λ r. ⌜ r ≡ acted fresh event (countsBeside (now (rest .entry)) (Record event next)) chip ⌝ }
 {
-    let Event::Setup(setup) = event else {
-        let setup = chip.setup;
-        let counts = counted(setup.part, event, rest, next);
-        return seldom(chip, event, counts);
-    };
-    born(setup)
+    match event {
+        Event::Setup(setup) => born(setup),
+        Event::Wires(cells) => rewired(chip, fresh, cells),
+        Event::Por
+        | Event::Boot
+        | Event::Scan
+        | Event::Temp
+        | Event::Count(_)
+        | Event::Sense(_)
+        | Event::Pin
+        | Event::Load(_)
+        | Event::Xready
+        | Event::OnBus(_) => {
+            let setup = chip.setup;
+            let counts = counted(setup.part, event, rest, next);
+            seldom(chip, event, counts)
+        }
+    }
 }
 
-// The chip that SETUP makes.
+// A wiring record, which is taken straight after SETUP alone.
+fn rewired(chip: Chip, fresh: bool, cells: u8) -> Stepped
+    ensures { λ r. ⌜ r ≡ wires fresh cells chip ⌝ }
+{
+    if !fresh {
+        return quiet(2, chip);
+    }
+    match wiring::wire(chip.setup, cells) {
+        Wiring::With(setup) => born(setup),
+        Wiring::NoRow => quiet(13, chip),
+    }
+}
+
+// The chip that SETUP, or a wiring record, makes.
 fn born(setup: Setup) -> Stepped
     ensures { λ r. ⌜ r ≡ bornOf setup ⌝ }
 {
@@ -237,6 +266,7 @@ fn run(s: &[u8], out: &mut [u8]) -> Chip
     ensures { λ r. ⌜ Ran (now (s .entry)) (now (out .entry)) r (now (out .exit)) ⌝ }
 {
     let mut chip = no_chip();
+    let mut fresh = false; // Only SETUP and refused records came so far: a wiring record is taken.
     let mut face = face_of(chip);
     let mut at = 0;
     let mut n = 0;
@@ -260,6 +290,7 @@ fn run(s: &[u8], out: &mut [u8]) -> Chip
             Payload::Whole(event) => match work_of(chip.awake, event) {
                 Work::Scans => {
                     chip = chip.scanned(counted(setup.part, event, rest, next));
+                    fresh = false;
                     face = face_of(chip);
                 }
                 Work::Ticks(value) => {
@@ -267,6 +298,7 @@ fn run(s: &[u8], out: &mut [u8]) -> Chip
                     let risen = judged.risen;
                     let runs = judged.runs;
                     chip.runs = runs;
+                    fresh = false;
                     if risen.scd | risen.ocd {
                         chip = chip.raised(risen);
                         face = face_of(chip);
@@ -276,6 +308,7 @@ fn run(s: &[u8], out: &mut [u8]) -> Chip
                     let heard = chip.heard(signal);
                     let bus = heard.bus;
                     chip.bus = bus;
+                    fresh = false;
                     answer = answer_heard(heard);
                     let store = heard.store;
                     match store {
@@ -287,7 +320,8 @@ fn run(s: &[u8], out: &mut [u8]) -> Chip
                     }
                 }
                 Work::Other => {
-                    let step = act(chip, event, rest, next);
+                    let step = act(chip, fresh, event, rest, next);
+                    fresh = (setup.part == 0) | (fresh & (step.number != 0));
                     chip = step.chip;
                     answer = answer_of(step);
                     face = face_of(chip);

@@ -1,0 +1,140 @@
+-- Request M-107: the number of cells moves nothing. A chip with another number of cells answers every event alike and is left alike but for that
+-- number, so that every claim over events holds of a wired chip as it does of one without a wiring record. Assumes nothing.
+use mathlib.Core.Path.{_≡_, refl, sym, ap, _∙_}
+use mathlib.Core.Bool.{Bool, true, false, cond}
+use mathlib.Core.List.{List, [], _∷_}
+use Prim.Native.Nat.{ℕ}
+use Rattle.events.specs.declared.Setup.{Setup}
+use Rattle.events.specs.declared.Counts.{Counts}
+use Rattle.events.specs.declared.BusEvent.{BusEvent}
+use Rattle.events.specs.declared.BusEvent.the-variants.{Start, Stop, Out, In}
+use Rattle.events.specs.declared.Event.{Event as Coded}
+use Rattle.events.specs.declared.Event.the-variants.{Setup as Setup-, Por as Por-, Boot as Boot-, Pin as Pin-, Xready as Xready-, Scan as Scan-, Temp as Temp-, Count as Count-, Sense as Sense-, Load as Load-, OnBus as OnBus-, Wires as Wires-}
+use Rattle.events.specs.Setup.{groups, inputs, withCells}
+use Rattle.events.specs.Event.{Event, Por, Boot, Pin, Xready, Scan, Temp, Count, Sense, Load, OnBus, fits, meantOf}
+use Rattle.bus.specs.declared.Phase.{Phase}
+use Rattle.bus.specs.declared.Phase.the-variants.{Idle, Address, Pointing, Writing, Checking, Reading, Summing}
+use Rattle.bus.specs.declared.Line.{Line}
+use Rattle.bus.specs.declared.Store.{Store}
+use Rattle.bus.specs.declared.Store.the-variants.{Nothing, At}
+use Rattle.bus.specs.declared.Outed.{Outed}
+use Rattle.bus.specs.Bus.{outIn, outed, addressed, fed, inLine, taken, owing, given, gives, grown}
+use Rattle.settings.specs.Write.{ships}
+use Rattle.registers.specs.declared.Registers.{Registers}
+use Rattle.registers.specs.Write.{balanceWith}
+use Rattle.registers.specs.Read.{balanceByte, lowByte, wordAt, fixedByte, readAt}
+use Rattle.chip.specs.declared.Chip.{Chip}
+use Rattle.chip.specs.declared.Stepped.{Stepped}
+use Rattle.chip.specs.Chip.{quiet, inShip, accepted, storedAt, stored, sent, handed, reads, onBus, normally, asleep, happened, stepped}
+use Rattle.demands.specs.Demand.{chip}
+
+-- the chip, and an answer of it, with another number of cells
+abbrev pub celled : ℕ → Chip → Chip
+celled n c = record { setup = withCells n (c .setup); awake = c .awake; bus = c .bus; registers = c .registers; runs = c .runs }
+
+abbrev pub celledIn : ℕ → Stepped → Stepped
+celledIn n s = record { chip = celled n (s .chip); number = s .number; flag = s .flag; byte = s .byte }
+
+module _ (n : ℕ) where
+  -- ── the bus ──
+  out-cells : (u : Setup) (p : Phase) (a b : ℕ) → outIn (withCells n u) p a b ≡ outIn u p a b
+  unfolding addressed fed
+  out-cells u Idle a b = refl
+  out-cells u Address a b = refl
+  out-cells u (Pointing s) a b = refl
+  out-cells u (Writing s) a b = refl
+  out-cells u (Checking v s) a b = refl
+  out-cells u (Reading s k) a b = refl
+  out-cells u (Summing k) a b = refl
+
+  in-cells : (u : Setup) (l : Line) (p : Phase) (nack : Bool) → inLine (withCells n u) l p nack ≡ inLine u l p nack
+  in-cells u l Idle nack = refl
+  in-cells u l Address nack = refl
+  in-cells u l (Pointing s) nack = refl
+  in-cells u l (Writing s) nack = refl
+  in-cells u l (Checking v s) nack = refl
+  in-cells u l (Reading s k) nack = refl
+  in-cells u l (Summing k) nack = refl
+
+  stored-cells : (l : Line) (t : Store) (c : Chip) → stored l t (celled n c) ≡ celled n (stored l t c)
+  unfolding storedAt balanceWith groups
+  stored-cells l Nothing c = refl
+  stored-cells l (At a v) c = by (ships a v (c .registers .settings))
+    where
+      by : (b : Bool) → cond b (inShip (withCells n (c .setup))) (accepted l a v (celled n c)) ≡ celled n (cond b (inShip (c .setup)) (accepted l a v c))
+      by true = refl
+      by false = refl
+
+  reads-cells : (c : Chip) (a : ℕ) → reads (celled n c) a ≡ reads c a
+  unfolding readAt lowByte balanceByte wordAt fixedByte groups inputs
+  reads-cells c a = refl
+
+  bus-cells : (b : BusEvent) (c : Chip) → onBus b (celled n c) ≡ celledIn n (onBus b c)
+  unfolding outed taken readAt lowByte balanceByte wordAt fixedByte groups inputs
+  bus-cells Start c = refl
+  bus-cells Stop c = refl
+  bus-cells (Out b) c =
+      ap (λ (o : Outed). sent o (celled n c)) (out-cells (c .setup) (c .bus .line .phase) (c .bus .line .pointer) b)
+      ∙ (λ i. record { chip = stored-cells (outed (c .setup) (c .bus .line) b .line) (outed (c .setup) (c .bus .line) b .store) c i; number = 0; flag = true; byte = outed (c .setup) (c .bus .line) b .byte })
+  bus-cells (In nack) c =
+      ap (λ (l : Line). handed (gives l (owing (reads c (c .bus .line .pointer)) (reads c (grown (c .bus .line .pointer))) (c .bus)) (given (reads c (c .bus .line .pointer)) (c .bus))) (celled n c))
+      (in-cells (c .setup) (c .bus .line) (c .bus .line .phase) nack)
+
+  -- ── each event ──
+  normal-cells : (e : Event) (c : Chip) → normally e (celled n c) ≡ celledIn n (normally e c)
+  normal-cells Por c = refl
+  normal-cells Boot c = refl
+  normal-cells Pin c = refl
+  normal-cells Xready c = refl
+  normal-cells (Scan xs) c = refl
+  normal-cells (Temp xs) c = refl
+  normal-cells (Count n) c = refl
+  normal-cells (Sense v) c = refl
+  normal-cells (Load l) c = refl
+  normal-cells (OnBus b) c = bus-cells b c
+
+  asleep-cells : (e : Event) (c : Chip) → asleep e (celled n c) ≡ celledIn n (asleep e c)
+  asleep-cells Por c = refl
+  asleep-cells Boot c = refl
+  asleep-cells Pin c = refl
+  asleep-cells Xready c = refl
+  asleep-cells (Scan xs) c = refl
+  asleep-cells (Temp xs) c = refl
+  asleep-cells (Count n) c = refl
+  asleep-cells (Sense v) c = refl
+  asleep-cells (Load l) c = refl
+  asleep-cells (OnBus Start) c = refl
+  asleep-cells (OnBus Stop) c = refl
+  asleep-cells (OnBus (Out b)) c = refl
+  asleep-cells (OnBus (In nack)) c = refl
+
+  pub stepped-cells : (e : Event) (c : Chip) → stepped e (celled n c) ≡ celledIn n (stepped e c)
+  unfolding stepped happened
+  stepped-cells e c = by (fits e) (c .awake)
+    where
+      by : (f a : Bool) → cond f (cond a (normally e (celled n c)) (asleep e (celled n c))) (quiet 3 (celled n c)) ≡ celledIn n (cond f (cond a (normally e c) (asleep e c)) (quiet 3 c))
+      by true true = normal-cells e c
+      by true false = asleep-cells e c
+      by false a = refl
+
+  -- ── any events ──
+  pub same-but-cells : (u : Setup) (past : List Event) → chip (withCells n u) past ≡ celled n (chip u past)
+  unfolding chip
+  same-but-cells u [] = refl
+  same-but-cells u (e ∷ past) = ap (λ (c : Chip). stepped e c .chip) (same-but-cells u past) ∙ ap (λ (s : Stepped). s .chip) (stepped-cells e (chip u past))
+
+  -- ── and the code's events mean the same ──
+  pub meant-cells : (u : Setup) (e : Coded) (k : Counts) → meantOf (withCells n u) e k ≡ meantOf u e k
+  unfolding meantOf groups inputs
+  meant-cells u (Setup- v) k = refl
+  meant-cells u Por- k = refl
+  meant-cells u Boot- k = refl
+  meant-cells u Pin- k = refl
+  meant-cells u Xready- k = refl
+  meant-cells u Scan- k = refl
+  meant-cells u Temp- k = refl
+  meant-cells u (Count- n) k = refl
+  meant-cells u (Sense- v) k = refl
+  meant-cells u (Load- l) k = refl
+  meant-cells u (OnBus- b) k = refl
+  meant-cells u (Wires- n) k = refl
