@@ -18,6 +18,7 @@ fn set_up(part: u8, crc: bool) -> Setup {
         gain: 10,
         offset: 30,
         floor: 1000,
+        cells: 0,
     }
 }
 

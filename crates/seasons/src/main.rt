@@ -26,6 +26,7 @@ fn set_up(part: u8, gain: u8, offset: u8) -> Setup {
         gain,
         offset,
         floor: 1000,
+        cells: 0,
     }
 }
 

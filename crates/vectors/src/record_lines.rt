@@ -167,6 +167,7 @@ fn setup(part: u8, address: u8, gain: u8, floor: u16) -> Event {
         gain,
         offset: 0x1E,
         floor,
+        cells: 0,
     })
 }
 

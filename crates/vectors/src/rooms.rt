@@ -308,6 +308,7 @@ fn setup_of(part: u8) -> Setup {
         gain: 0x15,
         offset: 0x9E,
         floor: 1000,
+        cells: 0,
     }
 }
 

@@ -94,6 +94,10 @@ pub same-cells : (u : Setup) → packCells u ≡ packCells (setupAt (u .part) (u
 unfolding wiredInputs isWired inputs
 same-cells u = refl
 
+pub same-input : (u : Setup) (n : ℕ) → inputOf u n ≡ inputOf (setupAt (u .part) (u .cells)) n
+unfolding wiredInputs isWired inputs
+same-input u n = refl
+
 -- THE THIRTEEN ROWS
 pub numbering : (u : Setup) → hasRow (u .part) (u .cells) ≡ true → Numbers u (u .cells)
 numbering u h = subst (Numbers u) (same-cells u ∙ each-row SoMany so-many (u .part) (u .cells) h) (numbers u)
