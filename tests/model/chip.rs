@@ -36,11 +36,47 @@ pub struct Setup {
     pub gain_code: u8,
     pub offset: u8,
     pub floor: u16,
+    /// The number of cells of a wiring record.
+    pub cells: Option<u8>,
+}
+
+/// Tables 3 to 5 of source document 000, a digit an input, input 1 first: 1 has a cell, 0 is shorted.
+const WIRINGS: [(u8, u8, &str); 13] = [
+    (1, 3, "11001"),
+    (1, 4, "11101"),
+    (1, 5, "11111"),
+    (2, 6, "1100111001"),
+    (2, 7, "1110111001"),
+    (2, 8, "1110111101"),
+    (2, 9, "1111111101"),
+    (2, 10, "1111111111"),
+    (3, 11, "111011110111001"),
+    (3, 12, "111011110111101"),
+    (3, 13, "111111110111101"),
+    (3, 14, "111111111111101"),
+    (3, 15, "111111111111111"),
+];
+
+/// The inputs that have a cell, where the part has a row for that many.
+pub fn wiring(part: u8, cells: u8) -> Option<Vec<usize>> {
+    let row = WIRINGS.iter().find(|row| row.0 == part && row.1 == cells)?;
+    Some(row.2.bytes().enumerate().filter(|(_, digit)| *digit == b'1').map(|(input, _)| input).collect())
 }
 
 impl Setup {
     pub fn inputs(&self) -> usize {
         5 * usize::from(self.part)
+    }
+
+    /// The inputs of the pack's cells, cell 1's first.
+    fn wired(&self, plant: Plant) -> Vec<usize> {
+        let all = (0..self.inputs()).collect();
+        let Some(cells) = self.cells else { return all };
+        let mut row = wiring(self.part, cells).unwrap_or(all);
+        if plant == (Plant::WrongRow { part: self.part, cells }) {
+            row.remove(0);
+        }
+        row
     }
 }
 
@@ -119,6 +155,9 @@ impl Chip {
 
     fn sleep(&mut self) {
         self.awake = false;
+        if self.planted(Plant::WiringLostInShip) {
+            self.setup.cells = None;
+        }
         self.page = page_after_reset(&self.setup, self.plant);
         if !self.planted(Plant::RunsOutliveShip) {
             self.verdicts = Default::default();
@@ -141,6 +180,10 @@ impl Chip {
         if self.planted(Plant::PorStaysAwake) {
             self.awake = awake;
         }
+    }
+
+    pub fn wire(&mut self, cells: u8) {
+        self.setup.cells = Some(cells);
     }
 
     pub fn boot(&mut self) {
@@ -411,11 +454,12 @@ impl Chip {
         }
         self.store_scan(counts);
         let judged = match self.plant {
-            Plant::OnlyFirstInputJudged => &counts[..1],
-            Plant::LastInputNotJudged => &counts[..counts.len() - 1],
-            _ => counts,
+            Plant::OnlyFirstInputJudged => counts[..1].to_vec(),
+            Plant::LastInputNotJudged => counts[..counts.len() - 1].to_vec(),
+            Plant::ShortedNotJudged => self.setup.wired(self.plant).iter().map(|input| counts[*input]).collect(),
+            _ => counts.to_vec(),
         };
-        let (over, under) = (self.is_over(judged), self.is_under(judged));
+        let (over, under) = (self.is_over(&judged), self.is_under(&judged));
         self.judge(Fault::Ov, over);
         self.judge(Fault::Uv, under);
     }
@@ -703,9 +747,13 @@ impl Chip {
         if !self.awake && !self.planted(Plant::ReadingAsleepGiven) {
             return Err(4);
         }
-        let inputs = if self.planted(Plant::ReadingAllInputs) { 15 } else { self.setup.inputs() };
+        let inputs = match self.plant {
+            Plant::ReadingAllInputs => (0..15).collect(),
+            Plant::ReadingOfShorted => (0..self.setup.inputs()).collect(),
+            _ => self.setup.wired(self.plant),
+        };
         let mut volts: Vec<i64> = Vec::new();
-        for input in 0..inputs {
+        for input in inputs {
             let offset = if self.planted(Plant::ReadingOffsetUnsigned) {
                 i64::from(self.setup.offset)
             } else {
@@ -718,7 +766,7 @@ impl Chip {
         let total: i64 = volts.iter().sum();
         let raw = self.pair(0x32);
         let cc = if self.planted(Plant::ReadingCcUnsigned) { 844 * i64::from(raw) } else { values::cc(raw) };
-        Ok([volts[0] as f64, volts[inputs - 1] as f64, total as f64, cc as f64])
+        Ok([volts[0] as f64, volts[volts.len() - 1] as f64, total as f64, cc as f64])
     }
 }
 

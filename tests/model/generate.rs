@@ -59,6 +59,7 @@ const START: u16 = 0x10;
 const OUT: u16 = 0x11;
 const IN: u16 = 0x12;
 const STOP: u16 = 0x13;
+const WIRES: u16 = 0x16;
 
 #[derive(Clone, Copy, PartialEq)]
 enum Kind {
@@ -105,10 +106,41 @@ impl Maker {
         let part = self.rng.between(1, 3) as u8;
         let crc_on = self.rng.once_in(2);
         self.setup(part, crc_on);
+        if self.rng.once_in(2) {
+            self.wiring();
+        }
         if self.rng.once_in(6) {
             self.asleep();
         }
         self.push(BOOT, &[]);
+    }
+
+    /// A number of cells that the part has a row for.
+    fn row(&mut self) -> u8 {
+        match self.chip().setup.part {
+            1 => self.rng.between(3, 5) as u8,
+            2 => self.rng.between(6, 10) as u8,
+            _ => self.rng.between(11, 15) as u8,
+        }
+    }
+
+    /// A wiring record; refused records, one that comes first, or a number without a row may stand before it, and another after it.
+    fn wiring(&mut self) {
+        for _ in 0..self.rng.below(3) {
+            self.hostile();
+        }
+        if self.rng.once_in(6) {
+            let kind = self.rng.pick(&[START, STOP, POR]);
+            self.push(kind, &[]);
+        }
+        if self.rng.once_in(3) {
+            let cells = self.rng.pick(&[0, 1, 2, 3, 5, 6, 10, 11, 15, 16, 255]);
+            self.push(WIRES, &[cells]);
+        }
+        for _ in 0..self.rng.between(1, 2) {
+            let cells = self.row();
+            self.push(WIRES, &[cells]);
+        }
     }
 
     // ---- bus
@@ -492,10 +524,14 @@ impl Maker {
         }
     }
 
-    /// A record that is refused.
+    /// A record that is refused, but for a wiring record where it is taken.
     fn hostile(&mut self) {
-        match self.rng.below(13) {
+        match self.rng.below(14) {
             0..=3 => self.wrong_kind_or_length(),
+            13 => {
+                let cells = if self.rng.once_in(2) { self.row() } else { self.rng.below(17) as u8 };
+                self.push(WIRES, &[cells]);
+            }
             4 => {
                 let part = self.chip().setup.part;
                 self.setup(part, true);

@@ -141,6 +141,16 @@ pub enum Plant {
     CutEntryBlank,
     KindLowByteOnly,
     LengthLowByteOnly,
+    // wiring
+    WiringLostInShip,
+    WiringTakenLate,
+    SecondWiringTaken,
+    RefusedEndsWiring,
+    RowBeforePlace,
+    RowsOfAnyPart,
+    ShortedNotJudged,
+    ReadingOfShorted,
+    WrongRow { part: u8, cells: u8 },
     // readings and conversions
     ReadingOffsetUnsigned,
     ReadingCcUnsigned,
@@ -181,6 +191,8 @@ const PLAIN: &[Plant] = &[
     SecondSetupTaken, UnknownKindEndsStream, KindsDecimal, AsleepBeforeRange, AsleepBeforeLength, BusRefusedAsleep,
     BootRefusedAwake, SenseEndsLeftOut, RangeNotChecked, CutAfterKind, RefusedFirstGoesOn, FlagOnRefused, CutEntryBlank,
     KindLowByteOnly, LengthLowByteOnly,
+    WiringLostInShip, WiringTakenLate, SecondWiringTaken, RefusedEndsWiring, RowBeforePlace, RowsOfAnyPart, ShortedNotJudged,
+    ReadingOfShorted,
     ReadingOffsetUnsigned, ReadingCcUnsigned, ReadingAllInputs, ReadingAsleepGiven, ReadingRefusedWhereCut,
     GainFrom343, ThermistorLimit, ThermistorNearest, DieLimit, OvWindowWider, UvWindowNarrower, CodeOffsetAdded,
 ];
@@ -208,6 +220,9 @@ pub fn all() -> Vec<Plant> {
     }
     plants.push(DelayDisForgotten(Fault::Ov));
     plants.push(DelayDisForgotten(Fault::Uv));
+    for (part, rows) in [(1, 3..=5), (2, 6..=10), (3, 11..=15)] {
+        plants.extend(rows.map(|cells| WrongRow { part, cells }));
+    }
     for bit in [2, 4, 5] {
         plants.push(ChargeDespite(bit));
     }

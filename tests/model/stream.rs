@@ -1,6 +1,6 @@
 //! Records, entries and the lines of the program, as document 01 gives them.
 
-use crate::chip::{Chip, Setup};
+use crate::chip::{wiring, Chip, Setup};
 use crate::plant::Plant;
 
 pub type Entry = [u8; 5];
@@ -9,6 +9,8 @@ pub type Entry = [u8; 5];
 pub struct Session {
     plant: Plant,
     pub chip: Option<Chip>,
+    /// Only SETUP and refused records came so far.
+    fresh: bool,
     pub ended: bool,
 }
 
@@ -35,6 +37,7 @@ fn setup_of(payload: &[u8]) -> Option<Setup> {
         gain_code: payload[3],
         offset: payload[4],
         floor: word(payload, 5),
+        cells: None,
     };
     let good = (1..=3).contains(&setup.part)
         && payload[1] <= 1
@@ -52,7 +55,7 @@ fn length_of(kind: u16, part: usize) -> Option<usize> {
         0x0004 => Some(2 * part),
         0x0005 => Some(2),
         0x0006 => Some(4),
-        0x0008 | 0x0011 | 0x0012 => Some(1),
+        0x0008 | 0x0011 | 0x0012 | 0x0016 => Some(1),
         _ => None,
     }
 }
@@ -90,13 +93,25 @@ fn refusal(chip: &Chip, kind: u16, payload: &[u8], plant: Plant) -> u8 {
     if !in_range(kind, payload, plant) {
         return 3;
     }
-    if asleep || !chip.awake && kind >= 0x10 && plant == Plant::BusRefusedAsleep {
+    if asleep || !chip.awake && (0x10..=0x13).contains(&kind) && plant == Plant::BusRefusedAsleep {
         return 4;
     }
     if chip.awake && kind == 2 && plant == Plant::BootRefusedAwake {
         return 2;
     }
     0
+}
+
+/// The number for a wiring record of the right length: 2 where it is not straight after SETUP, then 13; or 0.
+fn wiring_refusal(chip: &Chip, fresh: bool, cells: u8, plant: Plant) -> u8 {
+    let row = wiring(chip.setup.part, cells).is_some();
+    match plant {
+        Plant::RowBeforePlace if !row => 13,
+        _ if !fresh => 2,
+        Plant::RowsOfAnyPart if (1..=3).any(|part| wiring(part, cells).is_some()) => 0,
+        _ if !row => 13,
+        _ => 0,
+    }
 }
 
 /// Gives the event to the chip; the bus's answer where it has one.
@@ -114,6 +129,7 @@ fn act(chip: &mut Chip, kind: u16, payload: &[u8]) -> Option<u8> {
         0x0010 => chip.start(),
         0x0011 => return Some(if chip.out(payload[0]) { 0 } else { 1 }),
         0x0012 => return Some(chip.take(payload[0] == 0)),
+        0x0016 => chip.wire(payload[0]),
         _ => chip.stop(),
     }
     None
@@ -121,7 +137,7 @@ fn act(chip: &mut Chip, kind: u16, payload: &[u8]) -> Option<u8> {
 
 impl Session {
     pub fn new(plant: Plant) -> Session {
-        Session { plant, chip: None, ended: false }
+        Session { plant, chip: None, fresh: false, ended: false }
     }
 
     fn entry(&self, number: u8, bus: Option<u8>) -> Entry {
@@ -198,10 +214,21 @@ impl Session {
             }
             let setup = setup_of(payload).ok_or(1)?;
             self.chip = Some(Chip::new(setup, plant));
+            self.fresh = true;
             return Ok(None);
         }
+        let fresh = self.fresh;
         let chip = self.chip.as_mut().ok_or(2)?;
-        let number = refusal(chip, kind, payload, plant);
+        let number = match refusal(chip, kind, payload, plant) {
+            0 if kind == 0x16 => wiring_refusal(chip, fresh, payload[0], plant),
+            number => number,
+        };
+        self.fresh = match plant {
+            Plant::WiringTakenLate => fresh && kind != 0x16 || fresh && number != 0,
+            Plant::SecondWiringTaken => fresh && (number != 0 || kind == 0x16),
+            Plant::RefusedEndsWiring => false,
+            _ => fresh && number != 0,
+        };
         if number == 3 {
             chip.refused(kind);
         }

@@ -132,8 +132,8 @@ module _ (u : SetupValues) where
           fresh-is = ap (λ (t : Stepped). staysFresh o (celled n (chip u past)) t) is ∙ ap (λ (b : Bool). b || (o && not (eqb (s .number) 0))) (goes-on n past) ∙ ap (λ (t : Stepped). o && not (eqb (t .number) 0)) (sym said);
           entry-is = ap entryOf is ∙ ap entryOf (sym said);
           untouched = λ h.
-          let w = both-true o (eqb (s .number) 0) (ap (λ (t : Stepped). o && not (eqb (t .number) 0)) (sym said) ∙ h) in
-          ap (chip u) heard ∙ still (w .0) (λ z. true≢false (sym (eq-eqb (s .number) 0 z) ∙ w .1));
+              let w = both-true o (eqb (s .number) 0) (ap (λ (t : Stepped). o && not (eqb (t .number) 0)) (sym said) ∙ h) in
+              ap (chip u) heard ∙ still (w .0) (λ z. true≢false (sym (eq-eqb (s .number) 0 z) ∙ w .1));
         }
 
     took-wires : (o : Bool) (n : ℕ) (r : List ℕ) (past : List Event) → Untouched o past → (m next : ℕ) → Took o n r past (Record (Wires m) next)

@@ -9,6 +9,7 @@ use events::Counts;
 use events::Event;
 use events::Setup;
 use libc::STDOUT_FILENO;
+use wiring::Wiring;
 
 fn set_up(part: u8, crc: bool) -> Setup {
     Setup {
@@ -208,7 +209,36 @@ fn scene(crc: bool) {
     ));
 }
 
+// A pack of three cells on five inputs, 3 and 4 shorted: cells 1, 2 and 3 are at inputs 1, 2 and 5, and so after SHIP. All inputs are judged.
+fn pack(setup: Setup) {
+    let chip = plain(chip::in_ship(setup), Event::Wires(4));
+    let chip = plain(chip, Event::Boot);
+    let chip = read(write(chip, 0x05, 0x80, 0), 0x05);
+    let chip = five(chip, 6144, 12288, 7952);
+    voltages(chip);
+    let chip = plain(plain(chip, Event::Por), Event::Boot);
+    let chip = plain(chip, Event::Wires(3));
+    let chip = five(chip, 7952, 80, 6144);
+    voltages(chip);
+}
+
+// A SCAN of five inputs: the first two, a shorted one, and the last two.
+fn five(chip: Chip, first: u16, shorted: u16, last: u16) -> Chip {
+    let counts = Counts {
+        many: 5,
+        of: [first, 7000, 90, shorted, last, 0, 0, 0, 0, 0, 0, 0, 0, 0, 0],
+    };
+    let chip = show(chip.step(Event::Scan, counts));
+    voltage(chip, 3);
+    voltage(chip, 4);
+    chip
+}
+
 fn main() {
     scene(false);
     scene(true);
+    match wiring::wire(set_up(1, false), 3) {
+        Wiring::With(setup) => pack(setup),
+        Wiring::NoRow => text(b"no row"),
+    }
 }

@@ -10,6 +10,7 @@ use season::Reported;
 use season::Season;
 use season::Totals;
 use season::TotalsAnswer;
+use wiring::Wiring;
 
 // A chip, the report that goes on with it, and the number that the report gave last.
 struct Bench {
@@ -27,6 +28,14 @@ fn set_up(part: u8, gain: u8, offset: u8) -> Setup {
         offset,
         floor: 1000,
         cells: 0,
+    }
+}
+
+// With a wiring record.
+fn wired(setup: Setup, cells: u8) -> Setup {
+    match wiring::wire(setup, cells) {
+        Wiring::With(wired) => wired,
+        Wiring::NoRow => setup,
     }
 }
 
@@ -259,6 +268,20 @@ fn joins() {
     joined(b"offset", second, none_of(2, 31, 0x80), 11);
 }
 
+// Three cells on five inputs: cells 1, 2 and 3 are at inputs 1, 2 and 5. Other rows, and none, are other chips.
+fn packs() {
+    let plain_setup = set_up(1, 10, 0x80);
+    let three = wired(plain_setup, 3);
+    let none = season::none(plain_setup);
+    let b = stored(plain(fresh(three), Event::Boot));
+    show(b.report, 6);
+    joined(b"join", b.report, season::none(three), 4);
+    joined(b"row", b.report, none, 4);
+    joined(b"row", none, b.report, 6);
+    joined(b"row", b.report, season::none(wired(plain_setup, 4)), 4);
+    joined(b"row", none, season::none(wired(plain_setup, 5)), 6);
+}
+
 // A report joined with itself, so many times.
 fn doubled(report: Season, times: u8) -> Season {
     let mut report = report;
@@ -314,5 +337,6 @@ fn lines_of(setup: Setup) {
 fn main() {
     small();
     joins();
+    packs();
     lines_of(set_up(3, 0, 0xFF));
 }

@@ -3,10 +3,12 @@ mod conversions;
 mod crc;
 mod record_lines;
 mod rooms;
+mod rows;
 
 fn main() {
     crc::run();
     conversions::run();
     rooms::run();
     record_lines::lines();
+    rows::run();
 }

@@ -87,6 +87,7 @@ fn kind_of(event: Event) -> usize {
         Event::Load(_) => 8,
         Event::Xready => 9,
         Event::OnBus(bus) => kind_of_bus(bus),
+        Event::Wires(_) => 0x16,
     }
 }
 
@@ -196,6 +197,7 @@ fn write_kinds() {
     plain(Event::OnBus(BusEvent::In(false)), 1);
     plain(Event::OnBus(BusEvent::In(true)), 1);
     plain(Event::OnBus(BusEvent::Stop), 1);
+    plain(Event::Wires(13), 3);
 }
 
 // Each refusal of writing, and both sides of the room.
@@ -210,6 +212,30 @@ fn refuse_parts() {
     plain(setup(1, 0x08, 0, 4096), 1);
     put(setup(1, 0x08, 32, 0), few(1, 0, 0), 1, 36);
     put(setup(4, 0x08, 0, 0), few(1, 0, 0), 1, 36);
+}
+
+// A wiring record of every number near a row, at each part; then 1, 2 and 5, and a SETUP with a number of cells.
+fn refuse_wiring() {
+    for cells in 0..17u8 {
+        plain(Event::Wires(cells), 1);
+        plain(Event::Wires(cells), 2);
+        plain(Event::Wires(cells), 3);
+    }
+    plain(Event::Wires(5), 0);
+    put(Event::Wires(5), few(1, 0, 0), 1, 36);
+    put(Event::Wires(5), no_counts(), 1, 4);
+    plain(
+        Event::Setup(Setup {
+            part: 1,
+            crc: false,
+            address: 0x08,
+            gain: 0,
+            offset: 0,
+            floor: 0,
+            cells: 3,
+        }),
+        1,
+    );
 }
 
 fn refuse_values() {
@@ -275,6 +301,8 @@ fn read_kinds() {
     take(&[1, 0, 0x12, 0, 1], 0, 1);
     take(&[0, 0, 0x13, 0], 0, 1);
     take(&[9, 9, 9, 0, 0, 0x13, 0], 3, 1);
+    take(&[1, 0, 0x16, 0, 13], 0, 3);
+    take(&[1, 0, 0x16, 0, 13], 0, 1);
 }
 
 // Each refusal of reading: 9 before 2, 2 before 3.
@@ -297,6 +325,9 @@ fn read_refusals() {
     take(&[1, 0, 5, 0, 0], 0, 1);
     take(&[2, 0, 6, 0, 0, 0], 0, 1);
     take(&[2, 0, 0x12, 0, 9, 9], 0, 1);
+    take(&[0, 0, 0x16, 0], 0, 1);
+    take(&[2, 0, 0x16, 0, 3, 3], 0, 1);
+    take(&[1, 0, 0x16, 0, 3], 0, 0);
 }
 
 fn read_ranges() {
@@ -312,6 +343,7 @@ fn read_ranges() {
 pub fn lines() {
     write_kinds();
     refuse_parts();
+    refuse_wiring();
     refuse_values();
     read_first();
     read_kinds();
