@@ -26,7 +26,8 @@ extern "C" {
 enum toralinge_number {
     TORALINGE_DONE = 0,
     TORALINGE_BAD_SETUP = 1,    /* a value of SETUP, or a gain code, is out of range */
-    TORALINGE_BAD_KIND = 2,     /* kind unknown, SETUP not first, first not SETUP, or wrong length */
+    TORALINGE_BAD_KIND = 2,     /* kind unknown, SETUP not first, first not SETUP, wrong length, or a
+                                   wiring record that is not straight after SETUP */
     TORALINGE_BAD_VALUE = 3,    /* a payload value, or a count, is out of range */
     TORALINGE_ASLEEP = 4,       /* the chip is in SHIP */
     TORALINGE_NO_ROOM = 5,      /* the output buffer is too short */
@@ -34,6 +35,7 @@ enum toralinge_number {
     TORALINGE_OPEN_SENSOR = 7,  /* thermistor count 9,323 or more */
     TORALINGE_NO_CODE = 8,      /* the wanted threshold lies outside its window */
     TORALINGE_CUT = 9,          /* a record is cut short, or there is none */
+    TORALINGE_NO_ROW = 13,      /* a wiring record with a number of cells that the part has no row for */
     TORALINGE_NO_LIST = 20,     /* a line is no list of the grammar */
     TORALINGE_BAD_ADDRESS = 21  /* a list has an address outside 0x08 to 0x77 */
 };
@@ -73,6 +75,10 @@ enum toralinge_reading_place {
  * byte of the buffer keeps its value. A refused first record, or a record that is cut short
  * (number 9), is the last entry; an empty stream has none.
  *
+ * A record of kind 0016, one byte, gives the pack's number of cells. It is taken straight after SETUP,
+ * refused records between them left aside: 3 to 5 cells for part 1, 6 to 10 for part 2, 11 to 15 for
+ * part 3. It outlives SHIP.
+ *
  * Returns -5, and writes no byte, where five bytes for each of the entries do not fit into room.
  * One entry for every four bytes of the stream, and one more, is always enough.
  */
@@ -83,8 +89,8 @@ int64_t toralinge_play(const uint8_t *stream, size_t length, uint8_t *entries, s
  *
  * reading, room   where the four doubles go, and how many doubles may stand there
  *
- * Returns 0 and writes reading[0] to reading[3]: least, greatest and total voltage of the part's cell
- * inputs in microvolts, and the coulomb counter in hundredths of a microvolt. Each is a whole number,
+ * Returns 0 and writes reading[0] to reading[3]: least, greatest and total voltage of the pack's cells
+ * (without a wiring record: of the part's inputs) in microvolts, and the coulomb counter in hundredths of a microvolt. Each is a whole number,
  * held exactly. Later doubles keep their values.
  *
  * Otherwise writes nothing and returns, looked at in this order:

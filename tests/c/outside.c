@@ -16,7 +16,7 @@ static unsigned long checks;
         }                                                                                                              \
     } while (0)
 
-enum kind { SETUP = 0x00, POR, BOOT, SCAN, TEMP, COUNT, SENSE, PIN, LOAD, XREADY, START = 0x10, OUT, IN, STOP };
+enum kind { SETUP = 0x00, POR, BOOT, SCAN, TEMP, COUNT, SENSE, PIN, LOAD, XREADY, START = 0x10, OUT, IN, STOP, WIRES = 0x16 };
 
 /* ---- streams */
 
@@ -364,6 +364,48 @@ static void readings(void)
     guarded_free(&lent);
 }
 
+/* The number of a stream's last entry. */
+static uint8_t last_number(const struct stream *made)
+{
+    uint8_t entries[64 * TORALINGE_ENTRY_SIZE];
+    int64_t count = toralinge_play(made->bytes, made->length, entries, sizeof entries);
+    CHECK(count > 0);
+    return entries[(count - 1) * TORALINGE_ENTRY_SIZE + TORALINGE_ENTRY_NUMBER];
+}
+
+/* A pack of three cells on five inputs: 3 and 4 are shorted, and the reading is that of inputs 1, 2 and 5, also after SHIP. */
+static void packs(void)
+{
+    static const uint8_t scan[10] = {0x00, 0x18, 0x00, 0x1B, 0x5A, 0x00, 0x00, 0x30, 0x10, 0x1F}; /* 6144 6912 90 12288 7952 */
+    struct stream made;
+    double reading[4];
+    made.length = 0;
+    add_byte(&made, WIRES, 3); /* the first record is no SETUP */
+    CHECK(last_number(&made) == TORALINGE_BAD_KIND);
+    made.length = 0;
+    add_setup(&made, 0);
+    add_byte(&made, WIRES, 6); /* a row of another part */
+    CHECK(last_number(&made) == TORALINGE_NO_ROW);
+    add_bare(&made, WIRES);
+    CHECK(last_number(&made) == TORALINGE_BAD_KIND);
+    add(&made, SCAN, scan, sizeof scan);
+    CHECK(last_number(&made) == TORALINGE_ASLEEP);
+    add_byte(&made, WIRES, 3);
+    CHECK(last_number(&made) == TORALINGE_DONE);
+    add_byte(&made, WIRES, 6);
+    CHECK(last_number(&made) == TORALINGE_BAD_KIND);
+    add_bare(&made, BOOT);
+    add(&made, SCAN, scan, sizeof scan);
+    CHECK(toralinge_reading(made.bytes, made.length, reading, 4) == TORALINGE_DONE);
+    CHECK(doubles_are((const uint8_t *)reading, 2204976.0, 2845008.0, 7526832.0, 0.0));
+    add_bare(&made, POR);
+    add_byte(&made, WIRES, 4);
+    CHECK(last_number(&made) == TORALINGE_BAD_KIND);
+    add_bare(&made, BOOT);
+    CHECK(toralinge_reading(made.bytes, made.length, reading, 4) == TORALINGE_DONE);
+    CHECK(doubles_are((const uint8_t *)reading, 30000.0, 30000.0, 90000.0, 0.0));
+}
+
 /* ---- conversions */
 
 struct lent_value {
@@ -508,6 +550,7 @@ int main(void)
     refused_later_records();
     both_sides_of_each_line();
     readings();
+    packs();
     conversions();
     sums();
     printf("outside: %lu checks of the library hold, called from C\n", checks);
