@@ -9,7 +9,7 @@ use Rattle.events.specs.declared.Counts.{Counts}
 use Rattle.events.specs.declared.BusEvent.{BusEvent}
 use Rattle.events.specs.declared.BusEvent.the-variants.{Start, Stop, Out, In}
 use Rattle.events.specs.declared.Event.{Event as Coded}
-use Rattle.events.specs.Event.{Event, Por, Boot, Pin, Xready, Scan, Temp, Count, Sense, Load, OnBus, fits, Meant, means, unfit, eventOf, meantOf}
+use Rattle.events.specs.Event.{Event, Por, Boot, Pin, Xready, Scan, Temp, Count, Sense, Load, OnBus, Level, fits, Meant, means, unfit, eventOf, meantOf}
 use Rattle.events.specs.Fault.{Fault}
 use Rattle.bus.specs.declared.Line.{Line}
 use Rattle.bus.specs.declared.Bus.{Bus}
@@ -110,6 +110,7 @@ normally (Count n) c = quiet 0 (withRegisters (coulombs n (c .registers)) c)
 normally (Sense v) c = quiet 0 (judged (Sense v) c)
 normally (Load l) c = quiet 0 (withRegisters (withLoad l (c .registers)) c)
 normally (OnBus b) c = onBus b c
+normally (Level l) c = quiet 0 (withRegisters (withLevel l (c .registers)) c)
 
 -- bus events are no refusals: the bus stays idle, OUT is not acknowledged and IN gives 0xFF
 abbrev pub busAsleep : BusEvent → Chip → Stepped
@@ -130,6 +131,7 @@ asleep (Count n) c = quiet 4 c
 asleep (Sense v) c = quiet 4 c
 asleep (Load l) c = quiet 4 c
 asleep (OnBus b) c = busAsleep b c
+asleep (Level l) c = quiet 4 c
 
 -- an event whose values are in range
 unfoldable pub happened : Event → Chip → Stepped

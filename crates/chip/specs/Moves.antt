@@ -5,7 +5,7 @@ use Prim.Native.Nat.{ℕ}
 use Rattle.events.specs.declared.Setup.{Setup}
 use Rattle.events.specs.declared.BusEvent.{BusEvent}
 use Rattle.events.specs.declared.BusEvent.the-variants.{Start, Stop, Out, In}
-use Rattle.events.specs.Event.{Event, Por, Boot, Pin, Xready, Scan, Temp, Count, Sense, Load, OnBus, fits}
+use Rattle.events.specs.Event.{Event, Por, Boot, Pin, Xready, Scan, Temp, Count, Sense, Load, OnBus, Level, fits}
 use Rattle.bus.specs.declared.Line.{Line}
 use Rattle.bus.specs.declared.Store.{Store}
 use Rattle.bus.specs.declared.Store.the-variants.{Nothing, At}
@@ -70,6 +70,7 @@ setup-normal (Count n) c = refl
 setup-normal (Sense v) c = refl
 setup-normal (Load l) c = refl
 setup-normal (OnBus b) c = setup-bus b c
+setup-normal (Level l) c = refl
 
 -- in SHIP the chip enters SHIP anew, wakes, or stays as it is
 pub asleep-by : (P : Chip → Type 0) (e : Event) (c : Chip) → P (inShip (c .setup)) → (e ≡ Boot → P (withAwake true c)) → P c → P (asleep e c .chip)
@@ -86,6 +87,7 @@ asleep-by P (OnBus Start) c i w s = s
 asleep-by P (OnBus Stop) c i w s = s
 asleep-by P (OnBus (Out b)) c i w s = s
 asleep-by P (OnBus (In nack)) c i w s = s
+asleep-by P (Level l) c i w s = s
 
 pub setup-next : (e : Event) (c : Chip) → next e c .setup ≡ c .setup
 setup-next e c =
@@ -118,6 +120,7 @@ core-normal (OnBus Start) c = refl
 core-normal (OnBus Stop) c = refl
 core-normal (OnBus (Out b)) c = core-stored (outed (c .setup) (c .bus .line) b .line) (outed (c .setup) (c .bus .line) b .store) c
 core-normal (OnBus (In nack)) c = refl
+core-normal (Level l) c = refl
 
 core-asleep : (e : Event) (c : Chip) → Agree (asleep e c .chip) (asleep e (bare (c .setup) (coreOf c)) .chip)
 core-asleep Por c = refl
@@ -133,6 +136,7 @@ core-asleep (OnBus Start) c = refl
 core-asleep (OnBus Stop) c = refl
 core-asleep (OnBus (Out b)) c = refl
 core-asleep (OnBus (In nack)) c = refl
+core-asleep (Level l) c = refl
 
 pub core-next : (e : Event) (c : Chip) → coreOf (next e c) ≡ coreNext (c .setup) e (coreOf c)
 unfolding stepped happened

@@ -9,7 +9,7 @@ use Rattle.events.specs.declared.Setup.{Setup}
 use Rattle.events.specs.declared.BusEvent.{BusEvent}
 use Rattle.events.specs.declared.BusEvent.the-variants.{Start, Stop, Out, In}
 use Rattle.events.specs.Setup.{groups, inputs}
-use Rattle.events.specs.Event.{Event, Por, Boot, Pin, Xready, Scan, Temp, Count, Sense, Load, OnBus, fits}
+use Rattle.events.specs.Event.{Event, Por, Boot, Pin, Xready, Scan, Temp, Count, Sense, Load, OnBus, Level, fits}
 use Rattle.bus.specs.declared.Phase.{Phase}
 use Rattle.bus.specs.declared.Phase.the-variants.{Idle, Address, Pointing, Writing, Checking, Reading, Summing}
 use Rattle.bus.specs.declared.Line.{Line}
@@ -87,6 +87,7 @@ normal-bare (Count n) c = refl
 normal-bare (Sense v) c = refl
 normal-bare (Load l) c = refl
 normal-bare (OnBus b) c = bus-bare b c
+normal-bare (Level l) c = refl
 
 asleep-bare : (e : Event) (c : Chip) → bared (asleep e c .chip) ≡ bared (asleep e (bared c) .chip)
 asleep-bare Por c = refl
@@ -102,6 +103,7 @@ asleep-bare (OnBus Start) c = refl
 asleep-bare (OnBus Stop) c = refl
 asleep-bare (OnBus (Out b)) c = refl
 asleep-bare (OnBus (In nack)) c = refl
+asleep-bare (Level l) c = refl
 
 pub next-bare : (e : Event) (c : Chip) → bared (next e c) ≡ bared (next e (bared c))
 unfolding stepped happened

@@ -7,7 +7,7 @@ use borrow.Author.Tests.{eqb-true}
 use Rattle.events.specs.declared.Setup.{Setup}
 use Rattle.events.specs.declared.BusEvent.{BusEvent}
 use Rattle.events.specs.declared.BusEvent.the-variants.{Start, Stop, Out, In}
-use Rattle.events.specs.Event.{Event, Por, Boot, Pin, Xready, Scan, Temp, Count, Sense, Load, OnBus, fits}
+use Rattle.events.specs.Event.{Event, Por, Boot, Pin, Xready, Scan, Temp, Count, Sense, Load, OnBus, Level, fits}
 use Rattle.events.specs.Fault.{Fault, Ov, Uv, Scd, Ocd}
 use Rattle.registers.specs.Fault.{bitOf, driveOf, raised, overridden, readied, counting}
 use Rattle.bus.specs.declared.Store.{Store}
@@ -208,6 +208,7 @@ normal-keeps k (Count n) c a =
 normal-keeps k (Sense v) c a = judged-keeps k (Sense v) c
 normal-keeps k (Load l) c a = stays-as k (Load l) c Nothing refl
 normal-keeps k (OnBus b) c a = bus-keeps k b c a
+normal-keeps k (Level l) c a = stays-as k (Level l) c Nothing refl
 
 -- in SHIP, and out of range, nothing is written
 pub wrote-asleep : (u : Setup) (c : Core) (e : Event) → c .awake ≡ false → wrote u c e ≡ Nothing
@@ -224,6 +225,7 @@ wrote-asleep u c (OnBus Start) a = refl
 wrote-asleep u c (OnBus Stop) a = refl
 wrote-asleep u c (OnBus (Out b)) a = rw a
 wrote-asleep u c (OnBus (In nack)) a = refl
+wrote-asleep u c (Level l) a = refl
 
 pub wrote-unfit : (u : Setup) (c : Core) (e : Event) → fits e ≡ false → wrote u c e ≡ Nothing
 unfolding fits
@@ -237,6 +239,7 @@ wrote-unfit u c (Count n) f = refl
 wrote-unfit u c (Sense v) f = refl
 wrote-unfit u c (Load l) f = refl
 wrote-unfit u c (OnBus b) f = cc
+wrote-unfit u c (Level l) f = refl
 
 pub next-keeps : (k : Fault) (e : Event) (c : Chip) → Holds k e c (next e c)
 next-keeps k e c =

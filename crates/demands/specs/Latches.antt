@@ -9,7 +9,7 @@ use borrow.Author.Tests.{eqb-true}
 use Rattle.events.specs.declared.Setup.{Setup}
 use Rattle.events.specs.declared.BusEvent.{BusEvent}
 use Rattle.events.specs.declared.BusEvent.the-variants.{Start, Stop, Out, In}
-use Rattle.events.specs.Event.{Event, Por, Boot, Pin, Xready, Scan, Temp, Count, Sense, Load, OnBus}
+use Rattle.events.specs.Event.{Event, Por, Boot, Pin, Xready, Scan, Temp, Count, Sense, Load, OnBus, Level}
 use Rattle.events.specs.Fault.{Fault, Ov, Uv, Scd, Ocd}
 use Rattle.settings.specs.Bit.{bit}
 use Rattle.bus.specs.declared.Store.{Store}
@@ -195,6 +195,7 @@ module _ {b : StatusBit} (other : Other b) where
   normal-keeps (Sense v) c a = judged-keeps (Sense v) c
   normal-keeps (Load l) c a = stays-as Nothing c refl
   normal-keeps (OnBus e) c a = bus-keeps e c a
+  normal-keeps (Level l) c a = stays-as Nothing c refl
 
   other-keeps : (e : Event) (c : Chip) → Holds b e c (next e c)
   other-keeps e c =

@@ -7,7 +7,7 @@ use lib.Dec.{eqb}
 use Rattle.crc8.specs.Crc.{byteOn}
 use Rattle.events.specs.declared.Setup.{Setup}
 use Rattle.events.specs.declared.BusEvent.the-variants.{Start, Stop, Out, In}
-use Rattle.events.specs.Event.{Event, Por, Boot, Pin, Xready, Scan, Temp, Count, Sense, Load, OnBus}
+use Rattle.events.specs.Event.{Event, Por, Boot, Pin, Xready, Scan, Temp, Count, Sense, Load, OnBus, Level}
 use Rattle.bus.specs.declared.Line.{Line}
 use Rattle.bus.specs.declared.Outed.{Outed}
 use Rattle.bus.specs.declared.Phase.the-variants.{Idle, Address, Writing, Checking}
@@ -50,6 +50,7 @@ view (OnBus Start) = starts
 view (OnBus Stop) = stops
 view (OnBus (Out b)) = sends b
 view (OnBus (In nack)) = takes nack
+view (Level l) = chips (Level l) refl
 
 module _ (es : List Event) (ih : Claim es) where
   -- nothing spoiled is open: an OUT that opens such a byte is dropped, and the remaining stream's chip stays writing

@@ -8,7 +8,7 @@ use Rattle.crc8.specs.Crc.{byteOn}
 use Rattle.events.specs.declared.Setup.{Setup}
 use Rattle.events.specs.declared.BusEvent.{BusEvent}
 use Rattle.events.specs.declared.BusEvent.the-variants.{Start, Stop, Out, In}
-use Rattle.events.specs.Event.{Event, Por, Boot, Pin, Xready, Scan, Temp, Count, Sense, Load, OnBus, fits}
+use Rattle.events.specs.Event.{Event, Por, Boot, Pin, Xready, Scan, Temp, Count, Sense, Load, OnBus, Level, fits}
 use Rattle.bus.specs.declared.Phase.{Phase}
 use Rattle.bus.specs.declared.Line.{Line}
 use Rattle.bus.specs.declared.Store.{Store}
@@ -39,6 +39,7 @@ apart-normal p (OnBus Start) c h = (cc, cc)
 apart-normal p (OnBus Stop) c h = (cc, cc)
 apart-normal p (OnBus (Out b)) c h = (cc, cc)
 apart-normal p (OnBus (In nack)) c h = (cc, cc)
+apart-normal p (Level l) c h = (refl, refl)
 
 pub apart : (p : Phase) (e : Event) (c : Chip) → sortOf e ≡ Chips → c .awake ≡ true → (stepped e (phased p c) ≡ mapped p (stepped e c)) × (next e c .awake ≡ true)
 unfolding stepped happened

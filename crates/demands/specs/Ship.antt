@@ -6,7 +6,7 @@ use mathlib.Core.List.{List, [], _∷_}
 use Rattle.events.specs.declared.Setup.{Setup}
 use Rattle.events.specs.declared.BusEvent.{BusEvent}
 use Rattle.events.specs.declared.BusEvent.the-variants.{Start, Stop, Out, In}
-use Rattle.events.specs.Event.{Event, Por, Boot, Pin, Xready, Scan, Temp, Count, Sense, Load, OnBus}
+use Rattle.events.specs.Event.{Event, Por, Boot, Pin, Xready, Scan, Temp, Count, Sense, Load, OnBus, Level}
 use Rattle.bus.specs.declared.Outed.{Outed}
 use Rattle.bus.specs.Bus.{outed}
 use Rattle.chip.specs.declared.Chip.{Chip}
@@ -43,6 +43,7 @@ normal-rests (Count n) c a = awake-rests (c .setup) (normally (Count n) c .chip)
 normal-rests (Sense v) c a = awake-rests (c .setup) (normally (Sense v) c .chip) a
 normal-rests (Load l) c a = awake-rests (c .setup) (normally (Load l) c .chip) a
 normal-rests (OnBus b) c a = bus-rests b c a
+normal-rests (Level l) c a = awake-rests (c .setup) (normally (Level l) c .chip) a
 
 next-rests : (e : Event) (c : Chip) → Rests (c .setup) c → Rests (c .setup) (next e c)
 next-rests e c h =

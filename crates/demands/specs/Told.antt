@@ -8,7 +8,7 @@ use lib.Dec.{leb}
 use Rattle.events.specs.declared.Setup.{Setup}
 use Rattle.events.specs.declared.BusEvent.{BusEvent}
 use Rattle.events.specs.declared.BusEvent.the-variants.{Start, Stop, Out, In}
-use Rattle.events.specs.Event.{Event, Por, Boot, Pin, Xready, Scan, Temp, Count, Sense, Load, OnBus, fits}
+use Rattle.events.specs.Event.{Event, Por, Boot, Pin, Xready, Scan, Temp, Count, Sense, Load, OnBus, Level, fits}
 use Rattle.settings.specs.declared.Settings.{Settings}
 use Rattle.events.specs.Fault.{Fault, Ov, Uv, Scd, Ocd}
 use Rattle.registers.specs.Fault.{bitOf, raised}
@@ -122,6 +122,7 @@ says-one Scd floor r (Sense v) = refl
 says-one Ocd floor r (Sense v) = refl
 says-one k floor r (Load l) = refl
 says-one k floor r (OnBus b) = refl
+says-one k floor r (Level l) = refl
 
 -- in SHIP it is refused
 judged-asleep : (k : Fault) (e : Event) (c : Chip) → judges k e ≡ true → asleep e c .number ≡ 4
@@ -135,6 +136,7 @@ judged-asleep k (Count n) c j = refl
 judged-asleep k (Sense v) c j = refl
 judged-asleep k (Load l) c j = refl
 judged-asleep k (OnBus b) c j = cc
+judged-asleep k (Level l) c j = refl
 
 pub accepted-judged : (k : Fault) (e : Event) (c : Chip) → judges k e ≡ true → stepped e c .number ≡ 0 → (fits e ≡ true) × (c .awake ≡ true)
 unfolding stepped happened
@@ -158,6 +160,7 @@ judging k (Count n) c j = (cc, cc)
 judging k (Sense v) c j = (refl, refl)
 judging k (Load l) c j = (cc, cc)
 judging k (OnBus b) c j = (cc, cc)
+judging k (Level l) c j = (cc, cc)
 
 -- so the bit of k is then up exactly if it was, or if the newest verdicts, as many as are needed, are all true
 pub rising : (k : Fault) (l : List Bool) (e : Event) (c : Chip) → Told k l c → fits e ≡ true → c .awake ≡ true → judges k e ≡ true

@@ -32,6 +32,8 @@ pub enum Event {
     Load(bool),
     Xready,
     OnBus(BusEvent),
+    // The outside level: a second protector holds ALERT up, or lets go.
+    Level(bool),
 }
 
 // How many counts there are, and the counts: input 1 first, 0 from the first place that is not used.

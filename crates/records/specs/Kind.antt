@@ -42,3 +42,6 @@ IN = 0x0012
 
 abbrev pub STOP : ℕ
 STOP = 0x0013
+
+abbrev pub LEVEL : ℕ
+LEVEL = 0x0015

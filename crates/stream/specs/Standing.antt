@@ -14,7 +14,7 @@ use Rattle.events.specs.declared.Counts.{Counts}
 use Rattle.events.specs.declared.Checked.{Checked}
 use Rattle.events.specs.declared.Checked.the-variants.{Good, Bad}
 use Rattle.events.specs.declared.Event.{Event}
-use Rattle.events.specs.declared.Event.the-variants.{Setup, Por, Boot, Scan, Temp, Count, Sense, Pin, Load, Xready, OnBus}
+use Rattle.events.specs.declared.Event.the-variants.{Setup, Por, Boot, Scan, Temp, Count, Sense, Pin, Load, Xready, OnBus, Level}
 use Rattle.events.specs.Setup.{checkedOf}
 use Rattle.events.specs.Event.{Event as Happening, Meant, means, unfit, meantOf, countsFit}
 use Rattle.records.specs.declared.Payload.{Payload}
@@ -55,6 +55,7 @@ acted-by Pin k c ev m = refl
 acted-by (Load l) k c ev m = refl
 acted-by Xready k c ev m = refl
 acted-by (OnBus b) k c ev m = refl
+acted-by (Level l) k c ev m = refl
 
 pub acted-is : (e : Event) (k : Counts) (c : Chip) (ev : Happening) → meantOf (c .setup) e k ≡ means ev → acted e k c ≡ stepped ev c
 acted-is e k c ev m = acted-by e k c ev m ∙ ap (λ (x : Meant). steppedAs x c) m
@@ -176,6 +177,7 @@ made-by s (Record e next) q w h = by e q (first-setup s e next q)
     by (Load l) q g = absurd g
     by Xready q g = absurd g
     by (OnBus x) q g = absurd g
+    by (Level l) q g = absurd g
 made-by s (Refused k next) q w h = absurd (w h)
 made-by s Cut q w h = absurd (omega (arith, h))
 

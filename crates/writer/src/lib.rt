@@ -215,6 +215,7 @@ fn refusal(event: Event, counts: Counts, part: u8) -> u8
         Event::Load(_) => refusal_at(event, counts, part),
         Event::Xready => refusal_at(event, counts, part),
         Event::OnBus(_) => refusal_at(event, counts, part),
+        Event::Level(_) => refusal_at(event, counts, part),
     }
 }
 
@@ -246,6 +247,7 @@ fn put_event(event: Event, counts: Counts, out: &mut [u8]) -> Wrote
         Event::Load(level) => write_byte(out, 0x0008, bit_of(level)),
         Event::Xready => write_bare(out, 0x0009),
         Event::OnBus(bus) => put_bus(bus, out),
+        Event::Level(level) => write_byte(out, 0x0015, bit_of(level)),
     }
 }
 

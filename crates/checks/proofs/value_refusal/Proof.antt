@@ -62,6 +62,10 @@ returns-14 : tie.Need-returns-14
 unfolding fits
 returns-14 c = let a = c .before .before in at-event (a .args .setup) (a .args .of) (c .enum-told10 .given .1) refl
 
+returns-15 : tie.Need-returns-15
+unfolding fits
+returns-15 c = let a = c .before .before in at-event (a .args .setup) (a .args .of) (c .enum-told11 .given .1) refl
+
 pub value-refusal-spec : {M : Type 1} → statement M
 value-refusal-spec =
     tie.close
@@ -83,6 +87,7 @@ value-refusal-spec =
     (λ c. search needs)
     (λ c. search needs)
     (λ c. search needs)
+    (λ c. search needs)
     returns-2
     returns-3
     returns-4
@@ -95,4 +100,5 @@ value-refusal-spec =
     returns-11
     returns-12
     returns-13
-    returns-14)
+    returns-14
+    returns-15)

@@ -60,6 +60,10 @@ returns-11 c =
     let g = w .before .before .before in
     at-record _ _ (g .event5 .given .1) (at-bus (g .event5 .given .0 .0) _ _ (w .put-bus .ensures))
 
+returns-12 : tie.Need-returns-12
+unfolding recordFor
+returns-12 c = let w = c .before .before in at-record _ _ (w .before .before .before .before .event6 .given .1) (at-bit 0x0015 (w .before .before .before .before .event6 .given .0 .0) (w .before .bit-of2 .ensures) (w .write-byte2 .ensures))
+
 pub put-event-spec : {M : Type 1} → statement M
 put-event-spec =
     tie.close
@@ -89,6 +93,9 @@ put-event-spec =
     (λ c. search needs)
     (λ c κs. search needs)
     (λ c. search needs)
+    (λ c κs. search needs)
+    (λ c κs. search needs)
+    (λ c. search needs)
     returns
     (λ c. search needs)
     returns-2
@@ -109,4 +116,6 @@ put-event-spec =
     (λ c. search needs)
     returns-10
     (λ c. search needs)
-    returns-11)
+    returns-11
+    (λ c. search needs)
+    returns-12)
