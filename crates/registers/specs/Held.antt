@@ -16,8 +16,8 @@ abbrev pub Calm : Registers → Type 0
 Calm r = r .outside ≡ true → alert (r .shown .status) ≡ true
 
 -- what is shown after the level was looked at, by the level
-abbrev pub watched : Bool → Shown → Shown
-watched l s = cond l (cond (alert (s .status)) s (overridden s)) s
+abbrev pub heldAt : Bool → Shown → Shown
+heldAt l s = cond l (cond (alert (s .status)) s (overridden s)) s
 
 or-true : (b : Bool) → (b || true) ≡ true
 or-true true = refl
@@ -27,16 +27,16 @@ or-true false = refl
 pub overridden-alerts : (s : Shown) → alert (overridden s .status) ≡ true
 overridden-alerts s = simp or-true
 
-watched-alerts : (l : Bool) (s : Shown) → l ≡ true → alert (watched l s .status) ≡ true
-watched-alerts false s h = absurd (true≢false (sym h))
-watched-alerts true s h = by (alert (s .status)) refl
+heldAt-alerts : (l : Bool) (s : Shown) → l ≡ true → alert (heldAt l s .status) ≡ true
+heldAt-alerts false s h = absurd (true≢false (sym h))
+heldAt-alerts true s h = by (alert (s .status)) refl
   where
     by : (b : Bool) → alert (s .status) ≡ b → alert (cond b s (overridden s) .status) ≡ true
     by true e = e
     by false e = overridden-alerts s
 
 pub held-calm : (r : Registers) → Calm (held r)
-held-calm r h = watched-alerts (r .outside) (r .shown) h
+held-calm r h = heldAt-alerts (r .outside) (r .shown) h
 
 pub reset-calm : Calm reset
 reset-calm h = absurd (true≢false (sym h))
@@ -57,8 +57,12 @@ let-go r h = calm-held r (λ (e : r .outside ≡ true). absurd (true≢false (sy
 -- what rises leaves a bit up
 pub raised-calm : (f : Fault → Bool) (r : Registers) → Calm r → Calm (withShown (raised f (r .shown)) r)
 raised-calm f r k h =
-    more (f Ocd) (r .shown .status .ocd) (more (f Scd) (r .shown .status .scd) (more (f Ov) (r .shown .status .ov) (more (f Uv) (r .shown .status .uv) (λ e. e)))) (k h)
+    let t : Status = r .shown .status in
+    let a : Bool = t .ready || t .xready || t .ovrd in
+    more (a || t .uv || t .ov || t .scd) (a || (f Uv || t .uv) || (f Ov || t .ov) || (f Scd || t .scd)) (f Ocd) (t .ocd)
+    (more (a || t .uv || t .ov) (a || (f Uv || t .uv) || (f Ov || t .ov)) (f Scd) (t .scd)
+    (more (a || t .uv) (a || (f Uv || t .uv)) (f Ov) (t .ov) (more a a (f Uv) (t .uv) (λ e. e)))) (k h)
   where
-    more : (u d : Bool) {x y : Bool} → (x ≡ true → y ≡ true) → (x || d) ≡ true → (y || (u || d)) ≡ true
-    more u d {true} {y} f h = ap (λ (b : Bool). b || (u || d)) (f refl)
-    more u d {false} {y} f h = simp (h, or-true)
+    more : (x y u d : Bool) → (x ≡ true → y ≡ true) → (x || d) ≡ true → (y || (u || d)) ≡ true
+    more true y u d f h = ap (λ (b : Bool). b || (u || d)) (f refl)
+    more false y u d f h = simp (h, or-true)

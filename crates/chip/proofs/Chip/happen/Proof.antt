@@ -2,7 +2,7 @@
 use mathlib.Core.Path.{_≡_, refl, ap, _∙_}
 use mir.Syntax.{w32}
 use mir.Val.{toZ, ofZ}
-use Rattle.events.specs.Event.{Por, Boot, Pin, Xready, Count, Sense, Load, OnBus, fits}
+use Rattle.events.specs.Event.{Por, Boot, Pin, Xready, Count, Sense, Load, OnBus, Level, fits}
 use Rattle.chip.specs.Chip.{stepped}
 use Rattle.chip.proofs.Modes.{as-event, in-range}
 use borrow.Author.Needs.{needs}
@@ -52,10 +52,16 @@ returns-11 : tie.Need-returns-11
 unfolding fits
 returns-11 c = as-event (c .before .before .before .before .args .counts) (c .before .before .before .before .args .self) (c .before .before .event4 .given .1) (in-range (OnBus _) (c .before .before .before .before .args .self) refl (c .on-bus .ensures))
 
+returns-12 : tie.Need-returns-12
+unfolding fits
+returns-12 c = as-event (c .before .before .before .before .args .counts) (c .before .before .before .before .args .self) (c .before .before .event5 .given .1) (in-range (Level _) (c .before .before .before .before .args .self) refl (c .level .ensures))
+
 pub happen-spec : {M : Type 1} → statement M
 happen-spec =
     tie.close
     (tie.spec
+    (λ c. search needs)
+    (λ c κs. search needs)
     (λ c. search needs)
     (λ c κs. search needs)
     (λ c. search needs)
@@ -88,4 +94,5 @@ happen-spec =
     returns-8
     returns-9
     returns-10
-    returns-11)
+    returns-11
+    returns-12)

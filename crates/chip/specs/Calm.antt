@@ -1,0 +1,53 @@
+-- Document 02, M-103: from SHIP on, over any events, the outside level 1 and SYS_STAT 0 never stand together; so the level does something only after a
+-- clearing write and after its own event. Assumes nothing.
+use mathlib.Core.Path.{_≡_, refl, sym, ap, _∙_}
+use mathlib.Core.Bool.{Bool, true, false, cond}
+use mathlib.Core.List.{List}
+use Prim.Native.Nat.{ℕ}
+use lib.IntN.{ℤ}
+use Rattle.events.specs.declared.Setup.{Setup}
+use Rattle.events.specs.declared.Faults.{Faults}
+use Rattle.events.specs.Fault.{among}
+use Rattle.events.specs.Event.{Event, Scan, Sense}
+use Rattle.bus.specs.declared.Bus.{Bus}
+use Rattle.registers.specs.declared.Registers.{Registers}
+use Rattle.registers.specs.Judging.{scanned}
+use Rattle.registers.specs.Held.{Calm, held-calm, reset-calm, calm-held, raised-calm}
+use Rattle.protection.specs.declared.Runs.{Runs}
+use Rattle.protection.specs.Rule.{risen}
+use Rattle.chip.specs.declared.Chip.{Chip}
+use Rattle.chip.specs.declared.Stepped.{Stepped}
+use Rattle.chip.specs.Chip.{withAwake, withBus, withRegisters, withRuns, inShip, watched, settled, normally, asleep, next}
+use Rattle.chip.specs.Parts.{raisedBy}
+use Rattle.chip.specs.Moves.{next-by, asleep-by}
+
+-- the level 1 and SYS_STAT 0 do not stand together
+abbrev pub Rests : Chip → Type 0
+Rests c = Calm (c .registers)
+
+pub ship-rests : (u : Setup) → Rests (inShip u)
+ship-rests u = reset-calm
+
+-- any event leaves a chip so that it found so
+pub rests-next : (e : Event) (c : Chip) → Rests c → Rests (next e c)
+rests-next e c k =
+    next-by Rests e c (λ f a. held-calm (normally e c .chip .registers)) (λ f a. asleep-by Rests e c (ship-rests (c .setup)) (λ w. held-calm (c .registers)) k) (λ f. k)
+
+-- there the level does nothing ..
+pub at-rest : (c : Chip) → Rests c → watched c ≡ c
+at-rest c k = ap (λ (r : Registers). withRegisters r c) (calm-held (c .registers) k)
+
+-- .. so it does nothing after an event that leaves the registers, and after one that only raises
+pub bus-rests : (b : Bus) (c : Chip) → Rests c → withBus b c ≡ watched (withBus b c)
+bus-rests b c k = sym (at-rest (withBus b c) k)
+
+pub scan-rests : (xs : List ℕ) (c : Chip) → Rests c → normally (Scan xs) c ≡ settled (normally (Scan xs) c)
+scan-rests xs c k =
+    ap (λ (r : Registers). settled-with (Scan xs) r)
+    (sym (calm-held (normally (Scan xs) c .chip .registers) (raised-calm (risen (c .setup .floor) (c .registers .settings) (c .runs) (Scan xs)) (scanned xs (c .registers)) k)))
+  where
+    settled-with : Event → Registers → Stepped
+    settled-with e r = record { chip = withRegisters r (normally e c .chip); number = normally e c .number; flag = normally e c .flag; byte = normally e c .byte }
+
+pub tick-rests : (f : Faults) (n : Runs) (c : Chip) → Rests c → raisedBy f (withRuns n c) ≡ watched (raisedBy f (withRuns n c))
+tick-rests f n c k = sym (at-rest (raisedBy f (withRuns n c)) (raised-calm (among f) (c .registers) k))
