@@ -22,32 +22,32 @@ use Rattle.chip.specs.Parts.{raisedBy}
 use Rattle.chip.specs.Moves.{next-by, asleep-by}
 
 -- the level 1 and SYS_STAT 0 do not stand together
-abbrev pub Rests : Chip → Type 0
-Rests c = Calm (c .registers)
+abbrev pub Calmed : Chip → Type 0
+Calmed c = Calm (c .registers)
 
-pub ship-rests : (u : Setup) → Rests (inShip u)
-ship-rests u = reset-calm
+pub ship-calm : (u : Setup) → Calmed (inShip u)
+ship-calm u = reset-calm
 
 -- any event leaves a chip so that it found so
-pub rests-next : (e : Event) (c : Chip) → Rests c → Rests (next e c)
-rests-next e c k =
-    next-by Rests e c (λ f a. held-calm (normally e c .chip .registers)) (λ f a. asleep-by Rests e c (ship-rests (c .setup)) (λ w. held-calm (c .registers)) k) (λ f. k)
+pub calm-next : (e : Event) (c : Chip) → Calmed c → Calmed (next e c)
+calm-next e c k =
+    next-by Calmed e c (λ f a. held-calm (normally e c .chip .registers)) (λ f a. asleep-by Calmed e c (ship-calm (c .setup)) (λ w. held-calm (c .registers)) k) (λ f. k)
 
 -- there the level does nothing ..
-pub at-rest : (c : Chip) → Rests c → watched c ≡ c
-at-rest c k = ap (λ (r : Registers). withRegisters r c) (calm-held (c .registers) k)
+pub calm-watched : (c : Chip) → Calmed c → watched c ≡ c
+calm-watched c k = ap (λ (r : Registers). withRegisters r c) (calm-held (c .registers) k)
 
 -- .. so it does nothing after an event that leaves the registers, and after one that only raises
-pub bus-rests : (b : Bus) (c : Chip) → Rests c → withBus b c ≡ watched (withBus b c)
-bus-rests b c k = sym (at-rest (withBus b c) k)
+pub calm-bus : (b : Bus) (c : Chip) → Calmed c → withBus b c ≡ watched (withBus b c)
+calm-bus b c k = sym (calm-watched (withBus b c) k)
 
-pub scan-rests : (xs : List ℕ) (c : Chip) → Rests c → normally (Scan xs) c ≡ settled (normally (Scan xs) c)
-scan-rests xs c k =
+pub calm-scan : (xs : List ℕ) (c : Chip) → Calmed c → normally (Scan xs) c ≡ settled (normally (Scan xs) c)
+calm-scan xs c k =
     ap (λ (r : Registers). settled-with (Scan xs) r)
     (sym (calm-held (normally (Scan xs) c .chip .registers) (raised-calm (risen (c .setup .floor) (c .registers .settings) (c .runs) (Scan xs)) (scanned xs (c .registers)) k)))
   where
     settled-with : Event → Registers → Stepped
     settled-with e r = record { chip = withRegisters r (normally e c .chip); number = normally e c .number; flag = normally e c .flag; byte = normally e c .byte }
 
-pub tick-rests : (f : Faults) (n : Runs) (c : Chip) → Rests c → raisedBy f (withRuns n c) ≡ watched (raisedBy f (withRuns n c))
-tick-rests f n c k = sym (at-rest (raisedBy f (withRuns n c)) (raised-calm (among f) (c .registers) k))
+pub calm-tick : (f : Faults) (n : Runs) (c : Chip) → Calmed c → raisedBy f (withRuns n c) ≡ watched (raisedBy f (withRuns n c))
+calm-tick f n c k = sym (calm-watched (raisedBy f (withRuns n c)) (raised-calm (among f) (c .registers) k))

@@ -141,7 +141,8 @@ fn work_of(awake: bool, event: Event) -> Work
         | Event::Count(_)
         | Event::Pin
         | Event::Load(_)
-        | Event::Xready => Work::Other,
+        | Event::Xready
+        | Event::Level(_) => Work::Other,
     }
 }
 
@@ -162,6 +163,7 @@ fn seldom(chip: Chip, event: Event, counts: [u16; 15]) -> Stepped
         Event::Load(level) => chip.load(level),
         Event::Xready => chip.xready(),
         Event::OnBus(bus) => chip.doze(bus),
+        Event::Level(level) => chip.level(level),
     }
 }
 
@@ -172,7 +174,7 @@ fn heated(chip: Chip, counts: [u16; 15]) -> Stepped
     if !chip.awake {
         return quiet(4, chip);
     }
-    quiet(0, chip.warmed(counts))
+    chip::done(chip.warmed(counts))
 }
 
 // The counts beside an event that was read.
