@@ -1,14 +1,12 @@
 -- Document 02, M-103: from SHIP on, over any events, the outside level 1 and SYS_STAT 0 never stand together; so the level does something only after a
 -- clearing write and after its own event. Assumes nothing.
-use mathlib.Core.Path.{_≡_, refl, sym, ap, _∙_}
-use mathlib.Core.Bool.{Bool, true, false, cond}
+use mathlib.Core.Path.{_≡_, sym, ap}
 use mathlib.Core.List.{List}
 use Prim.Native.Nat.{ℕ}
-use lib.IntN.{ℤ}
 use Rattle.events.specs.declared.Setup.{Setup}
 use Rattle.events.specs.declared.Faults.{Faults}
 use Rattle.events.specs.Fault.{among}
-use Rattle.events.specs.Event.{Event, Scan, Sense}
+use Rattle.events.specs.Event.{Event, Scan}
 use Rattle.bus.specs.declared.Bus.{Bus}
 use Rattle.registers.specs.declared.Registers.{Registers}
 use Rattle.registers.specs.Judging.{scanned}
@@ -17,7 +15,7 @@ use Rattle.protection.specs.declared.Runs.{Runs}
 use Rattle.protection.specs.Rule.{risen}
 use Rattle.chip.specs.declared.Chip.{Chip}
 use Rattle.chip.specs.declared.Stepped.{Stepped}
-use Rattle.chip.specs.Chip.{withAwake, withBus, withRegisters, withRuns, inShip, watched, settled, normally, asleep, next}
+use Rattle.chip.specs.Chip.{withBus, withRegisters, withRuns, inShip, watched, settled, normally, next}
 use Rattle.chip.specs.Parts.{raisedBy}
 use Rattle.chip.specs.Moves.{next-by, asleep-by}
 
@@ -37,17 +35,16 @@ calm-next e c k =
 pub calm-watched : (c : Chip) → Calmed c → watched c ≡ c
 calm-watched c k = ap (λ (r : Registers). withRegisters r c) (calm-held (c .registers) k)
 
+pub settles : (s : Stepped) → Calmed (s .chip) → settled s ≡ s
+settles s k = ap (λ (d : Chip). record { chip = d; number = s .number; flag = s .flag; byte = s .byte }) (calm-watched (s .chip) k)
+
 -- .. so it does nothing after an event that leaves the registers, and after one that only raises
 pub calm-bus : (b : Bus) (c : Chip) → Calmed c → withBus b c ≡ watched (withBus b c)
 calm-bus b c k = sym (calm-watched (withBus b c) k)
 
 pub calm-scan : (xs : List ℕ) (c : Chip) → Calmed c → normally (Scan xs) c ≡ settled (normally (Scan xs) c)
 calm-scan xs c k =
-    ap (λ (r : Registers). settled-with (Scan xs) r)
-    (sym (calm-held (normally (Scan xs) c .chip .registers) (raised-calm (risen (c .setup .floor) (c .registers .settings) (c .runs) (Scan xs)) (scanned xs (c .registers)) k)))
-  where
-    settled-with : Event → Registers → Stepped
-    settled-with e r = record { chip = withRegisters r (normally e c .chip); number = normally e c .number; flag = normally e c .flag; byte = normally e c .byte }
+    sym (settles (normally (Scan xs) c) (raised-calm (risen (c .setup .floor) (c .registers .settings) (c .runs) (Scan xs)) (scanned xs (c .registers)) k))
 
 pub calm-tick : (f : Faults) (n : Runs) (c : Chip) → Calmed c → raisedBy f (withRuns n c) ≡ watched (raisedBy f (withRuns n c))
 calm-tick f n c k = sym (calm-watched (raisedBy f (withRuns n c)) (raised-calm (among f) (c .registers) k))

@@ -1,14 +1,13 @@
 -- Document 02, M-103: the outside level over the registers. Where it is 1 a bit of SYS_STAT is up after every event that leaves the chip in NORMAL; it
 -- raises OVRD_ALERT alone, and where a bit is up, or the level is 0, it does nothing. Assumes nothing.
 use mathlib.Core.Path.{_≡_, refl, sym, ap, _∙_}
-use mathlib.Core.Bool.{Bool, true, false, not, _&&_, _||_, cond, true≢false}
-use Prim.Native.Nat.{ℕ}
+use mathlib.Core.Bool.{Bool, true, false, _||_, cond, true≢false}
 use Rattle.events.specs.Fault.{Fault, Ov, Uv, Scd, Ocd}
 use Rattle.registers.specs.declared.Status.{Status}
 use Rattle.registers.specs.declared.Shown.{Shown}
 use Rattle.registers.specs.declared.Registers.{Registers}
 use Rattle.registers.specs.State.{alert, reset, withShown}
-use Rattle.registers.specs.Fault.{bitOf, driveOf, raised, overridden}
+use Rattle.registers.specs.Fault.{bitOf, raised, overridden}
 use Rattle.registers.specs.Judging.{held}
 
 -- the level 1 and SYS_STAT 0 do not stand together
@@ -53,6 +52,22 @@ calm-held r k = ap (λ (s : Shown). withShown s r) (by (r .outside) (alert (r .s
 -- the level 0 does nothing
 pub let-go : (r : Registers) → r .outside ≡ false → held r ≡ r
 let-go r h = calm-held r (λ (e : r .outside ≡ true). absurd (true≢false (sym e ∙ h)))
+
+-- it moves none of the four faults' bits
+pub held-bit : (k : Fault) (l : Bool) (s : Shown) → bitOf k (heldAt l s .status) ≡ bitOf k (s .status)
+held-bit k false s = refl
+held-bit k true s = by k (alert (s .status))
+  where
+    by : (k : Fault) (a : Bool) → bitOf k (cond a s (overridden s) .status) ≡ bitOf k (s .status)
+    by k true = refl
+    by Ov false = refl
+    by Uv false = refl
+    by Scd false = refl
+    by Ocd false = refl
+
+-- with the level 1 and SYS_STAT 0 it raises OVRD_ALERT and puts both drives off
+pub held-rises : (r : Registers) → r .outside ≡ true → alert (r .shown .status) ≡ false → held r .shown ≡ overridden (r .shown)
+held-rises r h a = simp (h, a)
 
 -- what rises leaves a bit up
 pub raised-calm : (f : Fault → Bool) (r : Registers) → Calm r → Calm (withShown (raised f (r .shown)) r)
