@@ -24,7 +24,7 @@ use Rattle.registers.specs.Write.{balanceWith}
 use Rattle.registers.specs.Read.{balanceByte, lowByte, wordAt, fixedByte, readAt}
 use Rattle.chip.specs.declared.Chip.{Chip}
 use Rattle.chip.specs.declared.Stepped.{Stepped}
-use Rattle.chip.specs.Chip.{quiet, inShip, accepted, storedAt, stored, reads, onBus, normally, asleep, happened, stepped, next}
+use Rattle.chip.specs.Chip.{quiet, inShip, accepted, storedAt, stored, reads, onBus, watched, settled, normally, asleep, happened, stepped, next}
 use Rattle.demands.specs.Demand.{chip}
 use Rattle.demands.specs.History.{setup-is}
 
@@ -109,9 +109,9 @@ pub next-bare : (e : Event) (c : Chip) → bared (next e c) ≡ bared (next e (b
 unfolding stepped happened
 next-bare e c = by (fits e) (c .awake)
   where
-    by : (f a : Bool) → bared (cond f (cond a (normally e c) (asleep e c)) (quiet 3 c) .chip)
-        ≡ bared (cond f (cond a (normally e (bared c)) (asleep e (bared c))) (quiet 3 (bared c)) .chip)
-    by true true = normal-bare e c
+    by : (f a : Bool) → bared (cond f (cond a (settled (normally e c)) (asleep e c)) (quiet 3 c) .chip)
+        ≡ bared (cond f (cond a (settled (normally e (bared c))) (asleep e (bared c))) (quiet 3 (bared c)) .chip)
+    by true true = ap watched (normal-bare e c)
     by true false = asleep-bare e c
     by false a = refl
 

@@ -95,6 +95,10 @@ module _ (u : Setup) where
   abbrev pub shown : List Event → Shown
   shown past = chip past .registers .shown
 
+  -- the outside level (document 02, M-103)
+  abbrev pub outside : List Event → Bool
+  outside past = chip past .registers .outside
+
   -- the bit of k in SYS_STAT, its drive, and ALERT
   abbrev pub up : Fault → List Event → Bool
   up k past = bitOf k (shown past .status)

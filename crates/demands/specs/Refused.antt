@@ -7,7 +7,7 @@ use Rattle.events.specs.declared.Event.{Event as Coded}
 use Rattle.events.specs.Event.{Event, Por, Boot, Pin, Xready, Scan, Temp, Count, Sense, Load, OnBus, Level, fits, Meant, means, unfit, meantOf}
 use Rattle.chip.specs.declared.Chip.{Chip}
 use Rattle.chip.specs.declared.Stepped.{Stepped}
-use Rattle.chip.specs.Chip.{quiet, normally, asleep, happened, stepped, next, steppedAs, steppedBy}
+use Rattle.chip.specs.Chip.{quiet, settled, normally, asleep, happened, stepped, next, steppedAs, steppedBy}
 
 -- in NORMAL nothing in range is refused
 pub normal-done : (e : Event) (c : Chip) → normally e c .number ≡ 0
@@ -47,7 +47,7 @@ pub refused-happened : (e : Event) (c : Chip) → (happened e c .number ≡ 0 �
 unfolding happened
 refused-happened e c h = by (c .awake) h
   where
-    by : (a : Bool) → (cond a (normally e c) (asleep e c) .number ≡ 0 → ⊥) → cond a (normally e c) (asleep e c) .chip ≡ c
+    by : (a : Bool) → (cond a (settled (normally e c)) (asleep e c) .number ≡ 0 → ⊥) → cond a (settled (normally e c)) (asleep e c) .chip ≡ c
     by true h = absurd (h (normal-done e c))
     by false h = asleep-refused e c h
 

@@ -14,13 +14,14 @@ use Rattle.events.specs.Fault.{Fault, Ov, Uv, Scd, Ocd}
 use Rattle.registers.specs.Fault.{bitOf, raised}
 use Rattle.bus.specs.Bus.{outed}
 use Rattle.registers.specs.declared.Shown.{Shown}
+use Rattle.registers.specs.Held.{held-bit}
 use Rattle.protection.specs.Streak.{lastAll, streak, bumps, bumps-streak}
 use Rattle.protection.specs.Fault.{runOf, runsOf}
 use Rattle.protection.specs.Rule.{Rule, cap, rule, opinion, any, runAfter, risen}
 use Rattle.protection.specs.Tables.{run-tells}
 use Rattle.chip.specs.declared.Chip.{Chip}
 use Rattle.chip.specs.declared.Stepped.{Stepped}
-use Rattle.chip.specs.Chip.{quiet, inShip, onBus, normally, asleep, happened, stepped, next}
+use Rattle.chip.specs.Chip.{quiet, inShip, onBus, settled, normally, asleep, happened, stepped, next}
 use Rattle.chip.specs.Core.{coreOf}
 use Rattle.chip.specs.Moves.{normal-is, next-by, stored-by, asleep-by}
 use Rattle.demands.specs.Demand.{judges}
@@ -96,6 +97,7 @@ module _ (k : Fault) (l : List Bool) where
   normal-told (Sense v) c h a = judged-told (Sense v) c h a
   normal-told (Load x) c h a = still-told c h
   normal-told (OnBus b) c h a = bus-told b c h a
+  normal-told (Level x) c h a = still-told c h
 
   pub next-told : (e : Event) (c : Chip) → Told c → Tells (next e c) (heard k e c ++ l)
   next-told e c h =
@@ -142,7 +144,7 @@ pub accepted-judged : (k : Fault) (e : Event) (c : Chip) → judges k e ≡ true
 unfolding stepped happened
 accepted-judged k e c j n = by (fits e) (c .awake) n
   where
-    by : (f a : Bool) → cond f (cond a (normally e c) (asleep e c)) (quiet 3 c) .number ≡ 0 → (f ≡ true) × (a ≡ true)
+    by : (f a : Bool) → cond f (cond a (settled (normally e c)) (asleep e c)) (quiet 3 c) .number ≡ 0 → (f ≡ true) × (a ≡ true)
     by true true n = (refl, refl)
     by true false n = let four : asleep e c .number ≡ 4 = judged-asleep k e c j in (cc, cc)
     by false a n = (cc, cc)
@@ -168,6 +170,7 @@ pub rising : (k : Fault) (l : List Bool) (e : Event) (c : Chip) → Told k l c �
     ≡ bitOf k (c .registers .shown .status) || lastAll (rule k (c .registers .settings) .need) (opinion k (c .setup .floor) (rule k (c .registers .settings)) e ++ l)
 rising k l e c h f a j =
     ap (λ s. bitOf k (s .chip .registers .shown .status)) (normal-is e c f a)
+    ∙ held-bit k (normally e c .chip .registers .outside) (normally e c .chip .registers .shown)
     ∙ ap (λ s. bitOf k (s .status)) (judging k e c j .0)
     ∙ bit-raised (risen (c .setup .floor) (c .registers .settings) (c .runs) e) (c .registers .shown) k
     ∙ or-comm (risen (c .setup .floor) (c .registers .settings) (c .runs) e k) (bitOf k (c .registers .shown .status))
