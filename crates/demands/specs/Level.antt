@@ -1,9 +1,11 @@
 -- M-103 over any events from power-up: what the outside level is, when OVRD_ALERT is up by it, and how demand 3 reads a clearing write that finds it up
 -- again. Assumes nothing.
 use mathlib.Core.Path.{_≡_, refl, sym, ap, subst, _∙_}
-use mathlib.Core.Bool.{Bool, true, false, _&&_, _||_, cond, true≢false}
+use mathlib.Core.Bool.{Bool, true, false, not, _&&_, _||_, cond, true≢false}
 use mathlib.Core.List.{List, [], _∷_, _++_}
+use mathlib.Core.Logic.{_⊎_, inl, inr}
 use Prim.Native.Nat.{ℕ}
+use lib.Dec.{eqb}
 use Rattle.events.specs.declared.Setup.{Setup}
 use Rattle.events.specs.declared.BusEvent.{BusEvent}
 use Rattle.events.specs.declared.BusEvent.the-variants.{Start, Stop, Out, In}
@@ -15,17 +17,19 @@ use Rattle.bus.specs.Bus.{outed}
 use Rattle.registers.specs.declared.Status.{Status}
 use Rattle.registers.specs.declared.Shown.{Shown}
 use Rattle.registers.specs.State.{alert, withStatus}
-use Rattle.registers.specs.Write.{statusOf, without, shownWith}
-use Rattle.registers.specs.Fault.{overridden}
+use Rattle.settings.specs.Bit.{bit}
+use Rattle.registers.specs.Write.{statusOf, without, driven, shownWith}
+use Rattle.registers.specs.Fault.{overridden, counting}
 use Rattle.registers.specs.Held.{heldAt}
 use Rattle.chip.specs.declared.Chip.{Chip}
 use Rattle.chip.specs.declared.Stepped.{Stepped}
-use Rattle.chip.specs.Chip.{storedAt, stored, onBus, watched, normally, next}
+use Rattle.chip.specs.Chip.{withAwake, storedAt, stored, onBus, watched, normally, next}
 use Rattle.chip.specs.Core.{Core, coreOf}
 use Rattle.chip.specs.Moves.{normal-is, next-by, stored-by, asleep-by}
 use Rattle.demands.specs.Demand.{wrote, chip, shown, outside, alerted, core, Awake, StaysAwake}
 use Rattle.demands.specs.History.{setup-is, core-is, awake-is, calm-is}
 use Rattle.demands.specs.Ship.{in-ship-is}
+use Rattle.demands.specs.Latch.{by-cond}
 use Rattle.demands.specs.Latches.{OvrdAlert, clearsAt, upAt, UnclearedAt, bit-latches, ovrd-holds-both}
 
 -- ── the level ──
@@ -122,6 +126,66 @@ level-shown : (l : Bool) (c : Chip) → c .awake ≡ true → next (Level l) c .
 unfolding fits
 level-shown l c a = ap (λ (t : Stepped). t .chip .registers .shown) (normal-is (Level l) c refl a)
 
+-- ── OVRD_ALERT rises at PIN, or by the level ──
+abbrev ovrdOf : Shown → Bool
+ovrdOf s = s .status .ovrd
+
+abbrev Pinned : Event → Chip → Chip → Type 0
+Pinned e c d = ovrdOf (c .registers .shown) ≡ false → ovrdOf (d .registers .shown) ≡ true → e ≡ Pin
+
+clash : {A : Type 0} (b : Bool) → b ≡ false → b ≡ true → A
+clash b p q = absurd (true≢false (sym q ∙ p))
+
+written-pins : (e : Event) (a v : ℕ) (s : Shown) → ovrdOf s ≡ false → ovrdOf (shownWith a v s) ≡ true → e ≡ Pin
+unfolding shownWith
+written-pins e a v s p =
+    by-cond (λ t. ovrdOf t ≡ true → e ≡ Pin) (eqb a 0x00) (withStatus (without (statusOf v) (s .status)) s) (cond (eqb a 0x05) (driven v s) s)
+    (λ h q. clash (ovrdOf s) p (and-left (ovrdOf s) (not (bit v 16)) q))
+    (λ h. by-cond (λ t. ovrdOf t ≡ true → e ≡ Pin) (eqb a 0x05) (driven v s) s (λ i q. clash (ovrdOf s) p q) (λ i q. clash (ovrdOf s) p q))
+  where
+    and-left : (x y : Bool) → x && y ≡ true → x ≡ true
+    and-left true y h = refl
+    and-left false y h = h
+
+bus-pins : (b : BusEvent) (c : Chip) → Pinned (OnBus b) c (onBus b c .chip)
+bus-pins Start c p q = clash (ovrdOf (c .registers .shown)) p q
+bus-pins Stop c p q = clash (ovrdOf (c .registers .shown)) p q
+bus-pins (Out b) c p q =
+    stored-by (Pinned (OnBus (Out b)) c) (outed (c .setup) (c .bus .line) b .line) (outed (c .setup) (c .bus .line) b .store) c
+    (λ t p q. clash (ovrdOf (c .registers .shown)) p q) (λ x v t s p q. absurd (true≢false (sym q))) (λ x v t s p q. written-pins (OnBus (Out b)) x v (c .registers .shown) p q) p q
+bus-pins (In nack) c p q = clash (ovrdOf (c .registers .shown)) p q
+
+normal-pins : (e : Event) (c : Chip) → Pinned e c (normally e c .chip)
+normal-pins Por c p q = absurd (true≢false (sym q))
+normal-pins Boot c p q = clash (ovrdOf (c .registers .shown)) p q
+normal-pins Pin c p q = refl
+normal-pins Xready c p q = clash (ovrdOf (c .registers .shown)) p q
+normal-pins (Scan xs) c p q = clash (ovrdOf (c .registers .shown)) p q
+normal-pins (Temp xs) c p q = clash (ovrdOf (c .registers .shown)) p q
+normal-pins (Count n) c p q =
+    by-cond (λ s. ovrdOf s ≡ true → Count n ≡ Pin) (c .registers .settings .counter || c .registers .shown .oneshot) (counting (c .registers .shown)) (c .registers .shown)
+    (λ h q. clash (ovrdOf (c .registers .shown)) p q) (λ h q. clash (ovrdOf (c .registers .shown)) p q) q
+normal-pins (Sense v) c p q = clash (ovrdOf (c .registers .shown)) p q
+normal-pins (Load l) c p q = clash (ovrdOf (c .registers .shown)) p q
+normal-pins (OnBus b) c p q = bus-pins b c p q
+normal-pins (Level l) c p q = clash (ovrdOf (c .registers .shown)) p q
+
+abbrev Rose : Event → Chip → Chip → Type 0
+Rose e c d = ovrdOf (c .registers .shown) ≡ false → ovrdOf (d .registers .shown) ≡ true → (e ≡ Pin) ⊎ (d .registers .outside ≡ true)
+
+level-rose : (e : Event) (c d : Chip) → Pinned e c d → Rose e c (watched d)
+level-rose e c d f p = by (d .registers .outside) refl
+  where
+    by : (l : Bool) → d .registers .outside ≡ l → ovrdOf (heldAt l (d .registers .shown)) ≡ true → (e ≡ Pin) ⊎ (d .registers .outside ≡ true)
+    by true h q = inr h
+    by false h q = inl (f p q)
+
+next-rose : (e : Event) (c : Chip) → Rose e c (next e c)
+next-rose e c =
+    next-by (Rose e c) e c (λ f a. level-rose e c (normally e c .chip) (normal-pins e c))
+    (λ f a. asleep-by (Rose e c) e c (λ p q. absurd (true≢false (sym q))) (λ b. level-rose e c (withAwake true c) (λ p q. clash (ovrdOf (c .registers .shown)) p q)) (λ p q. clash (ovrdOf (c .registers .shown)) p q))
+    (λ f p q. clash (ovrdOf (c .registers .shown)) p q)
+
 -- ── over any events from power-up ──
 module _ (u : Setup) where
   -- THE LEVEL, of the events alone: the last one that came in this waking spell, and 0 before one came; an event that leaves the chip in SHIP ends the spell
@@ -158,6 +222,11 @@ module _ (u : Setup) where
       alone true b false d e f g n h = absurd (true≢false n)
       alone false true false d e f g n h = absurd (true≢false n)
       alone false false false d e f g n h = absurd (true≢false (sym h ∙ n))
+
+  -- OVRD_ALERT rises at PIN, or with the level at 1, and at nothing else
+  pub ovrd-rises-only : (past : List Event) (e : Event) → upAt u OvrdAlert past ≡ false → upAt u OvrdAlert (e ∷ past) ≡ true → (e ≡ Pin) ⊎ (outside u (e ∷ past) ≡ true)
+  unfolding chip
+  ovrd-rises-only past e p q = next-rose e (chip u past) p q
 
   -- its own event: where SYS_STAT is 0 and it is 1, OVRD_ALERT rises and both drives go off; else it leaves what is shown
   pub level-comes : (l : Bool) (past : List Event) → Awake u past → shown u (Level l ∷ past) ≡ heldAt l (shown u past)
