@@ -87,6 +87,7 @@ fn kind_of(event: Event) -> usize {
         Event::Load(_) => 8,
         Event::Xready => 9,
         Event::OnBus(bus) => kind_of_bus(bus),
+        Event::Level(_) => 0x15,
     }
 }
 
@@ -195,6 +196,8 @@ fn write_kinds() {
     plain(Event::OnBus(BusEvent::In(false)), 1);
     plain(Event::OnBus(BusEvent::In(true)), 1);
     plain(Event::OnBus(BusEvent::Stop), 1);
+    plain(Event::Level(false), 1);
+    plain(Event::Level(true), 1);
 }
 
 // Each refusal of writing, and both sides of the room.
@@ -274,6 +277,8 @@ fn read_kinds() {
     take(&[1, 0, 0x12, 0, 1], 0, 1);
     take(&[0, 0, 0x13, 0], 0, 1);
     take(&[9, 9, 9, 0, 0, 0x13, 0], 3, 1);
+    take(&[1, 0, 0x15, 0, 0], 0, 1);
+    take(&[1, 0, 0x15, 0, 1], 0, 1);
 }
 
 // Each refusal of reading: 9 before 2, 2 before 3.
@@ -296,6 +301,7 @@ fn read_refusals() {
     take(&[1, 0, 5, 0, 0], 0, 1);
     take(&[2, 0, 6, 0, 0, 0], 0, 1);
     take(&[2, 0, 0x12, 0, 9, 9], 0, 1);
+    take(&[2, 0, 0x15, 0, 9, 9], 0, 1);
 }
 
 fn read_ranges() {
@@ -306,6 +312,7 @@ fn read_ranges() {
     take(&[4, 0, 6, 0, 0, 0, 0, 0x80], 0, 1);
     take(&[1, 0, 8, 0, 2], 0, 1);
     take(&[1, 0, 0x12, 0, 2], 0, 1);
+    take(&[1, 0, 0x15, 0, 2], 0, 1);
 }
 
 pub fn lines() {
