@@ -68,7 +68,9 @@ enum toralinge_reading_place {
 /*
  * Plays a whole stream of records on a new chip and writes one entry of five bytes for each record.
  *
- * stream, length   the records: payload length (2 bytes), kind (2 bytes), payload, little-endian
+ * stream, length   the records: payload length (2 bytes), kind (2 bytes), payload, little-endian.
+ *                  Kind 0015, one byte, is the outside level: while it is 1 a second protector holds
+ *                  ALERT up, so a clearing write may end with OVRD_ALERT up again
  * entries, room    where the entries go, and how many bytes may stand there
  *
  * Returns how many entries there are. They stand one after the other from entries[0]; every later

@@ -2,21 +2,11 @@
  * The library as a C program sees it: document 01's examples, both sides of its lines and its refusals, through
  * include/toralinge.h alone, with guard bytes round every buffer that is lent.
  */
+#include "check.h"
 #include "guard.h"
 #include "toralinge.h"
 
-static unsigned long checks;
-
-#define CHECK(what)                                                                                                    \
-    do {                                                                                                               \
-        checks++;                                                                                                      \
-        if (!(what)) {                                                                                                 \
-            fprintf(stderr, "%s:%d: does not hold: %s\n", __FILE__, __LINE__, #what);                                  \
-            exit(1);                                                                                                   \
-        }                                                                                                              \
-    } while (0)
-
-enum kind { SETUP = 0x00, POR, BOOT, SCAN, TEMP, COUNT, SENSE, PIN, LOAD, XREADY, START = 0x10, OUT, IN, STOP, WIRES = 0x16 };
+enum kind { SETUP = 0x00, POR, BOOT, SCAN, TEMP, COUNT, SENSE, PIN, LOAD, XREADY, START = 0x10, OUT, IN, STOP, LEVEL = 0x15, WIRES = 0x16 };
 
 /* ---- streams */
 
@@ -321,6 +311,46 @@ static void both_sides_of_each_line(void)
     CHECK(status_after_ticks(-9500, 256) == 0x00);
 }
 
+/* A second protector holds ALERT up: cleared in vain, drives off, until it lets go; SHIP forgets it. */
+static void outside_level(void)
+{
+    struct stream made;
+    made.length = 0;
+    add_setup(&made, 0);
+    add_byte(&made, LEVEL, 1);      /* 1: asleep, 4 */
+    add_byte(&made, LEVEL, 2);      /* 2: out of range before asleep, 3 */
+    add_bare(&made, LEVEL);         /* 3: wrong length, 2 */
+    add_bare(&made, BOOT);          /* 4 */
+    add_write(&made, 0x05, 0x03);   /* 5 to 9 */
+    add_byte(&made, LEVEL, 1);      /* 10 */
+    add_write(&made, 0x00, 0xFF);   /* 11 to 15: up again at the end of 14 */
+    add_write(&made, 0x05, 0x03);   /* 16 to 20 */
+    add_bare(&made, XREADY);        /* 21 */
+    add_write(&made, 0x00, 0x10);   /* 22 to 26: XREADY is still up */
+    add_write(&made, 0x00, 0x20);   /* 27 to 31 */
+    add_byte(&made, LEVEL, 0);      /* 32: latched */
+    add_write(&made, 0x00, 0x10);   /* 33 to 37 */
+    add_byte(&made, LEVEL, 1);      /* 38 */
+    add_bare(&made, POR);           /* 39 */
+    add_bare(&made, BOOT);          /* 40 */
+    CHECK(play(&made) == 41);
+    CHECK(entry_is(1, TORALINGE_ASLEEP, 0, 0, 0, 0));
+    CHECK(entry_is(2, TORALINGE_BAD_VALUE, 0, 0, 0, 0));
+    CHECK(entry_is(3, TORALINGE_BAD_KIND, 0, 0, 0, 0));
+    CHECK(entry_is(9, 0, 0, 0, 0x00, TORALINGE_PIN_CHG | TORALINGE_PIN_DSG));
+    CHECK(entry_is(10, 0, 0, 0, 0x10, TORALINGE_PIN_ALERT));
+    CHECK(entry_is(14, 0, 1, 0, 0x10, TORALINGE_PIN_ALERT));
+    CHECK(entry_is(20, 0, 0, 0, 0x10, TORALINGE_PIN_ALERT));
+    CHECK(entry_is(21, 0, 0, 0, 0x30, TORALINGE_PIN_ALERT));
+    CHECK(entry_is(25, 0, 1, 0, 0x20, TORALINGE_PIN_ALERT));
+    CHECK(entry_is(30, 0, 1, 0, 0x10, TORALINGE_PIN_ALERT));
+    CHECK(entry_is(32, 0, 0, 0, 0x10, TORALINGE_PIN_ALERT));
+    CHECK(entry_is(36, 0, 1, 0, 0x00, 0));
+    CHECK(entry_is(38, 0, 0, 0, 0x10, TORALINGE_PIN_ALERT));
+    CHECK(entry_is(39, 0, 0, 0, 0x00, 0));
+    CHECK(entry_is(40, 0, 0, 0, 0x00, 0));
+}
+
 static int doubles_are(const uint8_t *room, double least, double greatest, double total, double cc)
 {
     double wanted[TORALINGE_READING_SIZE];
@@ -549,6 +579,7 @@ int main(void)
     refused_first_records();
     refused_later_records();
     both_sides_of_each_line();
+    outside_level();
     readings();
     packs();
     conversions();

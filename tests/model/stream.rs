@@ -55,7 +55,7 @@ fn length_of(kind: u16, part: usize) -> Option<usize> {
         0x0004 => Some(2 * part),
         0x0005 => Some(2),
         0x0006 => Some(4),
-        0x0008 | 0x0011 | 0x0012 | 0x0016 => Some(1),
+        0x0008 | 0x0011 | 0x0012 | 0x0015 | 0x0016 => Some(1),
         _ => None,
     }
 }
@@ -68,7 +68,7 @@ fn in_range(kind: u16, payload: &[u8], plant: Plant) -> bool {
             let most = if plant == Plant::SenseEndsLeftOut { 499_999 } else { 500_000 };
             (-most..=most).contains(&value)
         }
-        0x0008 | 0x0012 => payload[0] <= 1,
+        0x0008 | 0x0012 | 0x0015 => payload[0] <= 1,
         _ => true,
     }
 }
@@ -79,7 +79,7 @@ fn sensed(payload: &[u8]) -> i32 {
 
 /// The number for a record that follows SETUP: 2, then 3, then 4; or 0.
 fn refusal(chip: &Chip, kind: u16, payload: &[u8], plant: Plant) -> u8 {
-    let wants_waking = (3..=9).contains(&kind);
+    let wants_waking = (3..=9).contains(&kind) || kind == 0x15 && plant != Plant::LevelTakenAsleep;
     let asleep = !chip.awake && wants_waking;
     if asleep && plant == Plant::AsleepBeforeLength {
         return 4;
@@ -129,6 +129,7 @@ fn act(chip: &mut Chip, kind: u16, payload: &[u8]) -> Option<u8> {
         0x0010 => chip.start(),
         0x0011 => return Some(if chip.out(payload[0]) { 0 } else { 1 }),
         0x0012 => return Some(chip.take(payload[0] == 0)),
+        0x0015 => chip.level(payload[0] == 1),
         0x0016 => chip.wire(payload[0]),
         _ => chip.stop(),
     }
@@ -235,7 +236,9 @@ impl Session {
         if number != 0 {
             return Err(number);
         }
-        Ok(act(chip, kind, payload))
+        let bus = act(chip, kind, payload);
+        chip.after(kind);
+        Ok(bus)
     }
 }
 

@@ -61,6 +61,7 @@ pub fn counts_wanted(setup: Setup, event: Event) -> u8
         Event::Load(_) => 0,
         Event::Xready => 0,
         Event::OnBus(_) => 0,
+        Event::Level(_) => 0,
         Event::Wires(_) => 0,
     }
 }
@@ -100,6 +101,7 @@ fn value_refusal(setup: Setup, event: Event, of: [u16; 15]) -> u8
         Event::Load(_) => 0,
         Event::Xready => 0,
         Event::OnBus(_) => 0,
+        Event::Level(_) => 0,
         Event::Wires(_) => 2,
     }
 }

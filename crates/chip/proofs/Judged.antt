@@ -18,7 +18,7 @@ use Rattle.protection.specs.Judged.{scanJudged, scan-judged, tickJudged}
 use Rattle.chip.specs.declared.Chip.{Chip}
 use Rattle.chip.specs.declared.Heard.{Heard}
 use Rattle.chip.specs.declared.Stepped.{Stepped}
-use Rattle.chip.specs.Chip.{quiet, withBus, withRegisters, withRuns, normally}
+use Rattle.chip.specs.Chip.{quiet, withBus, withRegisters, withRuns, settled, normally}
 use Rattle.chip.specs.Parts.{raisedBy, heardOf, landed, told, tick-parts, bus-parts}
 
 pub scan-done : {d : Chip} (c : Chip) (xs : List ℕ) (l : Looked) (j : Judged) (r : Registers)
@@ -33,13 +33,13 @@ scan-done c xs l j r hl hj hr h = h ∙ simp (hj, hr, hl, scan-judged)
 pub sense-done : {s : Stepped} (c : Chip) (v : ℤ) (j : Judged) (d : Chip)
     → j ≡ tickJudged (c .registers .settings) v (c .runs)
     → d ≡ raisedBy (j .risen) (withRuns (j .runs) c)
-    → s ≡ quiet 0 d
-    → s ≡ normally (Sense v) c
-sense-done c v j d hj hd h = h ∙ ap (quiet 0) (hd ∙ ap (λ (j : Judged). raisedBy (j .risen) (withRuns (j .runs) c)) hj) ∙ tick-parts v c
+    → s ≡ settled (quiet 0 d)
+    → s ≡ settled (normally (Sense v) c)
+sense-done c v j d hj hd h = h ∙ ap settled (ap (quiet 0) (hd ∙ ap (λ (j : Judged). raisedBy (j .risen) (withRuns (j .runs) c)) hj) ∙ tick-parts v c)
 
 pub bus-done : {s : Stepped} (e : BusEvent) (c : Chip) (h : Heard) (d : Chip)
     → h ≡ heardOf e c
     → d ≡ landed (h .store) (withBus (h .bus) c)
     → s ≡ record { chip = d; number = 0; flag = h .flag; byte = h .byte }
-    → s ≡ normally (OnBus e) c
+    → s ≡ settled (normally (OnBus e) c)
 bus-done e c h d hh hd q = q ∙ ap (λ (d : Chip). record { chip = d; number = 0; flag = h .flag; byte = h .byte }) hd ∙ ap (λ (h : Heard). told h c) hh ∙ bus-parts e c

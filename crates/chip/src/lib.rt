@@ -2,9 +2,9 @@
 ghost use mathlib.Core.Path.{_≡_};
 ghost use lib.ListN.{take};
 ghost use Rattle.events.specs.Setup.{groups, inputs};
-ghost use Rattle.events.specs.Event.{eventOf, Por, Boot, Pin, Xready, Scan, Temp, Count, Sense, Load, OnBus};
+ghost use Rattle.events.specs.Event.{eventOf, Por, Boot, Pin, Xready, Scan, Temp, Count, Sense, Load, OnBus, Level};
 ghost use Rattle.events.specs.declared.BusEvent.the-variants.{Start, Out, In, Stop};
-ghost use Rattle.chip.specs.Chip.{quiet as quietSpec, answered as answeredSpec, inShip as inShipSpec, given as fetchedSpec, normally, busAsleep, happened, stepped, steppedAs, steppedBy};
+ghost use Rattle.chip.specs.Chip.{quiet as quietSpec, answered as answeredSpec, inShip as inShipSpec, given as fetchedSpec, watched as watchedSpec, settled, normally, busAsleep, happened, stepped, steppedAs, steppedBy};
 ghost use Rattle.chip.specs.Parts.{unheard as unheardSpec, sentOn as sentSpec, handedOver as handedSpec, heardOf, wrote as wroteSpec, landed as landedSpec, raisedBy};
 ghost use Rattle.protection.specs.Judged.{tickJudged};
 ghost use Rattle.bus.specs.Bus.{wanted};
@@ -62,6 +62,22 @@ fn quiet(number: u8, chip: Chip) -> Stepped
         flag: false,
         byte: 0,
     }
+}
+
+// The outside level is looked at.
+fn watched(mut chip: Chip) -> Chip
+    ensures { λ r. ⌜ r ≡ watchedSpec chip ⌝ }
+{
+    let registers = chip.registers;
+    chip.registers = registers.held();
+    chip
+}
+
+// An event done in NORMAL: the outside level is looked at, number 0.
+pub fn done(chip: Chip) -> Stepped
+    ensures { λ r. ⌜ r ≡ settled (quietSpec 0 chip) ⌝ }
+{
+    quiet(0, watched(chip))
 }
 
 // The answer of an OUT or IN that is done.
@@ -146,15 +162,12 @@ impl Chip {
         ensures { λ r. ⌜ r ≡ happened Boot self ⌝ }
     {
         if self.awake {
-            return quiet(0, self);
+            return done(self);
         }
-        quiet(
-            0,
-            Chip {
-                awake: true,
-                ..self
-            },
-        )
+        done(Chip {
+            awake: true,
+            ..self
+        })
     }
 
     // In NORMAL: one look over the counts stores, sums and judges.
@@ -188,7 +201,7 @@ impl Chip {
         if !self.awake {
             return quiet(4, self);
         }
-        quiet(0, self.scanned(counts))
+        done(self.scanned(counts))
     }
 
     // In NORMAL: one tick judged.
@@ -223,7 +236,7 @@ impl Chip {
         let runs = judged.runs;
         self.runs = runs;
         let risen = judged.risen;
-        quiet(0, self.raised(risen))
+        done(self.raised(risen))
     }
 
     // In NORMAL: the counts of TEMP kept.
@@ -247,7 +260,7 @@ impl Chip {
         if !self.awake {
             return quiet(4, self);
         }
-        quiet(0, self.warmed(counts))
+        done(self.warmed(counts))
     }
 
     pub fn count(self, cc: u16) -> Stepped
@@ -258,7 +271,7 @@ impl Chip {
         }
         let registers = self.registers;
         let registers = registers.coulombs(cc);
-        quiet(0, Chip { registers, ..self })
+        done(Chip { registers, ..self })
     }
 
     pub fn pin(self) -> Stepped
@@ -269,7 +282,7 @@ impl Chip {
         }
         let registers = self.registers;
         let registers = registers.pulled();
-        quiet(0, Chip { registers, ..self })
+        done(Chip { registers, ..self })
     }
 
     pub fn load(self, level: bool) -> Stepped
@@ -280,7 +293,18 @@ impl Chip {
         }
         let registers = self.registers;
         let registers = registers.loaded(level);
-        quiet(0, Chip { registers, ..self })
+        done(Chip { registers, ..self })
+    }
+
+    pub fn level(self, level: bool) -> Stepped
+        ensures { λ r. ⌜ r ≡ happened (Level level) self ⌝ }
+    {
+        if !self.awake {
+            return quiet(4, self);
+        }
+        let registers = self.registers;
+        let registers = registers.leveled(level);
+        done(Chip { registers, ..self })
     }
 
     pub fn xready(self) -> Stepped
@@ -291,7 +315,7 @@ impl Chip {
         }
         let registers = self.registers;
         let registers = registers.unready();
-        quiet(0, Chip { registers, ..self })
+        done(Chip { registers, ..self })
     }
 }
 
@@ -321,7 +345,8 @@ impl Chip {
         if settings.ships(at, value) {
             return in_ship(setup);
         }
-        self.registers = registers.write(setup, at, value);
+        let written = registers.write(setup, at, value);
+        self.registers = written.held();
         self
     }
 
@@ -329,7 +354,7 @@ impl Chip {
         ensures { λ r. ⌜ r ≡ landedSpec store self ⌝ }
     {
         match store {
-            Store::Nothing => self,
+            Store::Nothing => watched(self),
             Store::At(at, value) => self.wrote(at, value),
         }
     }
@@ -426,6 +451,7 @@ impl Chip {
             Event::Load(level) => self.load(level),
             Event::Xready => self.xready(),
             Event::OnBus(bus) => self.on_bus(bus),
+            Event::Level(level) => self.level(level),
             Event::Wires(_) => quiet(2, self),
         }
     }

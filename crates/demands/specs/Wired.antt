@@ -9,9 +9,9 @@ use Rattle.events.specs.declared.Counts.{Counts}
 use Rattle.events.specs.declared.BusEvent.{BusEvent}
 use Rattle.events.specs.declared.BusEvent.the-variants.{Start, Stop, Out, In}
 use Rattle.events.specs.declared.Event.{Event as Coded}
-use Rattle.events.specs.declared.Event.the-variants.{Setup as Setup-, Por as Por-, Boot as Boot-, Pin as Pin-, Xready as Xready-, Scan as Scan-, Temp as Temp-, Count as Count-, Sense as Sense-, Load as Load-, OnBus as OnBus-, Wires as Wires-}
+use Rattle.events.specs.declared.Event.the-variants.{Setup as Setup-, Por as Por-, Boot as Boot-, Pin as Pin-, Xready as Xready-, Scan as Scan-, Temp as Temp-, Count as Count-, Sense as Sense-, Load as Load-, OnBus as OnBus-, Level as Level-, Wires as Wires-}
 use Rattle.events.specs.Setup.{groups, inputs, withCells}
-use Rattle.events.specs.Event.{Event, Por, Boot, Pin, Xready, Scan, Temp, Count, Sense, Load, OnBus, fits, meantOf}
+use Rattle.events.specs.Event.{Event, Por, Boot, Pin, Xready, Scan, Temp, Count, Sense, Load, OnBus, Level, fits, meantOf}
 use Rattle.bus.specs.declared.Phase.{Phase}
 use Rattle.bus.specs.declared.Phase.the-variants.{Idle, Address, Pointing, Writing, Checking, Reading, Summing}
 use Rattle.bus.specs.declared.Line.{Line}
@@ -25,7 +25,7 @@ use Rattle.registers.specs.Write.{balanceWith}
 use Rattle.registers.specs.Read.{balanceByte, lowByte, wordAt, fixedByte, readAt}
 use Rattle.chip.specs.declared.Chip.{Chip}
 use Rattle.chip.specs.declared.Stepped.{Stepped}
-use Rattle.chip.specs.Chip.{quiet, inShip, accepted, storedAt, stored, sent, handed, reads, onBus, normally, asleep, happened, stepped}
+use Rattle.chip.specs.Chip.{quiet, inShip, accepted, storedAt, stored, sent, handed, reads, onBus, settled, normally, asleep, happened, stepped}
 use Rattle.demands.specs.Demand.{chip}
 
 -- the chip, and an answer of it, with another number of cells
@@ -92,6 +92,7 @@ module _ (n : ℕ) where
   normal-cells (Sense v) c = refl
   normal-cells (Load l) c = refl
   normal-cells (OnBus b) c = bus-cells b c
+  normal-cells (Level l) c = refl
 
   asleep-cells : (e : Event) (c : Chip) → asleep e (celled n c) ≡ celledIn n (asleep e c)
   asleep-cells Por c = refl
@@ -107,13 +108,14 @@ module _ (n : ℕ) where
   asleep-cells (OnBus Stop) c = refl
   asleep-cells (OnBus (Out b)) c = refl
   asleep-cells (OnBus (In nack)) c = refl
+  asleep-cells (Level l) c = refl
 
   pub stepped-cells : (e : Event) (c : Chip) → stepped e (celled n c) ≡ celledIn n (stepped e c)
   unfolding stepped happened
   stepped-cells e c = by (fits e) (c .awake)
     where
-      by : (f a : Bool) → cond f (cond a (normally e (celled n c)) (asleep e (celled n c))) (quiet 3 (celled n c)) ≡ celledIn n (cond f (cond a (normally e c) (asleep e c)) (quiet 3 c))
-      by true true = normal-cells e c
+      by : (f a : Bool) → cond f (cond a (settled (normally e (celled n c))) (asleep e (celled n c))) (quiet 3 (celled n c)) ≡ celledIn n (cond f (cond a (settled (normally e c)) (asleep e c)) (quiet 3 c))
+      by true true = ap settled (normal-cells e c)
       by true false = asleep-cells e c
       by false a = refl
 
@@ -137,4 +139,5 @@ module _ (n : ℕ) where
   meant-cells u (Sense- v) k = refl
   meant-cells u (Load- l) k = refl
   meant-cells u (OnBus- b) k = refl
+  meant-cells u (Level- l) k = refl
   meant-cells u (Wires- n) k = refl

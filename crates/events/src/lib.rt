@@ -34,6 +34,8 @@ pub enum Event {
     Load(bool),
     Xready,
     OnBus(BusEvent),
+    // The outside level: a second protector holds ALERT up, or lets go.
+    Level(bool),
     // The number of cells of a pack.
     Wires(u8),
 }

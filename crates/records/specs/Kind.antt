@@ -43,6 +43,9 @@ IN = 0x0012
 abbrev pub STOP : ℕ
 STOP = 0x0013
 
+abbrev pub LEVEL : ℕ
+LEVEL = 0x0015
+
 -- request M-107: the wiring record
 abbrev pub WIRES : ℕ
 WIRES = 0x0016

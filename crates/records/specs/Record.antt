@@ -12,9 +12,9 @@ use Rattle.events.specs.declared.Checked.{Checked}
 use Rattle.events.specs.declared.Checked.the-variants.{Good, Bad}
 use Rattle.events.specs.declared.BusEvent.the-variants.{Start, Out, In, Stop}
 use Rattle.events.specs.declared.Event.{Event}
-use Rattle.events.specs.declared.Event.the-variants.{Setup, Por, Boot, Scan, Temp, Count, Sense, Pin, Load, Xready, OnBus, Wires}
+use Rattle.events.specs.declared.Event.the-variants.{Setup, Por, Boot, Scan, Temp, Count, Sense, Pin, Load, Xready, OnBus, Level, Wires}
 use Rattle.records.specs.Numbers.{le16, le32, signed32, bitOf, words, filled}
-use Rattle.records.specs.Kind.{SETUP, POR, BOOT, SCAN, TEMP, COUNT, SENSE, PIN, LOAD, XREADY, START, OUT, IN, STOP, WIRES}
+use Rattle.records.specs.Kind.{SETUP, POR, BOOT, SCAN, TEMP, COUNT, SENSE, PIN, LOAD, XREADY, START, OUT, IN, STOP, LEVEL, WIRES}
 use Rattle.records.specs.declared.Payload.{Payload}
 use Rattle.records.specs.declared.Payload.the-variants.{Whole, Unfit}
 use Rattle.records.specs.declared.Read.{Read}
@@ -55,12 +55,15 @@ senseOf u = cond (senseFits (signed32 u)) (Whole (Sense (signed32 u))) (Unfit 3)
 abbrev pub senseIn : List ℕ → Payload
 senseIn b = cond (eqb (length b) 4) (senseOf (le32 b 0)) (Unfit 2)
 
--- 1 byte, 0 or 1: LOAD, and IN, where 1 says that the host does not acknowledge
+-- 1 byte, 0 or 1: LOAD, the outside level (document 02, M-103), and IN, where 1 says that the host does not acknowledge
 abbrev pub switchIn : (Bool → Event) → List ℕ → Payload
 switchIn e b = cond (eqb (length b) 1) (cond (leb (getD b 0 0) 1) (Whole (e (eqb (getD b 0 0) 1))) (Unfit 3)) (Unfit 2)
 
 abbrev pub loadOf : Bool → Event
 loadOf level = Load level
+
+abbrev pub levelOf : Bool → Event
+levelOf level = Level level
 
 abbrev pub inOf : Bool → Event
 inOf refused = OnBus (In refused)
@@ -100,7 +103,8 @@ laterOf kind part b =
     (cond (eqb kind OUT) (outIn b)
     (cond (eqb kind IN) (switchIn inOf b)
     (cond (eqb kind STOP) (bareIn (OnBus Stop) b)
-    (cond (eqb kind WIRES) (wiresIn b) (Unfit 2))))))))))))))
+    (cond (eqb kind LEVEL) (switchIn levelOf b)
+    (cond (eqb kind WIRES) (wiresIn b) (Unfit 2)))))))))))))))
 
 -- part 0: none stands yet, and SETUP alone is first
 unfoldable pub payloadOf : ℕ → ℕ → List ℕ → Payload
@@ -145,6 +149,7 @@ countsIn Pin b = noCounts
 countsIn (Load l) b = noCounts
 countsIn Xready b = noCounts
 countsIn (OnBus e) b = noCounts
+countsIn (Level l) b = noCounts
 countsIn (Wires n) b = noCounts
 
 -- the counts beside what was read at the start of r

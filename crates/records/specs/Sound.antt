@@ -12,12 +12,12 @@ use lib.ListN.{length, getD, take, drop}
 use lib.IntN.{ℤ}
 use borrow.Author.Tests.{eqb-true, leb-true, ne-eqb}
 use Rattle.events.specs.Setup.{setupFits, setupOf, checkedOf, groups, inputs}
-use Rattle.events.specs.Event.{Event as Meant-event, Por as Por-, Boot as Boot-, Pin as Pin-, Xready as Xready-, Scan as Scan-, Temp as Temp-, Count as Count-, Sense as Sense-, Load as Load-, OnBus as OnBus-, within, countMost, senseFits, fits, countsFit, means, meantOf}
+use Rattle.events.specs.Event.{Event as Meant-event, Por as Por-, Boot as Boot-, Pin as Pin-, Xready as Xready-, Scan as Scan-, Temp as Temp-, Count as Count-, Sense as Sense-, Load as Load-, OnBus as OnBus-, Level as Level-, within, countMost, senseFits, fits, countsFit, means, meantOf}
 use Rattle.events.specs.declared.Setup.{Setup as SetupValues}
 use Rattle.events.specs.declared.Counts.{Counts}
 use Rattle.events.specs.declared.BusEvent.the-variants.{Start, Out, In, Stop}
 use Rattle.events.specs.declared.Event.{Event}
-use Rattle.events.specs.declared.Event.the-variants.{Setup, Por, Boot, Scan, Temp, Count, Sense, Pin, Load, Xready, OnBus, Wires}
+use Rattle.events.specs.declared.Event.the-variants.{Setup, Por, Boot, Scan, Temp, Count, Sense, Pin, Load, Xready, OnBus, Level, Wires}
 use Rattle.records.specs.Numbers.{le16, le32, signed32, bitOf, words}
 use Rattle.records.specs.Kind.{SETUP}
 use Rattle.records.specs.Record.{setupGood, checkedIn, setupIn, countedIn, senseOf, payloadOf, laterOf, readOf, groupsAt, inputsAt, countsOf, countsIn, countsBeside}
@@ -67,6 +67,7 @@ IsSetup Pin = ⊥
 IsSetup (Load l) = ⊥
 IsSetup Xready = ⊥
 IsSetup (OnBus b) = ⊥
+IsSetup (Level l) = ⊥
 IsSetup (Wires n) = ⊥
 
 abbrev FirstOk : Payload → Type 0
@@ -109,6 +110,7 @@ isWires Pin = false
 isWires (Load l) = false
 isWires Xready = false
 isWires (OnBus b) = false
+isWires (Level l) = false
 isWires (Wires n) = true
 
 -- to know something of every event, it is enough to know it of a wiring record and of every other
@@ -124,6 +126,7 @@ wires-by P w f Pin = f Pin refl
 wires-by P w f (Load l) = f (Load l) refl
 wires-by P w f Xready = f Xready refl
 wires-by P w f (OnBus b) = f (OnBus b) refl
+wires-by P w f (Level l) = f (Level l) refl
 wires-by P w f (Wires n) = w n
 
 abbrev LaterOk : SetupValues → List ℕ → Payload → Type 0
@@ -182,6 +185,7 @@ later-ok u kind b =
     (sized 1 (Whole (OnBus (Out (getD b 0 0)))) (λ l w. record { event = OnBus- (Out (getD b 0 0)); meant = refl; fit = refl }))
     (sized 1 (cond bit (Whole (OnBus (In level))) (Unfit 3)) (λ l. ranged bit (Whole (OnBus (In level))) (λ f w. record { event = OnBus- (In level); meant = refl; fit = refl })))
     (sized 0 (Whole (OnBus Stop)) (λ l w. record { event = OnBus- Stop; meant = refl; fit = refl }))
+    (sized 1 (cond bit (Whole (Level level)) (Unfit 3)) (λ l. ranged bit (Whole (Level level)) (λ f w. record { event = Level- level; meant = refl; fit = refl })))
     (sized 1 (Whole (Wires (getD b 0 0))) (λ l w. absurd (true≢false w)))
     (λ (k : ℕ). tt)
     kind

@@ -18,8 +18,20 @@ use Rattle.records.specs.Record.{readOf}
 use Rattle.records.specs.declared.Read.{Read}
 use Rattle.records.specs.declared.Read.the-variants.{Record, Refused, Cut}
 use Rattle.records.specs.Reading.{Placed, placed}
+use Rattle.events.specs.declared.Event.{Event}
+use Rattle.events.specs.declared.Event.the-variants.{Setup, Por, Boot, Scan, Temp, Count, Sense, Pin, Load, Xready, OnBus, Level, Wires}
+use Rattle.events.specs.declared.Setup.{Setup as SetupValues}
+use Rattle.events.specs.declared.Counts.{Counts}
+use Rattle.events.specs.Setup.{withCells}
+use Rattle.wiring.specs.Rows.{hasRow, wiredWith}
+use Rattle.wiring.specs.declared.Wiring.the-variants.{With, NoRow}
+use Rattle.events.specs.Event.{Meant, means, unfit, meantOf}
+use Rattle.records.specs.Record.{countsBeside}
 use Rattle.chip.specs.declared.Chip.{Chip}
-use Rattle.stream.specs.Stream.{Turn, turnOf, turned, runs, stands, entries, lastChip, none, entryBytes, bytesOf, noted, Ran, Played}
+use Rattle.chip.specs.declared.Stepped.{Stepped}
+use Rattle.chip.specs.Chip.{quiet, steppedAs, steppedBy}
+use Rattle.chip.specs.Calm.{Calmed, ship-calm, calm-next}
+use Rattle.stream.specs.Stream.{Turn, turnOf, turned, runs, stands, entries, lastChip, none, entryBytes, bytesOf, noted, wiredAs, acted, Ran, Played}
 use Rattle.stream.specs.declared.Entry.{Entry}
 
 pub rest-is : (s : List ℕ) (at : ℕ) → take (length s - at) (drop at s) ≡ drop at s
@@ -115,6 +127,41 @@ turn-next : (o : Bool) (chip : Chip) (rest : List ℕ) → turnOf o chip rest .l
 unfolding turnOf
 turn-next o chip rest l = turned-next o chip rest (readOf (chip .setup .part) rest) (placed (chip .setup .part) rest) l
 
+-- the outside level and SYS_STAT at 0 do not stand together after a turn, where they did not before it
+meant-calm : (m : Meant) (c : Chip) → Calmed c → Calmed (steppedAs m c .chip)
+meant-calm (means e) c k = calm-next e c k
+meant-calm unfit c k = k
+
+wires-calm : (o t : Bool) (u : SetupValues) (c : Chip) → Calmed c → Calmed (cond o (wiredAs (cond t (With u) NoRow) c) (quiet 2 c) .chip)
+wires-calm true true u c k = ship-calm u
+wires-calm true false u c k = k
+wires-calm false t u c k = k
+
+acted-calm : (o : Bool) (e : Event) (n : Counts) (c : Chip) → Calmed c → Calmed (acted o e n c .chip)
+unfolding acted wiredWith
+acted-calm o (Setup v) n c k = ship-calm v
+acted-calm o Por n c k = meant-calm (meantOf (c .setup) Por n) c k
+acted-calm o Boot n c k = meant-calm (meantOf (c .setup) Boot n) c k
+acted-calm o Scan n c k = meant-calm (meantOf (c .setup) Scan n) c k
+acted-calm o Temp n c k = meant-calm (meantOf (c .setup) Temp n) c k
+acted-calm o (Count w) n c k = meant-calm (meantOf (c .setup) (Count w) n) c k
+acted-calm o (Sense v) n c k = meant-calm (meantOf (c .setup) (Sense v) n) c k
+acted-calm o Pin n c k = meant-calm (meantOf (c .setup) Pin n) c k
+acted-calm o (Load l) n c k = meant-calm (meantOf (c .setup) (Load l) n) c k
+acted-calm o Xready n c k = meant-calm (meantOf (c .setup) Xready n) c k
+acted-calm o (OnBus b) n c k = meant-calm (meantOf (c .setup) (OnBus b) n) c k
+acted-calm o (Level l) n c k = meant-calm (meantOf (c .setup) (Level l) n) c k
+acted-calm o (Wires w) n c k = wires-calm o (hasRow (c .setup .part) w) (withCells w (c .setup)) c k
+
+turned-calm : (o : Bool) (chip : Chip) (rest : List ℕ) (x : Read) → Calmed chip → Calmed (turned o chip rest x .chip)
+turned-calm o chip rest (Record e n) k = acted-calm o e (countsBeside rest (Record e n)) chip k
+turned-calm o chip rest (Refused j n) k = k
+turned-calm o chip rest Cut k = k
+
+turn-calm : (o : Bool) (chip : Chip) (rest : List ℕ) → Calmed chip → Calmed (turnOf o chip rest .chip)
+unfolding turnOf
+turn-calm o chip rest k = turned-calm o chip rest (readOf (chip .setup .part) rest) k
+
 -- what stands at the loop's head: the entries done, and those that are still to come
 pub record Going (s old out : List ℕ) (o : Bool) (chip : Chip) (at n : ℕ) : Type 0 where
   pub done : List Entry
@@ -123,12 +170,13 @@ pub record Going (s old out : List ℕ) (o : Bool) (chip : Chip) (at n : ℕ) : 
   pub ends : lastChip s ≡ stands (length s - n) o chip (drop at s)
   pub slow : 4 * n ≤ at
   pub inside : at ≤ length s
+  pub calm : Calmed chip
 
 pub going-none : (s old : List ℕ) → Going s old old false none 0 0
 unfolding entries lastChip
 going-none s old =
     let z : length s ≡ length s - 0 = omega arith in
-    record { done = []; made = made-none old; whole = ap (λ (k : ℕ). runs k false none s) z; ends = ap (λ (k : ℕ). stands k false none s) z; slow = omega arith; inside = omega arith }
+    record { done = []; made = made-none old; whole = ap (λ (k : ℕ). runs k false none s) z; ends = ap (λ (k : ℕ). stands k false none s) z; slow = omega arith; inside = omega arith; calm = ship-calm (none .setup) }
 
 module _ (s old out : List ℕ) (o : Bool) (chip : Chip) (at n : ℕ) (g : Going s old out o chip at n) where
   pub going-end : length s ≤ at → Ran s old chip out
@@ -181,6 +229,7 @@ module _ (s old out : List ℕ) (o : Bool) (chip : Chip) (at n : ℕ) (g : Going
           ends = step-ends ∙ rw e refl;
           slow = omega arith;
           inside = p .1;
+          calm = subst (λ (t : Turn). Calmed (t .chip)) (sym turn-is) (turn-calm o chip (drop at s) (g .calm));
         }
 
 -- the C call: the count by framing, and a run that is lent room enough

@@ -1,19 +1,19 @@
 -- What is known of an event or a record that was taken apart, put to use: a record that was read needs no second check. Assumes nothing.
 use mathlib.Core.Path.{_≡_, refl, ap, sym, _∙_, subst}
-use mathlib.Core.Bool.{Bool, true, false, cond, _&&_, _||_, not}
+use mathlib.Core.Bool.{Bool, true, false, cond, not, _&&_, _||_}
 use mathlib.Core.Logic.{⊎-elim, _≢_, inl, inr}
 use mathlib.Core.List.{List, [], _∷_}
-use Prim.Native.Nat.{ℕ, _+_, _-_}
+use Prim.Native.Nat.{ℕ, _-_}
 use native.Mathlib.Omega.{arith}
 use lib.Dec.{eqb}
-use borrow.Author.Tests.{eqb-true, eqb-false, eq-eqb, ne-eqb}
+use borrow.Author.Tests.{eqb-true, eqb-false, eq-eqb}
 use types.Run.{OneOf}
 use denote.Enum.Declared.{tagOf}
 use Rattle.events.specs.declared.Setup.{Setup as SetupValues}
 use Rattle.events.specs.declared.Counts.{Counts}
 use Rattle.events.specs.declared.BusEvent.{BusEvent}
 use Rattle.events.specs.declared.Event.{Event}
-use Rattle.events.specs.declared.Event.the-variants.{Setup, Por, Boot, Scan, Temp, Count, Sense, Pin, Load, Xready, OnBus, Wires}
+use Rattle.events.specs.declared.Event.the-variants.{Setup, Por, Boot, Scan, Temp, Count, Sense, Pin, Load, Xready, OnBus, Level, Wires}
 use Rattle.events.specs.Event.{Event as Happening, Scan as Scanned, Sense as Ticked, OnBus as Signalled, Meant, means, unfit, fits, eventOf, meantOf, countsFit, countsWanted}
 use Rattle.events.proofs.Event.{the-type as event-type}
 use Rattle.records.specs.declared.Read.the-variants.{Record}
@@ -29,10 +29,6 @@ use lib.IntN.{ℤ}
 use Rattle.records.specs.Sound.{IsSetup, first-setup, Meaning, isWires, later-means}
 use Rattle.wiring.specs.declared.Wiring.{Wiring}
 use Rattle.wiring.specs.Rows.{wiredWith}
-use Rattle.settings.specs.Bit.{weighed}
-use Rattle.registers.specs.declared.Status.{Status}
-use Rattle.registers.specs.State.{alert}
-use Rattle.registers.specs.Read.{statusByte}
 use Rattle.chip.specs.declared.Chip.{Chip}
 use Rattle.chip.specs.declared.Stepped.{Stepped}
 use Rattle.protection.specs.declared.Judged.{Judged}
@@ -40,7 +36,8 @@ use Rattle.protection.specs.Judged.{tickJudged}
 use Rattle.chip.specs.declared.Heard.{Heard}
 use Rattle.chip.specs.Parts.{raisedBy, heardOf, landed, told, tick-parts, still-tick, bus-parts}
 use Rattle.chip.proofs.Modes.{in-normal}
-use Rattle.chip.specs.Chip.{quiet, withBus, withRuns, normally, asleep, happened, stepped, steppedAs, steppedBy, happenedAs, happenedBy}
+use Rattle.chip.specs.Calm.{Calmed, calm-scan, calm-tick}
+use Rattle.chip.specs.Chip.{quiet, withBus, withRuns, settled, normally, asleep, happened, stepped, steppedAs, steppedBy, happenedAs, happenedBy}
 use Rattle.stream.specs.Stream.{unanswered, answerOf, answerHeard, faceOf, entryWith, entryOf, saying, bornOf, wiredAs, wires, acted, staysFresh, turn, turned, turnOf}
 use Rattle.stream.specs.declared.Answer.{Answer}
 use Rattle.stream.specs.declared.Entry.{Entry}
@@ -65,11 +62,11 @@ checked c e k m =
 
 -- no SETUP: what a record that was read does is what happens
 abbrev Later : Event → Type 0
-Later e = OneOf (1 ∷ 2 ∷ 3 ∷ 4 ∷ 5 ∷ 6 ∷ 7 ∷ 8 ∷ 9 ∷ 10 ∷ []) (tagOf event-type e)
+Later e = OneOf (1 ∷ 2 ∷ 3 ∷ 4 ∷ 5 ∷ 6 ∷ 7 ∷ 8 ∷ 9 ∷ 10 ∷ 11 ∷ []) (tagOf event-type e)
 
 other-acted : (o : Bool) (c : Chip) (e : Event) (k : Counts) → Later e → steppedBy e k c ≡ acted o e k c
 unfolding acted
-other-acted op c (Setup v) k o = absurd (⊎-elim (λ h. omega arith) (⊎-elim (λ h. omega arith) (⊎-elim (λ h. omega arith) (⊎-elim (λ h. omega arith) (⊎-elim (λ h. omega arith) (⊎-elim (λ h. omega arith) (⊎-elim (λ h. omega arith) (⊎-elim (λ h. omega arith) (⊎-elim (λ h. omega arith) (λ h. omega arith))))))))) o)
+other-acted op c (Setup v) k o = absurd (⊎-elim (λ h. omega arith) (⊎-elim (λ h. omega arith) (⊎-elim (λ h. omega arith) (⊎-elim (λ h. omega arith) (⊎-elim (λ h. omega arith) (⊎-elim (λ h. omega arith) (⊎-elim (λ h. omega arith) (⊎-elim (λ h. omega arith) (⊎-elim (λ h. omega arith) (⊎-elim (λ h. omega arith) (λ h. omega arith)))))))))) o)
 other-acted op c Por k o = refl
 other-acted op c Boot k o = refl
 other-acted op c Scan k o = refl
@@ -80,10 +77,11 @@ other-acted op c Pin k o = refl
 other-acted op c (Load l) k o = refl
 other-acted op c Xready k o = refl
 other-acted op c (OnBus b) k o = refl
-other-acted op c (Wires n) k o = absurd (⊎-elim (λ h. omega arith) (⊎-elim (λ h. omega arith) (⊎-elim (λ h. omega arith) (⊎-elim (λ h. omega arith) (⊎-elim (λ h. omega arith) (⊎-elim (λ h. omega arith) (⊎-elim (λ h. omega arith) (⊎-elim (λ h. omega arith) (⊎-elim (λ h. omega arith) (λ h. omega arith))))))))) o)
+other-acted op c (Level l) k o = refl
+other-acted op c (Wires n) k o = absurd (⊎-elim (λ h. omega arith) (⊎-elim (λ h. omega arith) (⊎-elim (λ h. omega arith) (⊎-elim (λ h. omega arith) (⊎-elim (λ h. omega arith) (⊎-elim (λ h. omega arith) (⊎-elim (λ h. omega arith) (⊎-elim (λ h. omega arith) (⊎-elim (λ h. omega arith) (⊎-elim (λ h. omega arith) (λ h. omega arith)))))))))) o)
 
 other-first : (e : Event) → IsSetup e → Later e → ⊥
-other-first (Setup v) f o = ⊎-elim (λ h. omega arith) (⊎-elim (λ h. omega arith) (⊎-elim (λ h. omega arith) (⊎-elim (λ h. omega arith) (⊎-elim (λ h. omega arith) (⊎-elim (λ h. omega arith) (⊎-elim (λ h. omega arith) (⊎-elim (λ h. omega arith) (⊎-elim (λ h. omega arith) (λ h. omega arith))))))))) o
+other-first (Setup v) f o = ⊎-elim (λ h. omega arith) (⊎-elim (λ h. omega arith) (⊎-elim (λ h. omega arith) (⊎-elim (λ h. omega arith) (⊎-elim (λ h. omega arith) (⊎-elim (λ h. omega arith) (⊎-elim (λ h. omega arith) (⊎-elim (λ h. omega arith) (⊎-elim (λ h. omega arith) (⊎-elim (λ h. omega arith) (λ h. omega arith)))))))))) o
 other-first Por f o = f
 other-first Boot f o = f
 other-first Scan f o = f
@@ -94,6 +92,7 @@ other-first Pin f o = f
 other-first (Load l) f o = f
 other-first Xready f o = f
 other-first (OnBus b) f o = f
+other-first (Level l) f o = f
 other-first (Wires n) f o = f
 
 -- and no wiring record
@@ -109,7 +108,8 @@ other-wires Pin o = refl
 other-wires (Load l) o = refl
 other-wires Xready o = refl
 other-wires (OnBus b) o = refl
-other-wires (Wires n) o = absurd (⊎-elim (λ h. omega arith) (⊎-elim (λ h. omega arith) (⊎-elim (λ h. omega arith) (⊎-elim (λ h. omega arith) (⊎-elim (λ h. omega arith) (⊎-elim (λ h. omega arith) (⊎-elim (λ h. omega arith) (⊎-elim (λ h. omega arith) (⊎-elim (λ h. omega arith) (λ h. omega arith))))))))) o)
+other-wires (Level l) o = refl
+other-wires (Wires n) o = absurd (⊎-elim (λ h. omega arith) (⊎-elim (λ h. omega arith) (⊎-elim (λ h. omega arith) (⊎-elim (λ h. omega arith) (⊎-elim (λ h. omega arith) (⊎-elim (λ h. omega arith) (⊎-elim (λ h. omega arith) (⊎-elim (λ h. omega arith) (⊎-elim (λ h. omega arith) (⊎-elim (λ h. omega arith) (λ h. omega arith)))))))))) o)
 
 meaning : (c : Chip) (r : List ℕ) (e : Event) (next : ℕ) (t : Bool) → eqb (c .setup .part) 0 ≡ t → readOf (c .setup .part) r ≡ Record e next → Later e
     → Meaning (c .setup) e (countsBeside r (Record e next))
@@ -139,7 +139,8 @@ other-often Pin q = absurd (clash q)
 other-often (Load l) q = absurd (clash q)
 other-often Xready q = absurd (clash q)
 other-often (Wires n) q = absurd (clash q)
-other-often (OnBus b) q = inr (inr (inr (inr (inr (inr (inr (inr (inr refl))))))))
+other-often (OnBus b) q = inr (inr (inr (inr (inr (inr (inr (inr (inr (inl refl)))))))))
+other-often (Level l) q = absurd (clash q)
 
 pub as-event : {s : Stepped} {e e′ : Event} (xs : List ℕ) (c : Chip) → e ≡ e′ → s ≡ happenedBy e′ xs c → s ≡ happenedBy e xs c
 as-event xs c q h = h ∙ ap (λ (e : Event). happenedBy e xs c) (sym q)
@@ -149,19 +150,20 @@ pub often-is : {s : Stepped} (op : Bool) (c : Chip) (r : List ℕ) (e e′ : Eve
 often-is op c r e e′ next xs q t o b h = other-is op c r e next xs q (other-often e (ap often t ∙ o)) b (as-event xs c t h)
 
 -- what is seldom done is other work
-pub seldom-work : (e : Event) → OneOf (0 ∷ 1 ∷ 2 ∷ 4 ∷ 5 ∷ 7 ∷ 8 ∷ 9 ∷ 11 ∷ []) (tagOf event-type e) → Other ≡ awakeWork e
+pub seldom-work : (e : Event) → OneOf (0 ∷ 1 ∷ 2 ∷ 4 ∷ 5 ∷ 7 ∷ 8 ∷ 9 ∷ 11 ∷ 12 ∷ []) (tagOf event-type e) → Other ≡ awakeWork e
 seldom-work (Setup v) o = refl
 seldom-work Por o = refl
 seldom-work Boot o = refl
-seldom-work Scan o = absurd (⊎-elim (λ h. omega arith) (⊎-elim (λ h. omega arith) (⊎-elim (λ h. omega arith) (⊎-elim (λ h. omega arith) (⊎-elim (λ h. omega arith) (⊎-elim (λ h. omega arith) (⊎-elim (λ h. omega arith) (⊎-elim (λ h. omega arith) (λ h. omega arith)))))))) o)
+seldom-work Scan o = absurd (⊎-elim (λ h. omega arith) (⊎-elim (λ h. omega arith) (⊎-elim (λ h. omega arith) (⊎-elim (λ h. omega arith) (⊎-elim (λ h. omega arith) (⊎-elim (λ h. omega arith) (⊎-elim (λ h. omega arith) (⊎-elim (λ h. omega arith) (⊎-elim (λ h. omega arith) (λ h. omega arith))))))))) o)
 seldom-work Temp o = refl
 seldom-work (Count n) o = refl
-seldom-work (Sense v) o = absurd (⊎-elim (λ h. omega arith) (⊎-elim (λ h. omega arith) (⊎-elim (λ h. omega arith) (⊎-elim (λ h. omega arith) (⊎-elim (λ h. omega arith) (⊎-elim (λ h. omega arith) (⊎-elim (λ h. omega arith) (⊎-elim (λ h. omega arith) (λ h. omega arith)))))))) o)
+seldom-work (Sense v) o = absurd (⊎-elim (λ h. omega arith) (⊎-elim (λ h. omega arith) (⊎-elim (λ h. omega arith) (⊎-elim (λ h. omega arith) (⊎-elim (λ h. omega arith) (⊎-elim (λ h. omega arith) (⊎-elim (λ h. omega arith) (⊎-elim (λ h. omega arith) (⊎-elim (λ h. omega arith) (λ h. omega arith))))))))) o)
 seldom-work Pin o = refl
 seldom-work (Load l) o = refl
 seldom-work Xready o = refl
 seldom-work (Wires n) o = refl
-seldom-work (OnBus b) o = absurd (⊎-elim (λ h. omega arith) (⊎-elim (λ h. omega arith) (⊎-elim (λ h. omega arith) (⊎-elim (λ h. omega arith) (⊎-elim (λ h. omega arith) (⊎-elim (λ h. omega arith) (⊎-elim (λ h. omega arith) (⊎-elim (λ h. omega arith) (λ h. omega arith)))))))) o)
+seldom-work (OnBus b) o = absurd (⊎-elim (λ h. omega arith) (⊎-elim (λ h. omega arith) (⊎-elim (λ h. omega arith) (⊎-elim (λ h. omega arith) (⊎-elim (λ h. omega arith) (⊎-elim (λ h. omega arith) (⊎-elim (λ h. omega arith) (⊎-elim (λ h. omega arith) (⊎-elim (λ h. omega arith) (λ h. omega arith))))))))) o)
+seldom-work (Level l) o = refl
 
 -- in SHIP
 off : (a t : Bool) → (a && t) ≡ false → t ≡ true → a ≡ false
@@ -176,7 +178,7 @@ pub in-sleep : {s : Stepped} (e : Happening) (c : Chip) → c .awake ≡ false �
 unfolding happened
 in-sleep e c a h = h ∙ sym (by (c .awake) a)
   where
-    by : (b : Bool) → b ≡ false → cond b (normally e c) (asleep e c) ≡ asleep e c
+    by : (b : Bool) → b ≡ false → cond b (settled (normally e c)) (asleep e c) ≡ asleep e c
     by true q = cc
     by false q = refl
 
@@ -232,13 +234,15 @@ closes o c r e e′ next s q t f z =
     by true false h false m = absurd (clash m)
     by false false h n m = refl
 
--- ── what each arm of the loop comes to, in NORMAL ──
-pub scan-arm : (c : Chip) (xs : List ℕ) (d : Chip) → c .awake ≡ true → d ≡ normally (Scanned (take (inputs (c .setup)) xs)) c .chip → saying (unanswered 0) d ≡ happenedBy Scan xs c
-scan-arm c xs d a h = in-normal (Scanned (take (inputs (c .setup)) xs)) c a (ap (saying (unanswered 0)) h)
+-- ── what each arm of the loop comes to, in NORMAL; the outside level does something after a store alone ──
+pub scan-arm : (c : Chip) (xs : List ℕ) (d : Chip) → Calmed c → c .awake ≡ true → d ≡ normally (Scanned (take (inputs (c .setup)) xs)) c .chip → saying (unanswered 0) d ≡ happenedBy Scan xs c
+scan-arm c xs d m a h = in-normal (Scanned (take (inputs (c .setup)) xs)) c a (ap (saying (unanswered 0)) h ∙ calm-scan (take (inputs (c .setup)) xs) c m)
 
-pub tick-arm : (c : Chip) (v : ℤ) (xs : List ℕ) (j : Judged) (d : Chip) → c .awake ≡ true → j ≡ tickJudged (c .registers .settings) v (c .runs) → d ≡ raisedBy (j .risen) (withRuns (j .runs) c)
+pub tick-arm : (c : Chip) (v : ℤ) (xs : List ℕ) (j : Judged) (d : Chip) → Calmed c → c .awake ≡ true → j ≡ tickJudged (c .registers .settings) v (c .runs) → d ≡ raisedBy (j .risen) (withRuns (j .runs) c)
     → saying (unanswered 0) d ≡ happenedBy (Sense v) xs c
-tick-arm c v xs j d a hj h = in-normal (Ticked v) c a (ap (quiet 0) (h ∙ ap (λ (j : Judged). raisedBy (j .risen) (withRuns (j .runs) c)) hj) ∙ tick-parts v c)
+tick-arm c v xs j d m a hj h =
+    in-normal (Ticked v) c a
+    (ap (quiet 0) (h ∙ calm-tick (j .risen) (j .runs) c m) ∙ ap (λ (j : Judged). settled (quiet 0 (raisedBy (j .risen) (withRuns (j .runs) c)))) hj ∙ ap settled (tick-parts v c))
 
 -- nothing rises: nothing is shown anew
 pub still-arm : (c : Chip) (v : ℤ) (j : Judged) → j ≡ tickJudged (c .registers .settings) v (c .runs) → (j .risen .scd || j .risen .ocd) ≡ false → withRuns (j .runs) c ≡ raisedBy (j .risen) (withRuns (j .runs) c)
@@ -249,19 +253,3 @@ still-arm c v j hj n =
 pub bus-arm : (c : Chip) (b : BusEvent) (xs : List ℕ) (h : Heard) (d : Chip) → c .awake ≡ true → h ≡ heardOf b c → d ≡ landed (h .store) (withBus (h .bus) c)
     → saying (answerHeard h) d ≡ happenedBy (OnBus b) xs c
 bus-arm c b xs h d a hh hd = in-normal (Signalled b) c a (ap (saying (answerHeard h)) hd ∙ ap (λ (h : Heard). told h c) hh ∙ bus-parts b c)
-
--- ALERT is up where SYS_STAT is not 0
-up-by : (a b c d e f g : Bool)
-    → (a || b || c || d || e || f || g)
-    ≡ not (eqb (weighed a 128 + weighed b 32 + weighed c 16 + weighed d 8 + weighed e 4 + weighed f 2 + weighed g 1) 0)
-up-by true b c d e f g = sym (ap not (ne-eqb (128 + weighed b 32 + weighed c 16 + weighed d 8 + weighed e 4 + weighed f 2 + weighed g 1) 0 (λ h. omega (arith, h))))
-up-by false true c d e f g = sym (ap not (ne-eqb (0 + 32 + weighed c 16 + weighed d 8 + weighed e 4 + weighed f 2 + weighed g 1) 0 (λ h. omega (arith, h))))
-up-by false false true d e f g = sym (ap not (ne-eqb (0 + 0 + 16 + weighed d 8 + weighed e 4 + weighed f 2 + weighed g 1) 0 (λ h. omega (arith, h))))
-up-by false false false true e f g = sym (ap not (ne-eqb (0 + 0 + 0 + 8 + weighed e 4 + weighed f 2 + weighed g 1) 0 (λ h. omega (arith, h))))
-up-by false false false false true f g = sym (ap not (ne-eqb (0 + 0 + 0 + 0 + 4 + weighed f 2 + weighed g 1) 0 (λ h. omega (arith, h))))
-up-by false false false false false true g = sym (ap not (ne-eqb (0 + 0 + 0 + 0 + 0 + 2 + weighed g 1) 0 (λ h. omega (arith, h))))
-up-by false false false false false false true = refl
-up-by false false false false false false false = refl
-
-pub alert-by : (t : Status) → alert t ≡ not (eqb (statusByte t) 0)
-alert-by t = up-by (t .ready) (t .xready) (t .ovrd) (t .uv) (t .ov) (t .scd) (t .ocd)

@@ -14,7 +14,7 @@ use Rattle.events.specs.declared.Counts.{Counts}
 use Rattle.events.specs.declared.Checked.{Checked}
 use Rattle.events.specs.declared.Checked.the-variants.{Good, Bad}
 use Rattle.events.specs.declared.Event.{Event}
-use Rattle.events.specs.declared.Event.the-variants.{Setup, Por, Boot, Scan, Temp, Count, Sense, Pin, Load, Xready, OnBus, Wires}
+use Rattle.events.specs.declared.Event.the-variants.{Setup, Por, Boot, Scan, Temp, Count, Sense, Pin, Load, Xready, OnBus, Level, Wires}
 use Rattle.events.specs.Setup.{setupFits, checkedOf, withCells}
 use Rattle.wiring.specs.Rows.{hasRow, wiredWith}
 use Rattle.wiring.specs.declared.Wiring.the-variants.{With, NoRow}
@@ -61,6 +61,7 @@ acted-by o Pin k c ev m = refl
 acted-by o (Load l) k c ev m = refl
 acted-by o Xready k c ev m = refl
 acted-by o (OnBus b) k c ev m = refl
+acted-by o (Level l) k c ev m = refl
 acted-by o (Wires n) k c ev m = absurd (no-wires-read n k c ev m)
 
 pub acted-is : (o : Bool) (e : Event) (k : Counts) (c : Chip) (ev : Happening) → meantOf (c .setup) e k ≡ means ev → acted o e k c ≡ stepped ev c
@@ -196,6 +197,7 @@ made-by s (Record e next) q w h = by e q (first-setup s e next q)
     by (Load l) q g = absurd g
     by Xready q g = absurd g
     by (OnBus x) q g = absurd g
+    by (Level l) q g = absurd g
     by (Wires n) q g = absurd g
 made-by s (Refused k next) q w h = absurd (w h)
 made-by s Cut q w h = absurd (omega (arith, h))

@@ -144,6 +144,7 @@ fn work_of(awake: bool, event: Event) -> Work
         | Event::Pin
         | Event::Load(_)
         | Event::Xready
+        | Event::Level(_)
         | Event::Wires(_) => Work::Other,
     }
 }
@@ -165,6 +166,7 @@ fn seldom(chip: Chip, event: Event, counts: [u16; 15]) -> Stepped
         Event::Load(level) => chip.load(level),
         Event::Xready => chip.xready(),
         Event::OnBus(bus) => chip.doze(bus),
+        Event::Level(level) => chip.level(level),
         Event::Wires(_) => quiet(2, chip),
     }
 }
@@ -176,7 +178,7 @@ fn heated(chip: Chip, counts: [u16; 15]) -> Stepped
     if !chip.awake {
         return quiet(4, chip);
     }
-    quiet(0, chip.warmed(counts))
+    chip::done(chip.warmed(counts))
 }
 
 // The counts beside an event that was read.
@@ -206,7 +208,8 @@ fn act(chip: Chip, fresh: bool, event: Event, rest: &[u8], next: usize) -> Stepp
         | Event::Pin
         | Event::Load(_)
         | Event::Xready
-        | Event::OnBus(_) => {
+        | Event::OnBus(_)
+        | Event::Level(_) => {
             let setup = chip.setup;
             let counts = counted(setup.part, event, rest, next);
             seldom(chip, event, counts)

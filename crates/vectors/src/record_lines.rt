@@ -87,6 +87,7 @@ fn kind_of(event: Event) -> usize {
         Event::Load(_) => 8,
         Event::Xready => 9,
         Event::OnBus(bus) => kind_of_bus(bus),
+        Event::Level(_) => 0x15,
         Event::Wires(_) => 0x16,
     }
 }
@@ -197,6 +198,8 @@ fn write_kinds() {
     plain(Event::OnBus(BusEvent::In(false)), 1);
     plain(Event::OnBus(BusEvent::In(true)), 1);
     plain(Event::OnBus(BusEvent::Stop), 1);
+    plain(Event::Level(false), 1);
+    plain(Event::Level(true), 1);
     plain(Event::Wires(13), 3);
 }
 
@@ -301,6 +304,8 @@ fn read_kinds() {
     take(&[1, 0, 0x12, 0, 1], 0, 1);
     take(&[0, 0, 0x13, 0], 0, 1);
     take(&[9, 9, 9, 0, 0, 0x13, 0], 3, 1);
+    take(&[1, 0, 0x15, 0, 0], 0, 1);
+    take(&[1, 0, 0x15, 0, 1], 0, 1);
     take(&[1, 0, 0x16, 0, 13], 0, 3);
     take(&[1, 0, 0x16, 0, 13], 0, 1);
 }
@@ -325,6 +330,7 @@ fn read_refusals() {
     take(&[1, 0, 5, 0, 0], 0, 1);
     take(&[2, 0, 6, 0, 0, 0], 0, 1);
     take(&[2, 0, 0x12, 0, 9, 9], 0, 1);
+    take(&[2, 0, 0x15, 0, 9, 9], 0, 1);
     take(&[0, 0, 0x16, 0], 0, 1);
     take(&[2, 0, 0x16, 0, 3, 3], 0, 1);
     take(&[1, 0, 0x16, 0, 3], 0, 0);
@@ -338,6 +344,7 @@ fn read_ranges() {
     take(&[4, 0, 6, 0, 0, 0, 0, 0x80], 0, 1);
     take(&[1, 0, 8, 0, 2], 0, 1);
     take(&[1, 0, 0x12, 0, 2], 0, 1);
+    take(&[1, 0, 0x15, 0, 2], 0, 1);
 }
 
 pub fn lines() {

@@ -17,9 +17,9 @@ use Rattle.events.specs.declared.Setup.{Setup as SetupValues}
 use Rattle.events.specs.declared.Counts.{Counts}
 use Rattle.events.specs.declared.BusEvent.the-variants.{Start, Out, In, Stop}
 use Rattle.events.specs.declared.Event.{Event}
-use Rattle.events.specs.declared.Event.the-variants.{Setup, Por, Boot, Scan, Temp, Count, Sense, Pin, Load, Xready, OnBus, Wires}
+use Rattle.events.specs.declared.Event.the-variants.{Setup, Por, Boot, Scan, Temp, Count, Sense, Pin, Load, Xready, OnBus, Level, Wires}
 use Rattle.wiring.specs.Rows.{hasRow}
-use Rattle.records.specs.Kind.{SETUP, POR, BOOT, SCAN, TEMP, COUNT, SENSE, PIN, LOAD, XREADY, START, OUT, IN, STOP, WIRES}
+use Rattle.records.specs.Kind.{SETUP, POR, BOOT, SCAN, TEMP, COUNT, SENSE, PIN, LOAD, XREADY, START, OUT, IN, STOP, LEVEL, WIRES}
 use Rattle.records.specs.Numbers.{le16, le32, signed32, bitOf, words}
 use Rattle.records.specs.Record.{setupGood, checkedIn, setupIn, countedIn, senseOf, groupsAt, inputsAt, standing, laterOf, payloadOf, readOf, countsOf, countsIn, countsBeside}
 use Rattle.records.specs.Counted.{many-is, counts-taken, few-groups, few-inputs}
@@ -64,6 +64,7 @@ module _ (b : List ℕ) (h : Bytes b) where
       (sized OUT 1 (Whole (OnBus (Out (getD b 0 0)))) (λ l. (refl, one-forth b l)))
       (sized IN 1 (cond bit (Whole (OnBus (In level))) (Unfit 3)) (λ l. ranged IN bit (Whole (OnBus (In level))) (λ f. (refl, switch-forth l f))))
       (sized STOP 0 (Whole (OnBus Stop)) (λ l. (refl, none-forth b l)))
+      (sized LEVEL 1 (cond bit (Whole (Level level)) (Unfit 3)) (λ l. ranged LEVEL bit (Whole (Level level)) (λ f. (refl, switch-forth l f))))
       (sized WIRES 1 (Whole (Wires (getD b 0 0))) (λ l. (refl, one-forth b l)))
       (λ (k : ℕ). tt)
       kind
@@ -176,6 +177,7 @@ setup-accepted Pin part b h = absurd h
 setup-accepted (Load l) part b h = absurd h
 setup-accepted Xready part b h = absurd h
 setup-accepted (OnBus x) part b h = absurd h
+setup-accepted (Level l) part b h = absurd h
 setup-accepted (Wires n) part b h = absurd h
 
 meant-by : (t : Bool) (x : Meant) (ev : Meant-event) → cond t x unfit ≡ means ev → (t ≡ true) × (x ≡ means ev)
@@ -202,6 +204,7 @@ module _ (k : Counts) (part : ℕ) where
   value-fits (Load l) ev c m f = refl
   value-fits Xready ev c m f = refl
   value-fits (OnBus b) ev c m f = refl
+  value-fits (Level l) ev c m f = refl
   value-fits (Wires n) ev c m f = absurd (let z : _≡_ {A = ℕ} 0 1 = cc in omega arith)
 
   stood : (e : Event) → leb 1 part && leb part 3 ≡ true → (ev : Meant-event) → countsFit (countsWanted (standing part) e) k ≡ true → eventOf (standing part) e (k .of) ≡ means ev → leb 1 (partFor e part) && leb (partFor e part) 3 ≡ true
@@ -216,6 +219,7 @@ module _ (k : Counts) (part : ℕ) where
   stood (Load l) p ev c m = p
   stood Xready p ev c m = p
   stood (OnBus b) p ev c m = p
+  stood (Level l) p ev c m = p
   stood (Wires n) p ev c m = p
 
   later-accepted : (e : Event) → leb 1 part && leb part 3 ≡ true → Meaning (standing part) e k → Accepted e k part

@@ -18,7 +18,7 @@ use Rattle.events.specs.declared.Counts.{Counts}
 use Rattle.events.specs.declared.Checked.the-variants.{Good}
 use Rattle.events.specs.declared.BusEvent.the-variants.{Start, Out, In, Stop}
 use Rattle.events.specs.declared.Event.{Event}
-use Rattle.events.specs.declared.Event.the-variants.{Setup, Por, Boot, Scan, Temp, Count, Sense, Pin, Load, Xready, OnBus, Wires}
+use Rattle.events.specs.declared.Event.the-variants.{Setup, Por, Boot, Scan, Temp, Count, Sense, Pin, Load, Xready, OnBus, Level, Wires}
 use Rattle.records.specs.Numbers.{bitOf, filled}
 use Rattle.records.specs.Record.{setupGood, checkedIn, setupIn, countedIn, groupsAt, inputsAt, laterOf, payloadOf, asRead, readOf, noCounts, countsOf, countsIn, countsBeside, takenFrom, takenAt}
 use Rattle.records.specs.Counted.{many-is}
@@ -46,6 +46,7 @@ standsFor Pin part = part
 standsFor (Load l) part = part
 standsFor Xready part = part
 standsFor (OnBus b) part = part
+standsFor (Level l) part = part
 standsFor (Wires n) part = part
 
 -- the frame of a record, whatever follows it
@@ -111,6 +112,8 @@ payload-back (OnBus (Out b)) k part a l = simp (ne-eqb part 0 (stands part (a .p
 payload-back (OnBus (In true)) k part a l = simp (ne-eqb part 0 (stands part (a .part-fits)))
 payload-back (OnBus (In false)) k part a l = simp (ne-eqb part 0 (stands part (a .part-fits)))
 payload-back (OnBus Stop) k part a l = simp (ne-eqb part 0 (stands part (a .part-fits)))
+payload-back (Level true) k part a l = simp (ne-eqb part 0 (stands part (a .part-fits)))
+payload-back (Level false) k part a l = simp (ne-eqb part 0 (stands part (a .part-fits)))
 payload-back (Wires n) k part a l = simp (ne-eqb part 0 (stands part (a .part-fits)))
 
 payload-short : (e : Event) (k : Counts) (part : ℕ) → Accepted e k part → length (k .of) ≡ 15 → length (payloadFor e k) < 65536
@@ -128,6 +131,7 @@ payload-short (OnBus Start) k part a l = omega arith
 payload-short (OnBus (Out b)) k part a l = omega arith
 payload-short (OnBus (In t)) k part a l = omega arith
 payload-short (OnBus Stop) k part a l = omega arith
+payload-short (Level t) k part a l = omega arith
 payload-short (Wires n) k part a l = omega arith
 
 -- ── and the counts as they were ──
@@ -185,6 +189,7 @@ counts-back Pin k part a l = none-back k 0 (a .counts-fit) l refl
 counts-back (Load t) k part a l = none-back k 0 (a .counts-fit) l refl
 counts-back Xready k part a l = none-back k 0 (a .counts-fit) l refl
 counts-back (OnBus b) k part a l = none-back k 0 (a .counts-fit) l refl
+counts-back (Level t) k part a l = none-back k 0 (a .counts-fit) l refl
 counts-back (Wires n) k part a l = none-back k 0 (a .counts-fit) l refl
 
 -- ── THE ROUND TRIP ──

@@ -11,9 +11,9 @@ use Rattle.events.specs.declared.Setup.{Setup as SetupValues}
 use Rattle.events.specs.declared.Counts.{Counts}
 use Rattle.events.specs.declared.BusEvent.the-variants.{Start, Out, In, Stop}
 use Rattle.events.specs.declared.Event.{Event}
-use Rattle.events.specs.declared.Event.the-variants.{Setup, Por, Boot, Scan, Temp, Count, Sense, Pin, Load, Xready, OnBus, Wires}
+use Rattle.events.specs.declared.Event.the-variants.{Setup, Por, Boot, Scan, Temp, Count, Sense, Pin, Load, Xready, OnBus, Level, Wires}
 use Rattle.wiring.specs.Rows.{hasRow}
-use Rattle.records.specs.Kind.{SETUP, POR, BOOT, SCAN, TEMP, COUNT, SENSE, PIN, LOAD, XREADY, START, OUT, IN, STOP, WIRES}
+use Rattle.records.specs.Kind.{SETUP, POR, BOOT, SCAN, TEMP, COUNT, SENSE, PIN, LOAD, XREADY, START, OUT, IN, STOP, LEVEL, WIRES}
 use Rattle.records.specs.Numbers.{bitOf}
 use Rattle.records.specs.Record.{setupGood, standing}
 use Rattle.writer.specs.declared.Wrote.{Wrote}
@@ -55,6 +55,7 @@ kindFor (OnBus Start) = START
 kindFor (OnBus (Out b)) = OUT
 kindFor (OnBus (In n)) = IN
 kindFor (OnBus Stop) = STOP
+kindFor (Level l) = LEVEL
 kindFor (Wires n) = WIRES
 
 -- part, CRC, address, gain code, offset (1 each), floor (2)
@@ -81,6 +82,7 @@ payloadFor (OnBus Start) k = []
 payloadFor (OnBus (Out b)) k = b ∷ []
 payloadFor (OnBus (In n)) k = bitOf n ∷ []
 payloadFor (OnBus Stop) k = []
+payloadFor (Level l) k = bitOf l ∷ []
 payloadFor (Wires n) k = n ∷ []
 
 unfoldable pub recordFor : Event → Counts → List ℕ
@@ -100,6 +102,7 @@ partFor Pin part = part
 partFor (Load l) part = part
 partFor Xready part = part
 partFor (OnBus b) part = part
+partFor (Level l) part = part
 partFor (Wires n) part = part
 
 -- 1 for a value of SETUP out of range, 13 for a number of cells that the part has no row for, 3 for another
@@ -115,6 +118,7 @@ valueRefusal Pin k part = 0
 valueRefusal (Load l) k part = 0
 valueRefusal Xready k part = 0
 valueRefusal (OnBus b) k part = 0
+valueRefusal (Level l) k part = 0
 valueRefusal (Wires n) k part = cond (hasRow part n) 0 13
 
 -- the number that an event is refused with at a part, or 0

@@ -233,6 +233,7 @@ fn refusal(event: Event, counts: Counts, part: u8) -> u8
         Event::Load(_) => refusal_at(event, counts, part),
         Event::Xready => refusal_at(event, counts, part),
         Event::OnBus(_) => refusal_at(event, counts, part),
+        Event::Level(_) => refusal_at(event, counts, part),
         Event::Wires(cells) => wires_refusal(cells, counts, part),
     }
 }
@@ -265,6 +266,7 @@ fn put_event(event: Event, counts: Counts, out: &mut [u8]) -> Wrote
         Event::Load(level) => write_byte(out, 0x0008, bit_of(level)),
         Event::Xready => write_bare(out, 0x0009),
         Event::OnBus(bus) => put_bus(bus, out),
+        Event::Level(level) => write_byte(out, 0x0015, bit_of(level)),
         Event::Wires(cells) => write_byte(out, 0x0016, cells),
     }
 }

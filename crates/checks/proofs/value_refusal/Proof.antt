@@ -10,6 +10,9 @@ use borrow.Author.Needs.{needs}
 use Rattle.checks.proofs.value_refusal.Statement.{statement}
 use Rattle.checks.proofs.value_refusal.Tie as tie
 
+returns : tie.Need-returns
+returns c = let a = c .before .before in at-event (a .args .setup) (a .args .of) (c .enum-told .given .1) refl
+
 returns-2 : tie.Need-returns-2
 unfolding fits
 returns-2 c = let a = c .before .before in at-event (a .args .setup) (a .args .of) (c .enum-told2 .given .1) refl
@@ -62,6 +65,13 @@ returns-14 : tie.Need-returns-14
 unfolding fits
 returns-14 c = let a = c .before .before in at-event (a .args .setup) (a .args .of) (c .enum-told10 .given .1) refl
 
+returns-15 : tie.Need-returns-15
+unfolding fits
+returns-15 c = let a = c .before .before in at-event (a .args .setup) (a .args .of) (c .enum-told11 .given .1) refl
+
+returns-16 : tie.Need-returns-16
+returns-16 c = let a = c .before .before in at-event (a .args .setup) (a .args .of) (c .enum-told12 .given .1) refl
+
 pub value-refusal-spec : {M : Type 1} → statement M
 value-refusal-spec =
     tie.close
@@ -84,6 +94,7 @@ value-refusal-spec =
     (λ c. search needs)
     (λ c. search needs)
     (λ c. search needs)
+    returns
     returns-2
     returns-3
     returns-4
@@ -97,4 +108,5 @@ value-refusal-spec =
     returns-12
     returns-13
     returns-14
-    (λ c. search needs))
+    returns-15
+    returns-16)

@@ -39,12 +39,17 @@ returns-11 : tie.Need-returns-11
 returns-11 c = let a = c .before .before .before .before in as-event (a .args .counts) (a .args .chip) (c .before .before .event3 .given .1) (in-sleep _ (a .args .chip) (sleeping (a .args .chip) (a .args .event) _ (a .pre) (c .before .before .event3 .given .1) refl) (c .doze .ensures))
 
 returns-12 : tie.Need-returns-12
-returns-12 c = as-event (c .before .before .before .args .counts) (c .before .before .before .args .chip) (c .before .enum-told9 .given .1) (c .quiet4 .ensures)
+returns-12 c = as-event (c .before .before .before .before .args .counts) (c .before .before .before .before .args .chip) (c .before .before .event4 .given .1) (c .level .ensures)
+
+returns-13 : tie.Need-returns-13
+returns-13 c = as-event (c .before .before .before .args .counts) (c .before .before .before .args .chip) (c .before .enum-told9 .given .1) (c .quiet4 .ensures)
 
 pub seldom-spec : {M : Type 1} → statement M
 seldom-spec =
     tie.close
     (tie.spec
+    (λ c. search needs)
+    (λ c κs. search needs)
     (λ c. search needs)
     (λ c κs. search needs)
     (λ c. search needs)
@@ -80,4 +85,5 @@ seldom-spec =
     returns-9
     returns-10
     returns-11
-    returns-12)
+    returns-12
+    returns-13)

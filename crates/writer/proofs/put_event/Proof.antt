@@ -62,7 +62,11 @@ returns-11 c =
 
 returns-12 : tie.Need-returns-12
 unfolding recordFor
-returns-12 c = let w = c .before .before in at-record _ _ (w .before .before .before .event6 .given .1) (w .write-byte2 .ensures)
+returns-12 c = let w = c .before .before in at-record _ _ (w .before .before .before .before .event6 .given .1) (at-bit 0x0015 (w .before .before .before .before .event6 .given .0 .0) (w .before .bit-of2 .ensures) (w .write-byte2 .ensures))
+
+returns-13 : tie.Need-returns-13
+unfolding recordFor
+returns-13 c = let w = c .before .before in at-record _ _ (w .before .before .before .event7 .given .1) (w .write-byte3 .ensures)
 
 pub put-event-spec : {M : Type 1} → statement M
 put-event-spec =
@@ -94,6 +98,9 @@ put-event-spec =
     (λ c κs. search needs)
     (λ c. search needs)
     (λ c κs. search needs)
+    (λ c κs. search needs)
+    (λ c. search needs)
+    (λ c κs. search needs)
     (λ c. search needs)
     returns
     (λ c. search needs)
@@ -117,4 +124,6 @@ put-event-spec =
     (λ c. search needs)
     returns-11
     (λ c. search needs)
-    returns-12)
+    returns-12
+    (λ c. search needs)
+    returns-13)

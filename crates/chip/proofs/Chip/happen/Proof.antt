@@ -2,7 +2,7 @@
 use mathlib.Core.Path.{_≡_, refl, ap, _∙_}
 use mir.Syntax.{w32}
 use mir.Val.{toZ, ofZ}
-use Rattle.events.specs.Event.{Por, Boot, Pin, Xready, Count, Sense, Load, OnBus, fits}
+use Rattle.events.specs.Event.{Por, Boot, Pin, Xready, Count, Sense, Load, OnBus, Level, fits}
 use Rattle.chip.specs.Chip.{stepped}
 use Rattle.chip.proofs.Modes.{as-event, in-range}
 use borrow.Author.Needs.{needs}
@@ -53,12 +53,18 @@ unfolding fits
 returns-11 c = as-event (c .before .before .before .before .args .counts) (c .before .before .before .before .args .self) (c .before .before .event4 .given .1) (in-range (OnBus _) (c .before .before .before .before .args .self) refl (c .on-bus .ensures))
 
 returns-12 : tie.Need-returns-12
-returns-12 c = as-event (c .before .before .before .args .counts) (c .before .before .before .args .self) (c .before .enum-told8 .given .1) (c .quiet2 .ensures)
+unfolding fits
+returns-12 c = as-event (c .before .before .before .before .args .counts) (c .before .before .before .before .args .self) (c .before .before .event5 .given .1) (in-range (Level _) (c .before .before .before .before .args .self) refl (c .level .ensures))
+
+returns-13 : tie.Need-returns-13
+returns-13 c = as-event (c .before .before .before .args .counts) (c .before .before .before .args .self) (c .before .enum-told8 .given .1) (c .quiet2 .ensures)
 
 pub happen-spec : {M : Type 1} → statement M
 happen-spec =
     tie.close
     (tie.spec
+    (λ c. search needs)
+    (λ c κs. search needs)
     (λ c. search needs)
     (λ c κs. search needs)
     (λ c. search needs)
@@ -94,4 +100,5 @@ happen-spec =
     returns-9
     returns-10
     returns-11
-    returns-12)
+    returns-12
+    returns-13)
