@@ -35,6 +35,7 @@ enum toralinge_number {
     TORALINGE_OPEN_SENSOR = 7,  /* thermistor count 9,323 or more */
     TORALINGE_NO_CODE = 8,      /* the wanted threshold lies outside its window */
     TORALINGE_CUT = 9,          /* a record is cut short, or there is none */
+    TORALINGE_NOT_CONNECTED = 10, /* no cell is connected: there is no reading */
     TORALINGE_NO_ROW = 13,      /* a wiring record with a number of cells that the part has no row for */
     TORALINGE_NO_LIST = 20,     /* a line is no list of the grammar */
     TORALINGE_BAD_ADDRESS = 21  /* a list has an address outside 0x08 to 0x77 */
@@ -92,13 +93,14 @@ int64_t toralinge_play(const uint8_t *stream, size_t length, uint8_t *entries, s
  * reading, room   where the four doubles go, and how many doubles may stand there
  *
  * Returns 0 and writes reading[0] to reading[3]: least, greatest and total voltage of the pack's cells
- * (without a wiring record: of the part's inputs) in microvolts, and the coulomb counter in hundredths of a microvolt. Each is a whole number,
+ * (without a wiring record: of the inputs whose count is not below the floor) in microvolts, and the coulomb counter in hundredths of a microvolt. Each is a whole number,
  * held exactly. Later doubles keep their values.
  *
  * Otherwise writes nothing and returns, looked at in this order:
  *   9         the stream is empty
  *   1, 2, 9   the number that refuses the first record, so that no chip stands
  *   4         the chip is in SHIP at the end of the stream
+ *   10        no cell is connected
  *   5         room is below 4
  */
 uint8_t toralinge_reading(const uint8_t *stream, size_t length, double *reading, size_t room);

@@ -375,14 +375,14 @@ static void readings(void)
     CHECK(toralinge_reading(made.bytes, made.length, reading, 4) == TORALINGE_ASLEEP);
     CHECK(toralinge_reading(made.bytes, made.length, reading, 0) == TORALINGE_ASLEEP); /* 4 before 5 */
     add_bare(&made, BOOT);
+    for (room = 0; room <= TORALINGE_READING_SIZE; room++) { /* counts of 0: no cell is connected, which comes before 5 */
+        CHECK(toralinge_reading(made.bytes, made.length, reading, room) == TORALINGE_NOT_CONNECTED);
+    }
+    add_scan(&made, 6144);
     for (room = 0; room < TORALINGE_READING_SIZE; room++) {
         CHECK(toralinge_reading(made.bytes, made.length, reading, room) == TORALINGE_NO_ROOM);
     }
     CHECK(guarded_kept(&lent, 0));
-    CHECK(toralinge_reading(made.bytes, made.length, reading, 4) == TORALINGE_DONE);
-    CHECK(doubles_are(lent.room, 30000.0, 30000.0, 150000.0, 0.0)); /* counts of 0, and the offset once a cell */
-    CHECK(guarded_kept(&lent, 4 * sizeof(double)));
-    add_scan(&made, 6144);
     add_write(&made, 0x05, 0x40);
     add(&made, COUNT, cc, sizeof cc);
     CHECK(toralinge_reading(made.bytes, made.length, reading, 6) == TORALINGE_DONE);
@@ -392,6 +392,21 @@ static void readings(void)
     CHECK(toralinge_reading(made.bytes, made.length, reading, 4) == TORALINGE_DONE);
     CHECK(doubles_are(lent.room, 2204976.0, 2932800.0, 13936176.0, -13112384.0));
     guarded_free(&lent);
+}
+
+/* Without a wiring record a count below the floor, 1,000, is no cell: the reading is that of the others. */
+static void not_connected(void)
+{
+    static const uint8_t scan[10] = {0x00, 0x18, 0xE7, 0x03, 0x5A, 0x00, 0xE8, 0x03, 0x10, 0x1F}; /* 6144 999 90 1000 7952 */
+    static const uint8_t none[10] = {0xE7, 0x03, 0x00, 0x00, 0x5A, 0x00, 0x01, 0x00, 0xE7, 0x03};
+    struct stream made = awake(0);
+    double reading[4] = {1.0, 2.0, 3.0, 4.0};
+    add(&made, SCAN, none, sizeof none);
+    CHECK(toralinge_reading(made.bytes, made.length, reading, 4) == TORALINGE_NOT_CONNECTED);
+    CHECK(doubles_are((const uint8_t *)reading, 1.0, 2.0, 3.0, 4.0));
+    add(&made, SCAN, scan, sizeof scan);
+    CHECK(toralinge_reading(made.bytes, made.length, reading, 4) == TORALINGE_DONE);
+    CHECK(doubles_are((const uint8_t *)reading, 384000.0, 2845008.0, 5433984.0, 0.0));
 }
 
 /* The number of a stream's last entry. */
@@ -581,6 +596,7 @@ int main(void)
     both_sides_of_each_line();
     outside_level();
     readings();
+    not_connected();
     packs();
     conversions();
     sums();

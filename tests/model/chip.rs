@@ -776,6 +776,17 @@ impl Chip {
     // ---- forecasting's reading
 
     /// Least, greatest and total cell µV, and CC in hundredths; or 4.
+    /// Whether a cell of the pack is connected: a wired one always is, and without a wiring record one below the floor is not.
+    fn connected(&self, input: usize) -> bool {
+        let above = self.pair(0x0C + 2 * input) >= self.setup.floor;
+        match self.plant {
+            Plant::WiredBelowFloorLeftOut => above,
+            Plant::UnwiredBelowFloorRead => true,
+            Plant::FloorNotConnected => self.setup.cells.is_some() || self.pair(0x0C + 2 * input) > self.setup.floor,
+            _ => self.setup.cells.is_some() || above,
+        }
+    }
+
     pub fn reading(&self) -> Result<[f64; 4], u8> {
         if !self.awake && !self.planted(Plant::ReadingAsleepGiven) {
             return Err(4);
@@ -787,6 +798,9 @@ impl Chip {
         };
         let mut volts: Vec<i64> = Vec::new();
         for input in inputs {
+            if !self.connected(input) {
+                continue;
+            }
             let offset = if self.planted(Plant::ReadingOffsetUnsigned) {
                 i64::from(self.setup.offset)
             } else {
@@ -794,6 +808,12 @@ impl Chip {
             };
             let gain = 344 + i64::from(self.setup.gain_code);
             volts.push(gain * i64::from(self.pair(0x0C + 2 * input)) + 1_000 * offset);
+        }
+        if volts.is_empty() && !self.planted(Plant::NoCellRead) {
+            return Err(10);
+        }
+        if volts.is_empty() {
+            volts.push(0);
         }
         volts.sort_unstable();
         let total: i64 = volts.iter().sum();

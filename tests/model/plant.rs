@@ -159,6 +159,11 @@ pub enum Plant {
     ShortedNotJudged,
     ReadingOfShorted,
     WrongRow { part: u8, cells: u8 },
+    // connected
+    WiredBelowFloorLeftOut,
+    UnwiredBelowFloorRead,
+    FloorNotConnected,
+    NoCellRead,
     // readings and conversions
     ReadingOffsetUnsigned,
     ReadingCcUnsigned,
@@ -201,7 +206,7 @@ const PLAIN: &[Plant] = &[
     BootRefusedAwake, SenseEndsLeftOut, RangeNotChecked, CutAfterKind, RefusedFirstGoesOn, FlagOnRefused, CutEntryBlank,
     KindLowByteOnly, LengthLowByteOnly,
     WiringLostInShip, WiringTakenLate, SecondWiringTaken, RefusedEndsWiring, RowBeforePlace, RowsOfAnyPart, ShortedNotJudged,
-    ReadingOfShorted,
+    ReadingOfShorted, WiredBelowFloorLeftOut, UnwiredBelowFloorRead, FloorNotConnected, NoCellRead,
     ReadingOffsetUnsigned, ReadingCcUnsigned, ReadingAllInputs, ReadingAsleepGiven, ReadingRefusedWhereCut,
     GainFrom343, ThermistorLimit, ThermistorNearest, DieLimit, OvWindowWider, UvWindowNarrower, CodeOffsetAdded,
 ];

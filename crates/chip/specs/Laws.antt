@@ -2,21 +2,21 @@
 -- voltages that the cells are asked for one by one. Assumes nothing.
 use mathlib.Core.Path.{_≡_, refl, sym, ap, ap₂, subst, _∙_}
 use mathlib.Core.Bool.{Bool, true, false, cond}
-use mathlib.Core.List.{List, [], _∷_, _++_, map}
+use mathlib.Core.List.{List, [], _∷_, _++_, map, append-nil}
 use Prim.Native.Nat.{ℕ, zero, suc, _+_, _-_, _*_, _<_, _≤_}
 use native.Mathlib.Omega.{arith}
 use lib.Dec.{eqb}
 use lib.IntN.{ℤ, pos, _+ℤ_}
 use lib.ListN.{length, getD, take}
-use lib.Seq.{take-suc}
+use lib.Seq.{take-suc, take-length}
 use borrow.Author.Tests.{lt-ltb}
 use Rattle.events.specs.declared.Setup.{Setup}
 use Rattle.events.specs.declared.BusEvent.the-variants.{Out}
 use Rattle.events.specs.Event.{Por, OnBus, fits}
 use Rattle.events.specs.Setup.{inputs}
-use Rattle.wiring.specs.Rows.{wiredInputs, packCells, inputOf}
-use Rattle.wiring.specs.Numbered.{numbers}
-use Rattle.wiring.specs.Kept.{held-at, held-many}
+use Rattle.wiring.specs.Rows.{wiredInputs, packCells, inputOf, connected}
+use Rattle.wiring.specs.Kept.{heldBy}
+use Rattle.wiring.specs.Linked.{those, linked-those}
 use Rattle.crc8.specs.Crc.{byteOn}
 use Rattle.bus.specs.declared.Line.{Line}
 use Rattle.bus.specs.declared.Phase.{Phase}
@@ -26,7 +26,7 @@ use Rattle.bus.specs.declared.Store.the-variants.{Nothing, At}
 use Rattle.bus.specs.declared.Outed.{Outed}
 use Rattle.bus.specs.Bus.{goes, refuses, stores, addressed, fed, checked, outIn, outed}
 use Rattle.settings.specs.Write.{ships}
-use Rattle.values.specs.Values.{gives, cellMicrovolts}
+use Rattle.values.specs.Values.{gives, refuses as refusedWith, cellMicrovolts}
 use Rattle.values.specs.declared.Reading.{Reading as ReadingValues}
 use Rattle.values.specs.Double.{IsDouble}
 use Rattle.values.specs.Forecast.{fold, totalOf}
@@ -35,8 +35,8 @@ use Rattle.chip.specs.declared.Stepped.{Stepped}
 use Rattle.chip.specs.declared.outward.ForecastAnswer.the-variants.{Is}
 use Rattle.chip.specs.Chip.{quiet, answered, inShip, accepted, storedAt, stored, settled, normally, asleep, happened, stepped}
 use Rattle.chip.specs.Moves.{normal-is}
-use Rattle.chip.specs.Outward.{packCounts, voltageSaid, Forecasts}
-use Rattle.chip.specs.Voltage.{cell-said}
+use Rattle.chip.specs.Outward.{linkedCounts, voltageSaid, Forecasts}
+use Rattle.chip.specs.Voltage.{apart-said, cell-said, cell-holds}
 
 -- ── SHIP ──
 -- POR, in either mode
@@ -91,11 +91,18 @@ out-ships b a v c on s h =
 pub data Comes (c : Chip) : ℕ → ℤ → Type 0 where
   none : Comes c 0 (pos 0)
   more : {n : ℕ} {z : ℤ} (v : ℤ) → Comes c n z → voltageSaid (suc n) c ≡ gives v → Comes c (suc n) (z +ℤ v)
+  past : {n : ℕ} {z : ℤ} → Comes c n z → voltageSaid (suc n) c ≡ refusedWith 10 → Comes c (suc n) z
+
+apart : (v : ℤ) → gives v ≡ refusedWith 10 → ⊥
+apart v h = let z : _≡_ {A = ℕ} 0 1 = cc in omega (arith, z)
 
 -- and to one alone
 pub one-sum : (c : Chip) {n : ℕ} {z z′ : ℤ} → Comes c n z → Comes c n z′ → z ≡ z′
 one-sum c none none = refl
 one-sum c (more v k s) (more v′ k′ s′) = let e : gives v ≡ gives v′ = sym s ∙ s′ in ap₂ _+ℤ_ (one-sum c k k′) cc
+one-sum c (more v k s) (past k′ s′) = absurd (apart v (sym s ∙ s′))
+one-sum c (past k s) (more v k′ s′) = absurd (apart v (sym s′ ∙ s))
+one-sum c (past k s) (past k′ s′) = one-sum c k k′
 
 fold-last : (z v : ℤ) (l : List ℤ) → fold _+ℤ_ z (l ++ (v ∷ [])) ≡ fold _+ℤ_ z l +ℤ v
 unfolding fold
@@ -106,37 +113,67 @@ map-last : (f : ℕ → ℤ) (x : ℕ) (l : List ℕ) → map f (l ++ (x ∷ [])
 map-last f x [] = refl
 map-last f x (y ∷ l) = ap (λ (m : List ℤ). f y ∷ m) (map-last f x l)
 
-module _ (g o : ℕ) (xs : List ℕ) where
-  total-more : (n : ℕ) → n < length xs → totalOf g o (suc n) xs ≡ totalOf g o n xs +ℤ cellMicrovolts g o (getD xs n 0)
-  total-more n h =
-      ap (λ (l : List ℕ). fold _+ℤ_ (pos 0) (map (cellMicrovolts g o) l)) (take-suc xs n 0 h)
-      ∙ ap (fold _+ℤ_ (pos 0)) (map-last (cellMicrovolts g o) (getD xs n 0) (take n xs))
-      ∙ fold-last (pos 0) (cellMicrovolts g o (getD xs n 0)) (map (cellMicrovolts g o) (take n xs))
+-- one cell more, where it is connected
+module _ (g o : ℕ) (xs : List ℕ) (p : ℕ → Bool) where
+  abbrev totalThose : List ℕ → ℤ
+  totalThose is = fold _+ℤ_ (pos 0) (map (cellMicrovolts g o) (heldBy xs (those p is)))
+
+  those-last : (is : List ℕ) (i : ℕ) (t : Bool) → p i ≡ t → heldBy xs (those p (is ++ (i ∷ []))) ≡ heldBy xs (those p is) ++ cond t (getD xs (i - 1) 0 ∷ []) []
+  those-last [] i true e = simp e
+  those-last [] i false e = simp e
+  those-last (j ∷ is) i t e = by (p j) (those-last is i t e)
+    where
+      by : (b : Bool) → heldBy xs (those p (is ++ (i ∷ []))) ≡ heldBy xs (those p is) ++ cond t (getD xs (i - 1) 0 ∷ []) []
+          → heldBy xs (cond b (j ∷ those p (is ++ (i ∷ []))) (those p (is ++ (i ∷ [])))) ≡ heldBy xs (cond b (j ∷ those p is) (those p is)) ++ cond t (getD xs (i - 1) 0 ∷ []) []
+      by true h = ap (λ (l : List ℕ). getD xs (j - 1) 0 ∷ l) h
+      by false h = h
+
+  total-more : (is : List ℕ) (i : ℕ) → p i ≡ true → totalThose (is ++ (i ∷ [])) ≡ totalThose is +ℤ cellMicrovolts g o (getD xs (i - 1) 0)
+  total-more is i e =
+      ap (λ (l : List ℕ). fold _+ℤ_ (pos 0) (map (cellMicrovolts g o) l)) (those-last is i true e)
+      ∙ ap (fold _+ℤ_ (pos 0)) (map-last (cellMicrovolts g o) (getD xs (i - 1) 0) (heldBy xs (those p is)))
+      ∙ fold-last (pos 0) (cellMicrovolts g o (getD xs (i - 1) 0)) (map (cellMicrovolts g o) (heldBy xs (those p is)))
+
+  total-past : (is : List ℕ) (i : ℕ) → p i ≡ false → totalThose (is ++ (i ∷ [])) ≡ totalThose is
+  total-past is i e = ap (λ (l : List ℕ). fold _+ℤ_ (pos 0) (map (cellMicrovolts g o) l)) (those-last is i false e ∙ append-nil (heldBy xs (those p is)))
 
 module _ (c : Chip) (on : c .awake ≡ true) where
-  -- a cell of the pack, by the count of its input
-  cell-given : (n : ℕ) → n < packCells (c .setup) → voltageSaid (suc n) c ≡ gives (cellMicrovolts (c .setup .gain) (c .setup .offset) (getD (packCounts c) n 0))
-  cell-given n h =
-      let w = numbers (c .setup) .wired (suc n) (omega arith) (omega arith) in
-      sym (cell-said (suc n) c on (omega arith) (omega arith))
-      ∙ ap (λ (t : Bool). gives (cellMicrovolts (c .setup .gain) (c .setup .offset) (cond t (getD (c .registers .measured .cells) (inputOf (c .setup) (suc n) - 1) 0) 0)))
-      (lt-ltb (inputOf (c .setup) (suc n) - 1) (inputs (c .setup)) (omega (arith, w .from, w .below)))
-      ∙ ap (λ (x : ℕ). gives (cellMicrovolts (c .setup .gain) (c .setup .offset) x)) (sym (held-at (c .registers .measured .cells) (wiredInputs (c .setup)) n h))
+  abbrev u : Setup
+  u = c .setup
 
-  sums : (n : ℕ) → n ≤ packCells (c .setup) → Comes c n (totalOf (c .setup .gain) (c .setup .offset) n (packCounts c))
+  abbrev xs : List ℕ
+  xs = c .registers .measured .cells
+
+  -- the sum over the first n cells of the pack, those that are connected
+  abbrev sumTo : ℕ → ℤ
+  sumTo n = totalThose (u .gain) (u .offset) xs (connected u xs) (take n (wiredInputs u))
+
+  sums-by : (n : ℕ) → n < packCells u → Comes c n (sumTo n) → (t : Bool) → connected u xs (inputOf u (suc n)) ≡ t → Comes c (suc n) (sumTo (suc n))
+  sums-by n h k true e =
+      subst (Comes c (suc n))
+      (sym (ap (totalThose (u .gain) (u .offset) xs (connected u xs)) (take-suc (wiredInputs u) n 0 h) ∙ total-more (u .gain) (u .offset) xs (connected u xs) (take n (wiredInputs u)) (inputOf u (suc n)) e))
+      (more (cellMicrovolts (u .gain) (u .offset) (getD xs (inputOf u (suc n) - 1) 0)) k
+      (sym (cell-said (suc n) c on (omega arith) (omega arith) e) ∙ ap (λ (x : ℕ). gives (cellMicrovolts (u .gain) (u .offset) x)) (cell-holds (suc n) c on (omega arith) (omega arith))))
+  sums-by n h k false e =
+      subst (Comes c (suc n))
+      (sym (ap (totalThose (u .gain) (u .offset) xs (connected u xs)) (take-suc (wiredInputs u) n 0 h) ∙ total-past (u .gain) (u .offset) xs (connected u xs) (take n (wiredInputs u)) (inputOf u (suc n)) e))
+      (past k (sym (apart-said (suc n) c on (omega arith) (omega arith) e)))
+
+  sums : (n : ℕ) → n ≤ packCells u → Comes c n (sumTo n)
   unfolding fold
   sums zero h = none
-  sums (suc n) h =
-      subst (Comes c (suc n)) (sym (total-more (c .setup .gain) (c .setup .offset) (packCounts c) n (omega (arith, held-many (c .registers .measured .cells) (wiredInputs (c .setup))))))
-      (more (cellMicrovolts (c .setup .gain) (c .setup .offset) (getD (packCounts c) n 0)) (sums n (omega arith)) (cell-given n (omega arith)))
+  sums (suc n) h = sums-by n (omega arith) (sums n (omega arith)) (connected u xs (inputOf u (suc n))) refl
 
-  pub total-comes : Comes c (packCells (c .setup)) (totalOf (c .setup .gain) (c .setup .offset) (length (packCounts c)) (packCounts c))
+  pub total-comes : Comes c (packCells u) (totalOf (u .gain) (u .offset) (length (linkedCounts c)) (linkedCounts c))
   total-comes =
-      subst (λ (n : ℕ). Comes c (packCells (c .setup)) (totalOf (c .setup .gain) (c .setup .offset) n (packCounts c)))
-      (sym (held-many (c .registers .measured .cells) (wiredInputs (c .setup)))) (sums (packCells (c .setup)) (omega arith))
+      subst (Comes c (packCells u))
+      (ap (totalThose (u .gain) (u .offset) xs (connected u xs)) (take-length (wiredInputs u))
+      ∙ sym (ap (λ (is : List ℕ). fold _+ℤ_ (pos 0) (map (cellMicrovolts (u .gain) (u .offset)) (heldBy xs is))) (linked-those u xs))
+      ∙ sym (ap (λ (l : List ℕ). fold _+ℤ_ (pos 0) (map (cellMicrovolts (u .gain) (u .offset)) l)) (take-length (linkedCounts c))))
+      (sums (packCells u) (omega arith))
 
   -- so a reading's total is a double equal to that sum
   pub reading-comes : (r : ReadingValues) → Forecasts c (Is r)
-      → IsDouble (r .total) (totalOf (c .setup .gain) (c .setup .offset) (length (packCounts c)) (packCounts c))
-      × Comes c (packCells (c .setup)) (totalOf (c .setup .gain) (c .setup .offset) (length (packCounts c)) (packCounts c))
+      → IsDouble (r .total) (totalOf (u .gain) (u .offset) (length (linkedCounts c)) (linkedCounts c))
+      × Comes c (packCells u) (totalOf (u .gain) (u .offset) (length (linkedCounts c)) (linkedCounts c))
   reading-comes r f = (f .1 .total, total-comes)

@@ -3,11 +3,11 @@
 use mathlib.Core.Path.{_≡_}
 use mathlib.Core.Bool.{Bool, true, false, _&&_, cond}
 use Prim.Native.Nat.{ℕ, _+_, _-_}
-use lib.Dec.{leb}
+use lib.Dec.{eqb, leb}
 use lib.IntN.{ℤ}
 use mathlib.Core.List.{List}
 use lib.ListN.{length}
-use Rattle.wiring.specs.Rows.{wiredInputs, packCells, inputOf}
+use Rattle.wiring.specs.Rows.{packCells, inputOf, connected, linkedInputs}
 use Rattle.wiring.specs.Kept.{heldBy}
 use Rattle.settings.specs.Bit.{weighed}
 use Rattle.registers.specs.State.{alert}
@@ -25,16 +25,18 @@ use Rattle.chip.specs.declared.outward.ForecastAnswer.the-variants as Fo
 abbrev pub pinsOf : Chip → ℕ
 pinsOf c = weighed (alert (c .registers .shown .status)) 4 + weighed (c .registers .shown .chg) 2 + weighed (c .registers .shown .dsg) 1
 
--- request M-107: the counts of the pack's cells, cell 1's first
-abbrev pub packCounts : Chip → List ℕ
-packCounts c = heldBy (c .registers .measured .cells) (wiredInputs (c .setup))
+-- requests M-107 and M-108: the counts of the connected cells, the lowest first
+abbrev pub linkedCounts : Chip → List ℕ
+linkedCounts c = heldBy (c .registers .measured .cells) (linkedInputs (c .setup) (c .registers .measured .cells))
 
--- voltages: 4, then 6 for a number past the pack's
+-- voltages: 4, then 6 for a number past the pack's, then 10 for a cell that is not connected
 unfoldable pub voltageSaid : ℕ → Chip → Said ℤ
 voltageSaid n c =
     cond (c .awake)
     (cond (leb 1 n && leb n (packCells (c .setup)))
+    (cond (connected (c .setup) (c .registers .measured .cells) (inputOf (c .setup) n))
     (gives (cellMicrovolts (c .setup .gain) (c .setup .offset) (cellAt (c .setup) (c .registers .measured) (inputOf (c .setup) n - 1))))
+    (refuses 10))
     (refuses 6))
     (refuses 4)
 
@@ -43,18 +45,24 @@ abbrev pub saidCell : CellAnswer → Said ℤ
 saidCell (Cell.Is v) = gives (v .0)
 saidCell Cell.Asleep = refuses 4
 saidCell Cell.NoCell = refuses 6
+saidCell Cell.NotConnected = refuses 10
 
 abbrev pub saidForecast : ForecastAnswer → Said Reading
 saidForecast (Forecast.Is r) = gives r
 saidForecast Forecast.Asleep = refuses 4
+saidForecast Forecast.NotConnected = refuses 10
 
--- least, greatest and total µV of the pack's cells, and CC in hundredths, of the registers; 4 asleep
+-- least, greatest and total µV of the connected cells, and CC in hundredths, of the registers
 abbrev pub Reads : Chip → Reading → Type 0
-Reads c r = IsReading (c .setup .gain) (c .setup .offset) (length (packCounts c)) (packCounts c) (c .registers .measured .cc) r
+Reads c r = IsReading (c .setup .gain) (c .setup .offset) (length (linkedCounts c)) (linkedCounts c) (c .registers .measured .cc) r
+
+-- 4 asleep, then 10 where no cell is connected: there is no reading
+abbrev pub forecastNumber : Chip → ℕ
+forecastNumber c = cond (c .awake) (cond (eqb (length (linkedCounts c)) 0) 10 0) 4
 
 abbrev pub ForecastSaid : Chip → Said Reading → Type 0
-ForecastSaid c (gives r) = (c .awake ≡ true) × Reads c r
-ForecastSaid c (refuses n) = (c .awake ≡ false) × (n ≡ 4)
+ForecastSaid c (gives r) = (forecastNumber c ≡ 0) × Reads c r
+ForecastSaid c (refuses n) = n ≡ forecastNumber c
 
 abbrev pub Forecasts : Chip → ForecastAnswer → Type 0
 Forecasts c r = ForecastSaid c (saidForecast r)

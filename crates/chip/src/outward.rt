@@ -1,6 +1,7 @@
 // What leaves the chip: pins, SYS_STAT and, with the offset added once, voltages.
 ghost use mathlib.Core.Path.{_≡_};
 ghost use Rattle.registers.specs.Read.{statusByte};
+ghost use Rattle.wiring.specs.Rows.{linkedBits};
 ghost use Rattle.chip.specs.Outward.{pinsOf, saidCell, voltageSaid, Forecasts};
 use crate::Chip;
 use values::Microvolts;
@@ -13,12 +14,16 @@ pub enum CellAnswer {
     Asleep,
     // Number 6.
     NoCell,
+    // Number 10.
+    NotConnected,
 }
 
 pub enum ForecastAnswer {
     Is(Reading),
     // Number 4.
     Asleep,
+    // Number 10: no cell is connected.
+    NotConnected,
 }
 
 impl Chip {
@@ -62,10 +67,23 @@ impl Chip {
         let registers = self.registers;
         let measured = registers.measured;
         let count = measured.cell(setup, wiring::input_of(setup, cell) - 1);
+        if !wiring::converts(setup, count) {
+            return CellAnswer::NotConnected;
+        }
         CellAnswer::Is(values::cell_microvolts(setup.gain, setup.offset, RawCount(count)))
     }
 
-    // Forecasting's reading, of the cells of the pack.
+    // The connected inputs, input 1 the lowest bit, by the counts in the registers.
+    pub fn linked(self) -> u16
+        ensures { λ r. ⌜ r ≡ linkedBits (self .setup) (self .registers .measured .cells) ⌝ }
+    {
+        let registers = self.registers;
+        let measured = registers.measured;
+        let cells = measured.cells;
+        wiring::linked(self.setup, cells)
+    }
+
+    // Forecasting's reading, of the connected cells.
     pub fn forecast(self) -> ForecastAnswer
         ensures { λ r. ⌜ Forecasts self r ⌝ }
     {
@@ -76,7 +94,10 @@ impl Chip {
         let registers = self.registers;
         let measured = registers.measured;
         let cells = measured.cells;
-        let pack = wiring::pack(setup, cells);
+        let pack = wiring::link(setup, cells);
+        if pack.many == 0 {
+            return ForecastAnswer::NotConnected;
+        }
         let counts = pack.of;
         ForecastAnswer::Is(values::forecast(
             setup.gain,

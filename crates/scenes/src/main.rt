@@ -126,11 +126,16 @@ fn voltage(chip: Chip, cell: u8) {
         CellAnswer::Is(v) => microvolts(v.0),
         CellAnswer::Asleep => text(b" refused 4"),
         CellAnswer::NoCell => text(b" refused 6"),
+        CellAnswer::NotConnected => text(b" refused 10"),
     }
     text(b"\n");
 }
 
+// And the connected inputs, as bits.
 fn voltages(chip: Chip) {
+    text(b"linked ");
+    io::print_hex(STDOUT_FILENO, chip.linked() as u64, 4);
+    text(b"\n");
     voltage(chip, 0);
     voltage(chip, 1);
     voltage(chip, 2);
@@ -233,6 +238,7 @@ fn pack(setup: Setup) {
     let chip = plain(chip, Event::Wires(3));
     let chip = five(chip, 7952, 80, 6144);
     voltages(chip);
+    voltages(five(chip, 999, 80, 1000));
 }
 
 // A SCAN of five inputs: the first two, a shorted one, and the last two.

@@ -11,7 +11,14 @@ use borrow.Author.Tests.{eq-eqb, ne-eqb, lt-ltb, le-ltb}
 use Rattle.records.specs.Record.{readOf, numberOf}
 use Rattle.values.specs.declared.Reading.{Reading}
 use Rattle.chip.specs.declared.Chip.{Chip}
-use Rattle.chip.specs.Outward.{Reads}
+use types.Run.{OneOf}
+use denote.Enum.Declared.{tagOf}
+use mathlib.Core.Logic.{⊎-elim}
+use Rattle.values.specs.Values.{numberSaid}
+use Rattle.chip.proofs.outward.ForecastAnswer.{the-type as answer-type}
+use Rattle.chip.specs.declared.outward.ForecastAnswer.{ForecastAnswer}
+use Rattle.chip.specs.declared.outward.ForecastAnswer.the-variants.{Is, Asleep, NotConnected}
+use Rattle.chip.specs.Outward.{Reads, forecastNumber, saidForecast, Forecasts}
 use Rattle.stream.specs.Stream.{lastChip}
 use Rattle.stream.specs.Forecast.{readingNumber, isGiven, Doubles, Contents, Read4}
 
@@ -35,6 +42,13 @@ four (w ∷ x ∷ []) a b c d h = absurd (omega arith)
 four (w ∷ x ∷ y ∷ []) a b c d h = absurd (omega arith)
 four (w ∷ x ∷ y ∷ z ∷ l) a b c d h = refl
 
+-- a reading that is not given
+pub refused-as : (c : Chip) (a : ForecastAnswer) → OneOf (1 ∷ 2 ∷ []) (tagOf answer-type a) → Forecasts c a
+    → (numberSaid (saidForecast a) ≡ forecastNumber c) × (numberSaid (saidForecast a) ≡ 0 → ⊥)
+refused-as c (Is r) o f = absurd (⊎-elim (λ h. omega arith) (λ h. omega arith) o)
+refused-as c Asleep o f = (f, λ z. omega (arith, z))
+refused-as c NotConnected o f = (f, λ z. omega (arith, z))
+
 module _ (s : List ℕ) (old : List Float) (c : Chip) (h : c ≡ lastChip s) where
   pub read-none : (n : ℕ) → c .setup .part ≡ 0 → n ≡ numberOf (readOf 0 s) → Read4 s old n old
   read-none n p q =
@@ -45,15 +59,19 @@ module _ (s : List ℕ) (old : List Float) (c : Chip) (h : c ≡ lastChip s) whe
     stands : eqb (c .setup .part) 0 ≡ false
     stands = ne-eqb _ _ p
 
-    pub read-asleep : c .awake ≡ false → Read4 s old 4 old
-    read-asleep a = of-chip s old old 4 c h (simp (stands, a)) (by-given false c old old (simp (stands, a)) refl)
+    pub read-refused : (n : ℕ) → n ≡ forecastNumber c → (n ≡ 0 → ⊥) → Read4 s old n old
+    read-refused n e z =
+        let k : eqb (forecastNumber c) 0 ≡ false = ne-eqb _ _ (λ w. z (e ∙ w)) in
+        of-chip s old old n c h (simp (stands, k) e) (by-given false c old old (simp (stands, k)) refl)
 
-    pub read-short : c .awake ≡ true → length old < 4 → Read4 s old 5 old
-    read-short a l = of-chip s old old 5 c h (simp (stands, a, lt-ltb _ _ l)) (by-given false c old old (simp (stands, a, lt-ltb _ _ l)) refl)
+    module _ (g : forecastNumber c ≡ 0) where
+      given : eqb (forecastNumber c) 0 ≡ true
+      given = eq-eqb _ _ g
 
-    pub read-given : c .awake ≡ true → 4 ≤ length old → (r : Reading)
-        → Reads c r
-        → Read4 s old 0 (set (set (set (set old 0 (r .least)) 1 (r .greatest)) 2 (r .total)) 3 (r .cc))
-    read-given a l r i =
-        of-chip s old _ 0 c h (simp (stands, a, le-ltb _ _ l))
-        (by-given true c old _ (simp (stands, a, le-ltb _ _ l)) (record { reading = r; is = i; wrote = four old (r .least) (r .greatest) (r .total) (r .cc) l }))
+      pub read-short : length old < 4 → Read4 s old 5 old
+      read-short l = of-chip s old old 5 c h (simp (stands, given, lt-ltb _ _ l)) (by-given false c old old (simp (stands, given, lt-ltb _ _ l)) refl)
+
+      pub read-given : 4 ≤ length old → (r : Reading) → Reads c r → Read4 s old 0 (set (set (set (set old 0 (r .least)) 1 (r .greatest)) 2 (r .total)) 3 (r .cc))
+      read-given l r i =
+          of-chip s old _ 0 c h (simp (stands, given, le-ltb _ _ l))
+          (by-given true c old _ (simp (stands, given, le-ltb _ _ l)) (record { reading = r; is = i; wrote = four old (r .least) (r .greatest) (r .total) (r .cc) l }))

@@ -9,16 +9,16 @@ use lib.ListN.{length, drop}
 use Rattle.records.specs.Record.{readOf, numberOf}
 use Rattle.values.specs.declared.Reading.{Reading}
 use Rattle.chip.specs.declared.Chip.{Chip}
-use Rattle.chip.specs.Outward.{Reads}
+use Rattle.chip.specs.Outward.{Reads, forecastNumber}
 use Rattle.stream.specs.Stream.{lastChip}
 
--- where no chip stands the first record's number, 9 for an empty stream; 4 asleep; then 5 for room below 4
+-- where no chip stands the first record's number, 9 for an empty stream; 4 asleep, 10 where no cell is connected; then 5 for room below 4
 abbrev pub readingNumber : List ℕ → Chip → ℕ → ℕ
-readingNumber s c room = cond (eqb (c .setup .part) 0) (numberOf (readOf 0 s)) (cond (c .awake) (cond (ltb room 4) 5 0) 4)
+readingNumber s c room = cond (eqb (c .setup .part) 0) (numberOf (readOf 0 s)) (cond (eqb (forecastNumber c) 0) (cond (ltb room 4) 5 0) (forecastNumber c))
 
 -- whether a reading is given
 abbrev pub isGiven : Chip → ℕ → Bool
-isGiven c room = not (eqb (c .setup .part) 0) && c .awake && not (ltb room 4)
+isGiven c room = not (eqb (c .setup .part) 0) && eqb (forecastNumber c) 0 && not (ltb room 4)
 
 -- the four doubles of a chip's reading, and what was there after them
 pub record Doubles (c : Chip) (old new : List Float) : Type 0 where

@@ -8,7 +8,7 @@ use Prim.Native.Nat.{ℕ, zero, suc, _+_, _-_, _≤_}
 use native.Mathlib.Omega.{arith}
 use lib.Dec.{eqb, ltb, leb}
 use lib.ListN.{length, getD, take, drop}
-use borrow.Author.Tests.{eqb-true, leb-true}
+use borrow.Author.Tests.{eqb-true, leb-true, ne-eqb}
 use Rattle.events.specs.declared.Setup.{Setup as SetupValues}
 use Rattle.events.specs.declared.Counts.{Counts}
 use Rattle.events.specs.declared.Checked.{Checked}
@@ -32,6 +32,7 @@ use Rattle.chip.specs.declared.Chip.{Chip}
 use Rattle.chip.specs.declared.Stepped.{Stepped}
 use Rattle.chip.specs.Chip.{quiet, inShip, stepped, steppedAs, steppedBy}
 use Rattle.chip.specs.Moves.{setup-next}
+use Rattle.chip.specs.Outward.{forecastNumber}
 use Rattle.stream.specs.Stream.{Turn, none, entryOf, bornOf, wiredAs, acted, turned, turnOf, runs, stands, entries, lastChip}
 use Rattle.stream.specs.Forecast.{readingNumber, isGiven}
 
@@ -217,10 +218,10 @@ no-chip s z h = omega (arith, chip-stands s h .0, z)
 
 -- so a reading that is done is given
 pub done-gives : (s : List ℕ) (room : ℕ) → readingNumber s (lastChip s) room ≡ 0 → isGiven (lastChip s) room ≡ true
-done-gives s room h = by (eqb (lastChip s .setup .part) 0) (lastChip s .awake) (ltb room 4) (λ e. no-chip s (eqb-true (lastChip s .setup .part) 0 e)) h
+done-gives s room h = by (eqb (lastChip s .setup .part) 0) (forecastNumber (lastChip s)) (ltb room 4) (λ e. no-chip s (eqb-true (lastChip s .setup .part) 0 e)) h
   where
-    by : (n a t : Bool) → (n ≡ true → numberOf (readOf 0 s) ≢ 0) → cond n (numberOf (readOf 0 s)) (cond a (cond t 5 0) 4) ≡ 0 → not n && a && not t ≡ true
-    by true a t f h = absurd (f refl h)
-    by false true true f h = absurd (omega (arith, h))
-    by false true false f h = refl
-    by false false t f h = absurd (omega (arith, h))
+    by : (n : Bool) (k : ℕ) (t : Bool) → (n ≡ true → numberOf (readOf 0 s) ≢ 0) → cond n (numberOf (readOf 0 s)) (cond (eqb k 0) (cond t 5 0) k) ≡ 0 → not n && eqb k 0 && not t ≡ true
+    by true k t f h = absurd (f refl h)
+    by false zero true f h = absurd (omega (arith, h))
+    by false zero false f h = refl
+    by false (suc k) t f h = absurd (let e : suc k ≡ 0 = simp (ne-eqb (suc k) 0 (λ z. omega (arith, z))) at h in omega (arith, e))

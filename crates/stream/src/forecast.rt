@@ -1,11 +1,24 @@
 // Forecasting's call: a stream's reading in doubles.
 ghost use mathlib.Core.Path.{_≡_};
+ghost use Rattle.values.specs.Values.{numberSaid};
+ghost use Rattle.chip.specs.Outward.{saidForecast};
 ghost use Rattle.stream.specs.Forecast.{Read4};
 use crate::run;
 use chip::ForecastAnswer;
 
+// The number of a reading, 0 where it is given.
+fn refusal_of(answer: ForecastAnswer) -> u8
+    ensures { λ r. ⌜ r ≡ numberSaid (saidForecast answer) ⌝ }
+{
+    match answer {
+        ForecastAnswer::Is(_) => 0,
+        ForecastAnswer::Asleep => 4,
+        ForecastAnswer::NotConnected => 10,
+    }
+}
+
 // Plays a whole stream and gives least, greatest and total cell µV and CC in hundredths of a µV of the chip that stands at its end.
-// Answers 0, or with nothing written the first record's number where no chip stands, 4 asleep, then 5 for room below 4.
+// Answers 0, or with nothing written the first record's number where no chip stands, 4 asleep, 10 where no cell is connected, then 5 for room below 4.
 #[no_mangle]
 pub extern "C" fn toralinge_reading(stream: &[u8], reading: &mut [f64]) -> u8
     ensures { λ r. ⌜ Read4 (now (stream .entry)) (now (reading .entry)) r (now (reading .exit)) ⌝ }
@@ -18,7 +31,7 @@ pub extern "C" fn toralinge_reading(stream: &[u8], reading: &mut [f64]) -> u8
     }
     let answer = chip.forecast();
     let ForecastAnswer::Is(given) = answer else {
-        return 4;
+        return refusal_of(answer);
     };
     if reading.len() < 4 {
         return 5;

@@ -1,3 +1,4 @@
 pub mod Table
 pub mod Packing
 pub mod Inputs
+pub mod Downward

@@ -2,8 +2,8 @@
 -- Assumes nothing.
 use mathlib.Core.Bool.{Bool, true, false, not, _&&_, cond}
 use mathlib.Core.List.{List, [], _∷_}
-use Prim.Native.Nat.{ℕ, zero, suc, _+_, _*_}
-use lib.Dec.{eqb}
+use Prim.Native.Nat.{ℕ, zero, suc, _+_, _-_, _*_}
+use lib.Dec.{eqb, leb}
 use lib.ListN.{length, getD}
 use Rattle.scan.specs.Scan.{some}
 use Rattle.events.specs.declared.Setup.{Setup}
@@ -85,6 +85,21 @@ bits such i (suc k) = cond (such i) 1 0 + 2 * bits such (suc i) k
 
 unfoldable pub wiredBits : Setup → ℕ
 wiredBits u = bits (isWired u) 1 (inputs u)
+
+-- ── request M-108: connected. With a wiring record the row alone decides; without one an input whose count is below the floor is not ──
+unfoldable pub connected : Setup → List ℕ → ℕ → Bool
+connected u counts i = cond (hasRow (u .part) (u .cells)) (isWired u i) (leb (u .floor) (getD counts (i - 1) 0))
+
+-- the connected inputs, and the same as a number
+unfoldable pub linkedInputs : Setup → List ℕ → List ℕ
+linkedInputs u counts = upward (connected u counts) 1 (inputs u)
+
+unfoldable pub linkedBits : Setup → List ℕ → ℕ
+linkedBits u counts = bits (connected u counts) 1 (inputs u)
+
+-- whether a cell of the pack converts at a count
+unfoldable pub converts : Setup → ℕ → Bool
+converts u count = cond (hasRow (u .part) (u .cells)) true (leb (u .floor) count)
 
 -- ── a wiring record: 13 for a number that the part has no row for ──
 unfoldable pub wiredWith : Setup → ℕ → Wiring

@@ -1,6 +1,9 @@
 // Request M-107: which inputs the cells of a pack are wired to, by tables 3 to 5 of source document 000.
 ghost use mathlib.Core.Path.{_≡_};
-ghost use Rattle.wiring.specs.Rows.{hasRow, wiredBits, wiredWith, wiredInputs, packCells, inputOf};
+ghost use Rattle.wiring.specs.Rows.{hasRow, bits, wiredBits, wiredWith, wiredInputs, packCells, inputOf, linkedInputs, linkedBits, converts as convertsSpec};
+ghost use Rattle.wiring.specs.Linked.{aboveFloor};
+ghost use mathlib.Core.Bool.{cond};
+ghost use Prim.Native.Nat.{_≤_};
 ghost use Rattle.wiring.specs.Kept.{kept, countsOf, heldBy};
 use events::Counts;
 use events::Setup;
@@ -113,4 +116,51 @@ pub fn input_of(setup: Setup, cell: u8) -> u8
     }
     let of = inputs.of;
     of[(cell - 1) as usize] as u8
+}
+
+fn bit_of(t: bool) -> u16
+    ensures { λ r. ⌜ (r ≡ cond t 1 0) × (r ≤ 1) ⌝ }
+{
+    if t { 1 } else { 0 }
+}
+
+// The first inputs whose counts are not below the floor, input 1 the lowest bit.
+fn above(floor: u16, held: [u16; 15], inputs: u8) -> u16
+    requires { ⌜ inputs ≤ 15 ⌝ }
+    ensures { λ r. ⌜ r ≡ bits (aboveFloor floor held) 1 inputs ⌝ }
+{
+    let mut mask = 0u16;
+    let mut i = inputs as usize;
+    while 0 < i {
+        i -= 1;
+        mask = bit_of(floor <= held[i]) + 2 * mask;
+    }
+    mask
+}
+
+// Request M-108: the connected inputs, of what each input holds, input 1 the lowest bit.
+pub fn linked(setup: Setup, held: [u16; 15]) -> u16
+    ensures { λ r. ⌜ r ≡ linkedBits setup held ⌝ }
+{
+    if has_row(setup.part, setup.cells) {
+        return wired(setup);
+    }
+    above(setup.floor, held, setup.inputs())
+}
+
+// What the connected inputs hold, the lowest first.
+pub fn link(setup: Setup, held: [u16; 15]) -> Counts
+    ensures { λ r. ⌜ r ≡ countsOf (heldBy held (linkedInputs setup held)) ⌝ }
+{
+    packed(linked(setup, held), held)
+}
+
+// Whether a cell of the pack converts at a count: a wired one always does.
+pub fn converts(setup: Setup, count: u16) -> bool
+    ensures { λ r. ⌜ r ≡ convertsSpec setup count ⌝ }
+{
+    if has_row(setup.part, setup.cells) {
+        return true;
+    }
+    setup.floor <= count
 }

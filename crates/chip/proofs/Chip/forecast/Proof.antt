@@ -1,19 +1,31 @@
--- The reading: by the mode, of the counts of the pack's cells (Packed).
-use mathlib.Core.Path.{refl}
+-- The reading: by the mode, of the counts of the connected cells (Packed).
 use borrow.Author.Tests.{not-true, not-false}
 use borrow.Author.Needs.{needs}
-use Rattle.chip.specs.Packed.{pack-reads}
+use mathlib.Core.Path.{_≡_}
+use mathlib.Core.Bool.{true}
+use Rattle.chip.specs.declared.Chip.{Chip}
+use Rattle.chip.specs.Packed.{pack-reads, asleep-number, none-number, given-number}
 use Rattle.chip.proofs.Chip.forecast.Statement.{statement}
 use Rattle.chip.proofs.Chip.forecast.Tie as tie
 
 returns : tie.Need-returns
-returns c = (not-true _ (c .if1 .taken), refl)
+returns c = asleep-number (c .before .before .args .self) (not-true _ (c .if1 .taken))
+
+-- the chip, which is awake, and what its connected cells hold
+module _ (l : tie.After-link) where
+  abbrev chip : Chip
+  chip = l .before .before .before .before .before .before .before .args .self
+
+  awake : chip .awake ≡ true
+  awake = not-false _ (l .before .before .before .before .before .if1 .left)
 
 returns-2 : tie.Need-returns-2
-returns-2 c =
-    let p = c .before .before in
-    let s = p .before .before .before .before .before in
-    (not-false _ (s .if1 .left), pack-reads (s .before .before .args .self) (p .pack .result) (c .forecast .result) (p .pack .ensures) (c .forecast .ensures))
+returns-2 c = let l = c .before .before in none-number (chip l) (l .link .result) (l .link .ensures) (awake l) (c .if2 .taken)
+
+returns-3 : tie.Need-returns-3
+returns-3 c =
+    let l = c .before .before .before .before in
+    (given-number (chip l) (l .link .result) (l .link .ensures) (awake l) (c .before .before .if2 .left), pack-reads (chip l) (l .link .result) (c .forecast .result) (l .link .ensures) (c .forecast .ensures))
 
 pub forecast-spec : {M : Type 1} → statement M
 forecast-spec =
@@ -21,5 +33,6 @@ forecast-spec =
     (tie.spec
     returns
     (λ c κs. search needs)
+    returns-2
     (λ c κs. search needs)
-    returns-2)
+    returns-3)

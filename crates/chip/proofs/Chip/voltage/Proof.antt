@@ -1,12 +1,14 @@
--- A voltage: by the mode and the cell's number.
-use mathlib.Core.Path.{ap, _∙_}
+-- A voltage: by the mode, the cell's number and whether it is connected (Voltage).
+use mathlib.Core.Path.{_≡_, sym, ap, _∙_}
+use mathlib.Core.Bool.{true}
 use borrow.Author.Tests.{not-true, not-false}
-use Rattle.chip.specs.Voltage.{asleep-said, zero-said, above-said, cell-said}
-use Rattle.values.specs.Values.{gives}
+use Rattle.chip.specs.Voltage.{asleep-said, zero-said, above-said, apart-said, cell-said, holds-linked}
+use Rattle.values.specs.Values.{gives, cellMicrovolts}
+use Rattle.registers.specs.Read.{cellAt}
 use lib.IntN.{ℤ}
 use native.Mathlib.Omega.{arith}
-use Prim.Native.Nat.{ℕ, _≤_}
-use Rattle.wiring.specs.Rows.{packCells}
+use Prim.Native.Nat.{ℕ, _-_, _≤_}
+use Rattle.wiring.specs.Rows.{packCells, inputOf, connected, converts}
 use Rattle.wiring.specs.Numbered.{numbers}
 use Rattle.chip.specs.declared.Chip.{Chip}
 use borrow.Author.Needs.{needs}
@@ -41,14 +43,30 @@ module _ (c : tie.After-input-of) where
   most : n ≤ packCells (chip .setup)
   most = rw (tested .cells .ensures) at (c .before .before .before .if3 .left)
 
+  awake : chip .awake ≡ true
+  awake = not-false _ (tested .before .before .if1 .left)
+
+  -- what the register of its input holds
+  held : {x : ℕ} → x ≡ cellAt (chip .setup) (chip .registers .measured) (c .input-of .result - 1) → x ≡ cellAt (chip .setup) (chip .registers .measured) (inputOf (chip .setup) n - 1)
+  held e = e ∙ ap (λ (i : ℕ). cellAt (chip .setup) (chip .registers .measured) (i - 1)) (c .input-of .ensures)
+
 sub-cell : tie.Need-sub-cell
 sub-cell c = omega (arith, c .input-of .ensures, numbers (chip c .setup) .wired (n c) (one c) (most c) .from)
 
-returns-4 : tie.Need-returns-4
-returns-4 c =
+-- whether it is connected, as the code has asked
+asked : (c : tie.After-converts) → c .converts .result ≡ connected (chip (c .before .before) .setup) (chip (c .before .before) .registers .measured .cells) (inputOf (chip (c .before .before) .setup) (n (c .before .before)))
+asked c =
     let p = c .before .before in
-    ap (λ (z : ℤ). gives z) (c .cell-microvolts .ensures ∙ simp (c .before .cell .ensures, p .input-of .ensures))
-    ∙ cell-said (n p) (chip p) (not-false _ (tested p .before .before .if1 .left)) (one p) (most p)
+    c .converts .ensures ∙ ap (converts (chip p .setup)) (held p (c .before .cell .ensures)) ∙ holds-linked (n p) (chip p) (awake p) (one p) (most p)
+
+returns-4 : tie.Need-returns-4
+returns-4 c = let p = c .before .before .before in apart-said (n p) (chip p) (awake p) (one p) (most p) (sym (asked (c .before)) ∙ not-true _ (c .if4 .taken))
+
+returns-5 : tie.Need-returns-5
+returns-5 c =
+    let p = c .before .before .before .before in
+    ap (λ (z : ℤ). gives z) (c .cell-microvolts .ensures ∙ ap (cellMicrovolts (chip p .setup .gain) (chip p .setup .offset)) (held p (c .before .before .before .cell .ensures)))
+    ∙ cell-said (n p) (chip p) (awake p) (one p) (most p) (sym (asked (c .before .before)) ∙ not-false _ (c .before .if4 .left))
 
 pub voltage-spec : {M : Type 1} → statement M
 voltage-spec =
@@ -62,4 +80,6 @@ voltage-spec =
     sub-cell
     (λ c κs. search needs)
     (λ c κs. search needs)
-    returns-4)
+    returns-4
+    (λ c κs. search needs)
+    returns-5)

@@ -1,9 +1,9 @@
 -- Forecasting's call, by the chip that stands at the stream's end.
-use mathlib.Core.Path.{subst}
+use mathlib.Core.Path.{subst, sym, _∙_}
 use native.Mathlib.Omega.{arith}
 use lib.ListN.{length-set}
 use Rattle.chip.specs.Outward.{Forecasts}
-use Rattle.stream.proofs.Doubles.{read-none, read-asleep, read-short, read-given}
+use Rattle.stream.proofs.Doubles.{read-none, refused-as, read-refused, read-short, read-given}
 use borrow.Author.Needs.{needs}
 use Rattle.stream.proofs.forecast.toralinge_reading.Statement.{statement}
 use Rattle.stream.proofs.forecast.toralinge_reading.Tie as tie
@@ -12,10 +12,20 @@ returns : tie.Need-returns
 returns c = let a = c .before .before .before .before .before .before .before .before .before .args in read-none (a .stream .now) (a .reading .now) (c .before .before .before .before .before .run .result) (c .before .before .before .before .before .run .ensures .chip) (c .first-number .result) (c .before .if1 .taken) (c .first-number .ensures)
 
 returns-2 : tie.Need-returns-2
-returns-2 c = let a = c .before .before .before .before .before .before .before .before .before .before .before .args in read-asleep (a .stream .now) (a .reading .now) (c .before .before .before .before .before .before .before .run .result) (c .before .before .before .before .before .before .before .run .ensures .chip) (c .before .before .before .if1 .left) (subst (Forecasts (c .before .before .before .before .before .before .before .run .result)) (c .enum-told .given .1) (c .before .before .forecast .ensures) .0)
+returns-2 c =
+    let k = c .before .before in
+    let r = k .before .before .before .before .before in
+    let a = r .before .before .before .before .args in
+    let f = refused-as (r .run .result) (k .forecast .result) (c .before .match .keys2) (k .forecast .ensures) in
+    read-refused (a .stream .now) (a .reading .now) (r .run .result) (r .run .ensures .chip) (k .before .if1 .left) (c .refusal-of .result) (c .refusal-of .ensures ∙ f .0) (λ z. f .1 (sym (c .refusal-of .ensures) ∙ z))
 
 returns-3 : tie.Need-returns-3
-returns-3 c = let a = c .before .before .before .before .before .before .before .before .before .before .before .before .before .args in read-short (a .stream .now) (a .reading .now) (c .before .before .before .before .before .before .before .before .before .run .result) (c .before .before .before .before .before .before .before .before .before .run .ensures .chip) (c .before .before .before .before .before .if1 .left) (subst (Forecasts (c .before .before .before .before .before .before .before .before .before .run .result)) (c .before .before .answer .given .1) (c .before .before .before .before .forecast .ensures) .0) (c .if2 .taken)
+returns-3 c =
+    let k = c .before .before .before .before in
+    let r = k .before .before .before .before .before in
+    let a = r .before .before .before .before .args in
+    let f = subst (Forecasts (r .run .result)) (c .before .before .answer .given .1) (k .forecast .ensures) in
+    read-short (a .stream .now) (a .reading .now) (r .run .result) (r .run .ensures .chip) (k .before .if1 .left) (f .0) (c .if2 .taken)
 
 slice-write-reading-2 : tie.Need-slice-write-reading-2
 slice-write-reading-2 c = simp length-set (omega arith)
@@ -24,7 +34,12 @@ slice-write-reading-3 : tie.Need-slice-write-reading-3
 slice-write-reading-3 c = simp length-set (omega arith)
 
 returns-4 : tie.Need-returns-4
-returns-4 c = let a = c .before .before .before .before .before .before .before .before .before .before .before .before .before .args in let f = subst (Forecasts (c .before .before .before .before .before .before .before .before .before .run .result)) (c .before .before .answer .given .1) (c .before .before .before .before .forecast .ensures) in read-given (a .stream .now) (a .reading .now) (c .before .before .before .before .before .before .before .before .before .run .result) (c .before .before .before .before .before .before .before .before .before .run .ensures .chip) (c .before .before .before .before .before .if1 .left) (f .0) (c .if2 .left) _ (f .1)
+returns-4 c =
+    let k = c .before .before .before .before in
+    let r = k .before .before .before .before .before in
+    let a = r .before .before .before .before .args in
+    let f = subst (Forecasts (r .run .result)) (c .before .before .answer .given .1) (k .forecast .ensures) in
+    read-given (a .stream .now) (a .reading .now) (r .run .result) (r .run .ensures .chip) (k .before .if1 .left) (f .0) (c .if2 .left) _ (f .1)
 
 pub toralinge-reading-spec : {M : Type 1} → statement M
 toralinge-reading-spec =
