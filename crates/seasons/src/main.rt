@@ -90,7 +90,8 @@ fn totals(t: Totals) {
     put(t.sum as u64);
     text(b", ");
     signed(microvolts.0);
-    text(b" microvolts");
+    text(b" microvolts of ");
+    put(t.linked as u64);
 }
 
 fn cell(report: Season, n: u8) {
@@ -280,6 +281,13 @@ fn packs() {
     joined(b"row", none, b.report, 6);
     joined(b"row", b.report, season::none(wired(plain_setup, 4)), 4);
     joined(b"row", none, season::none(wired(plain_setup, 5)), 6);
+    let other = Setup {
+        floor: 999,
+        ..plain_setup
+    };
+    joined(b"floor", none, season::none(other), 6);
+    let bare = stored(plain(fresh(other), Event::Boot));
+    show(bare.report, 6);
 }
 
 // A report joined with itself, so many times.
