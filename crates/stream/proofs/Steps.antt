@@ -14,7 +14,7 @@ use Rattle.events.specs.declared.Counts.{Counts}
 use Rattle.events.specs.declared.BusEvent.{BusEvent}
 use Rattle.events.specs.declared.Event.{Event}
 use Rattle.events.specs.declared.Event.the-variants.{Setup, Por, Boot, Scan, Temp, Count, Sense, Pin, Load, Xready, OnBus, Level}
-use Rattle.events.specs.Event.{Event as Happening, Scan as Scanned, Sense as Ticked, OnBus as Signalled, Meant, means, unfit, fits, eventOf, meantOf, countsFit, countsWanted}
+use Rattle.events.specs.Event.{Event as Happening, Boot as Booted, Scan as Scanned, Sense as Ticked, OnBus as Signalled, Level as Leveled, Meant, means, unfit, fits, eventOf, meantOf, countsFit, countsWanted}
 use Rattle.events.proofs.Event.{the-type as event-type}
 use Rattle.records.specs.declared.Read.the-variants.{Record}
 use Rattle.records.specs.declared.Framed.the-variants.{Header, Short}
@@ -38,13 +38,17 @@ use Rattle.protection.specs.Judged.{tickJudged}
 use Rattle.chip.specs.declared.Heard.{Heard}
 use Rattle.chip.specs.Parts.{raisedBy, heardOf, landed, told, tick-parts, still-tick, bus-parts}
 use Rattle.chip.proofs.Modes.{in-normal}
-use Rattle.chip.specs.Calm.{Calmed, calm-scan, calm-tick}
-use Rattle.chip.specs.Chip.{quiet, withBus, withRuns, settled, normally, asleep, happened, stepped, steppedAs, steppedBy, happenedAs, happenedBy}
+use Rattle.chip.specs.Calm.{Calmed, settles, calm-scan, calm-tick}
+use Rattle.registers.specs.declared.Registers.{Registers}
+use Rattle.registers.specs.State.{withOutside}
+use Rattle.registers.specs.Judging.{held}
+use Rattle.registers.specs.Held.{Calm}
+use Rattle.chip.specs.Chip.{quiet, withAwake, withBus, withRegisters, withRuns, settled, normally, asleep, happened, stepped, steppedAs, steppedBy, happenedAs, happenedBy}
 use Rattle.stream.specs.Stream.{unanswered, answerOf, answerHeard, faceOf, entryWith, entryOf, saying, bornOf, acted, turn, turned, turnOf}
 use Rattle.stream.specs.declared.Answer.{Answer}
 use Rattle.stream.specs.declared.Entry.{Entry}
 use Rattle.stream.specs.declared.Face.{Face}
-use Rattle.stream.specs.Often.{often, awakeWork}
+use Rattle.stream.specs.Often.{often, awakeWork, moved}
 use Rattle.stream.specs.declared.Work.the-variants.{Other}
 
 -- an event whose meaning is known steps as it happens
@@ -163,6 +167,45 @@ in-sleep e c a h = h ∙ sym (by (c .awake) a)
     by : (b : Bool) → b ≡ false → cond b (settled (normally e c)) (asleep e c) ≡ asleep e c
     by true q = cc
     by false q = refl
+
+-- the registers moved, by the mode
+pub moved-awake : {s : Stepped} (r : Registers) (c : Chip) → c .awake ≡ true → s ≡ quiet 0 (withRegisters r c) → s ≡ moved r c
+unfolding moved
+moved-awake r c a h = h ∙ ap (λ (b : Bool). cond b (quiet 0 (withRegisters r c)) (quiet 4 c)) (sym a)
+
+pub moved-asleep : {s : Stepped} (r : Registers) (c : Chip) → c .awake ≡ false → s ≡ quiet 4 c → s ≡ moved r c
+unfolding moved
+moved-asleep r c a h = h ∙ ap (λ (b : Bool). cond b (quiet 0 (withRegisters r c)) (quiet 4 c)) (sym a)
+
+pub moved-to : {s : Stepped} {q r : Registers} (c : Chip) → q ≡ r → s ≡ moved q c → s ≡ moved r c
+moved-to c e h = h ∙ ap (λ (q : Registers). moved q c) e
+
+-- an event that moves registers alone, and leaves the outside level no work
+pub moves : {s : Stepped} (e : Happening) (c : Chip) (r : Registers) → normally e c ≡ quiet 0 (withRegisters r c) → asleep e c ≡ quiet 4 c → Calm r → s ≡ moved r c → s ≡ happened e c
+unfolding happened moved
+moves e c r n z k h = h ∙ sym (by (c .awake))
+  where
+    by : (b : Bool) → cond b (settled (normally e c)) (asleep e c) ≡ cond b (quiet 0 (withRegisters r c)) (quiet 4 c)
+    by true = ap settled n ∙ settles (quiet 0 (withRegisters r c)) k
+    by false = z
+
+-- the outside level itself
+pub levels : {s : Stepped} (l : Bool) (c : Chip) → s ≡ moved (held (withOutside l (c .registers))) c → s ≡ happened (Leveled l) c
+unfolding happened moved
+levels l c h = h ∙ sym (by (c .awake))
+  where
+    by : (b : Bool) → cond b (settled (normally (Leveled l) c)) (asleep (Leveled l) c) ≡ cond b (quiet 0 (withRegisters (held (withOutside l (c .registers))) c)) (quiet 4 c)
+    by true = refl
+    by false = refl
+
+-- BOOT
+pub boots : {s : Stepped} (c : Chip) → Calmed c → s ≡ quiet 0 (withAwake true c) → s ≡ happened Booted c
+unfolding happened
+boots c k h = h ∙ sym (by (c .awake) refl)
+  where
+    by : (b : Bool) → c .awake ≡ b → cond b (settled (normally Booted c)) (asleep Booted c) ≡ quiet 0 (withAwake true c)
+    by true e = settles (quiet 0 c) k ∙ ap (λ (a : Bool). quiet 0 (withAwake a c)) e
+    by false e = settles (quiet 0 (withAwake true c)) k
 
 -- SETUP
 pub setup-is : {s : Stepped} (c : Chip) (e : Event) (v : SetupValues) (k : Counts) → e ≡ Setup v → s ≡ bornOf v → s ≡ acted e k c
