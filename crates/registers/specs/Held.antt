@@ -9,15 +9,11 @@ use Rattle.registers.specs.declared.Shown.{Shown}
 use Rattle.registers.specs.declared.Registers.{Registers}
 use Rattle.registers.specs.State.{alert, reset, withShown}
 use Rattle.registers.specs.Fault.{bitOf, raised, overridden, counting}
-use Rattle.registers.specs.Judging.{coulombs, pulled, held, unready}
+use Rattle.registers.specs.Judging.{heldAt, coulombs, pulled, held, unready}
 
 -- the level 1 and SYS_STAT 0 do not stand together
 abbrev pub Calm : Registers → Type 0
 Calm r = r .outside ≡ true → alert (r .shown .status) ≡ true
-
--- what is shown after the level was looked at, by the level
-abbrev pub heldAt : Bool → Shown → Shown
-heldAt l s = cond l (cond (alert (s .status)) s (overridden s)) s
 
 or-true : (b : Bool) → (b || true) ≡ true
 or-true true = refl
