@@ -74,7 +74,7 @@ fn watched(mut chip: Chip) -> Chip
 }
 
 // An event done in NORMAL: the outside level is looked at, number 0.
-pub fn done(chip: Chip) -> Stepped
+fn done(chip: Chip) -> Stepped
     ensures { λ r. ⌜ r ≡ settled (quietSpec 0 chip) ⌝ }
 {
     quiet(0, watched(chip))
