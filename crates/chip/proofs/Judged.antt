@@ -1,5 +1,6 @@
--- What SCAN, SENSE and the bus put together is what their definitions say. Assumes nothing.
-use mathlib.Core.Path.{_≡_, ap, _∙_}
+-- What SCAN, SENSE, repeated ticks and the bus put together is what their definitions say. Assumes nothing.
+use mathlib.Core.Path.{_≡_, sym, ap, _∙_}
+use mathlib.Core.Bool.{Bool, true, false, cond}
 use mathlib.Core.List.{List}
 use Prim.Native.Nat.{ℕ}
 use lib.IntN.{ℤ}
@@ -15,11 +16,13 @@ use Rattle.registers.specs.Judging.{scanKept}
 use Rattle.protection.specs.declared.Judged.{Judged}
 use Rattle.protection.specs.Rule.{rule}
 use Rattle.protection.specs.Judged.{scanJudged, scan-judged, tickJudged}
+use Rattle.protection.specs.Repeat.{ticksJudged}
 use Rattle.chip.specs.declared.Chip.{Chip}
 use Rattle.chip.specs.declared.Heard.{Heard}
 use Rattle.chip.specs.declared.Stepped.{Stepped}
-use Rattle.chip.specs.Chip.{quiet, withBus, withRegisters, withRuns, normally}
+use Rattle.chip.specs.Chip.{quiet, withBus, withRegisters, withRuns, normally, ticking, ticked}
 use Rattle.chip.specs.Parts.{raisedBy, heardOf, landed, told, tick-parts, bus-parts}
+use Rattle.chip.specs.Repeat.{tickedBy, ticking-is}
 
 pub scan-done : {d : Chip} (c : Chip) (xs : List ℕ) (l : Looked) (j : Judged) (r : Registers)
     → l ≡ lookedAt (rule Ov (c .registers .settings) .limit) (c .setup .floor) (rule Uv (c .registers .settings) .limit) xs
@@ -36,6 +39,17 @@ pub sense-done : {s : Stepped} (c : Chip) (v : ℤ) (j : Judged) (d : Chip)
     → s ≡ quiet 0 d
     → s ≡ normally (Sense v) c
 sense-done c v j d hj hd h = h ∙ ap (quiet 0) (hd ∙ ap (λ (j : Judged). raisedBy (j .risen) (withRuns (j .runs) c)) hj) ∙ tick-parts v c
+
+pub ticked-done : {s : Stepped} (n : ℕ) (v : ℤ) (c : Chip) (j : Judged) (d : Chip) → c .awake ≡ true
+    → j ≡ ticksJudged n (c .registers .settings) v (c .runs)
+    → d ≡ raisedBy (j .risen) (withRuns (j .runs) c)
+    → s ≡ quiet 0 d
+    → s ≡ ticked n v c
+ticked-done n v c j d a hj hd h =
+    h ∙ ap (quiet 0) (hd ∙ ap (λ (j : Judged). tickedBy j c) hj ∙ sym (ticking-is n v c a)) ∙ ap (λ (t : Bool). cond t (quiet 0 (ticking n v c)) (quiet 4 c)) (sym a)
+
+pub ticked-asleep : {s : Stepped} (n : ℕ) (v : ℤ) (c : Chip) → c .awake ≡ false → s ≡ quiet 4 c → s ≡ ticked n v c
+ticked-asleep n v c a h = h ∙ ap (λ (t : Bool). cond t (quiet 0 (ticking n v c)) (quiet 4 c)) (sym a)
 
 pub bus-done : {s : Stepped} (e : BusEvent) (c : Chip) (h : Heard) (d : Chip)
     → h ≡ heardOf e c

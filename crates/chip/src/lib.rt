@@ -2,9 +2,9 @@
 ghost use mathlib.Core.Path.{_≡_};
 ghost use lib.ListN.{take};
 ghost use Rattle.events.specs.Setup.{groups, inputs};
-ghost use Rattle.events.specs.Event.{eventOf, Por, Boot, Pin, Xready, Scan, Temp, Count, Sense, Load, OnBus};
+ghost use Rattle.events.specs.Event.{eventOf, ticks as ticksSpec, ticksMost, Por, Boot, Pin, Xready, Scan, Temp, Count, Sense, Load, OnBus};
 ghost use Rattle.events.specs.declared.BusEvent.the-variants.{Start, Out, In, Stop};
-ghost use Rattle.chip.specs.Chip.{quiet as quietSpec, answered as answeredSpec, inShip as inShipSpec, given as fetchedSpec, normally, busAsleep, happened, stepped, steppedAs, steppedBy};
+ghost use Rattle.chip.specs.Chip.{quiet as quietSpec, answered as answeredSpec, inShip as inShipSpec, given as fetchedSpec, normally, busAsleep, happened, stepped, ticked as tickedSpec, steppedAs, steppedBy};
 ghost use Rattle.chip.specs.Parts.{unheard as unheardSpec, sentOn as sentSpec, handedOver as handedSpec, heardOf, wrote as wroteSpec, landed as landedSpec, raisedBy};
 ghost use Rattle.protection.specs.Judged.{tickJudged};
 ghost use Rattle.bus.specs.Bus.{wanted};
@@ -226,6 +226,32 @@ impl Chip {
         quiet(0, self.raised(risen))
     }
 
+    // That many ticks of one value: their number is enough, whatever it is.
+    pub fn ticked(mut self, value: i32, repeat: u32) -> Stepped
+        ensures { λ r. ⌜ r ≡ tickedSpec repeat value self ⌝ }
+    {
+        if !self.awake {
+            return quiet(4, self);
+        }
+        let registers = self.registers;
+        let runs = self.runs;
+        let judged = runs.ticked(registers.settings, value, repeat);
+        let runs = judged.runs;
+        self.runs = runs;
+        let risen = judged.risen;
+        quiet(0, self.raised(risen))
+    }
+
+    // 1 to 4,096 ticks of one value.
+    pub fn ticks(self, value: i32, repeat: u16) -> Stepped
+        ensures { λ r. ⌜ r ≡ steppedAs (ticksSpec ticksMost value repeat) self ⌝ }
+    {
+        if !checks::ticks_fit(4096, value, repeat as u32) {
+            return quiet(3, self);
+        }
+        self.ticked(value, repeat as u32)
+    }
+
     // In NORMAL: the counts of TEMP kept.
     pub fn warmed(self, counts: [u16; 15]) -> Self
         ensures { λ r. ⌜ r ≡ normally (Temp (take (groups (self .setup)) counts)) self .chip ⌝ }
@@ -426,6 +452,7 @@ impl Chip {
             Event::Load(level) => self.load(level),
             Event::Xready => self.xready(),
             Event::OnBus(bus) => self.on_bus(bus),
+            Event::Ticks(value, repeat) => self.ticks(value, repeat),
         }
     }
 

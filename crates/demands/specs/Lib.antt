@@ -20,3 +20,4 @@ pub mod Streams
 pub mod Answered
 pub mod Latches
 pub mod Between
+pub mod Ticks

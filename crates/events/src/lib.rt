@@ -32,6 +32,8 @@ pub enum Event {
     Load(bool),
     Xready,
     OnBus(BusEvent),
+    // That many ticks of one value: request M-100.
+    Ticks(i32, u16),
 }
 
 // How many counts there are, and the counts: input 1 first, 0 from the first place that is not used.

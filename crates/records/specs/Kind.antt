@@ -42,3 +42,7 @@ IN = 0x0012
 
 abbrev pub STOP : ℕ
 STOP = 0x0013
+
+-- request M-100: ticks of one value
+abbrev pub TICKS : ℕ
+TICKS = 0x0014

@@ -4,7 +4,7 @@ use mathlib.Core.Bool.{Bool, true, false, cond, _&&_}
 use Rattle.events.specs.declared.Event.{Event}
 use Rattle.stream.specs.declared.Work.{Work}
 use Rattle.stream.specs.declared.Work.the-variants.{Scans, Ticks, Hears, Other}
-use Rattle.events.specs.declared.Event.the-variants.{Setup, Por, Boot, Scan, Temp, Count, Sense, Pin, Load, Xready, OnBus}
+use Rattle.events.specs.declared.Event.the-variants.{Setup, Por, Boot, Scan, Temp, Count, Sense, Pin, Load, Xready, OnBus, Ticks as Repeated}
 
 abbrev pub often : Event → Bool
 often (Setup v) = false
@@ -18,6 +18,7 @@ often Pin = false
 often (Load l) = false
 often Xready = false
 often (OnBus b) = true
+often (Repeated v n) = false
 
 -- ── and what each is to the loop, in NORMAL and in SHIP ──
 abbrev pub awakeWork : Event → Work
@@ -32,6 +33,7 @@ awakeWork Pin = Other
 awakeWork (Load l) = Other
 awakeWork Xready = Other
 awakeWork (OnBus b) = Hears b
+awakeWork (Repeated v n) = Other
 
 unfoldable pub workOf : Bool → Event → Work
 workOf a e = cond a (awakeWork e) Other
@@ -57,3 +59,4 @@ sorted true Pin = refl
 sorted true (Load l) = refl
 sorted true Xready = refl
 sorted true (OnBus b) = (refl, refl)
+sorted true (Repeated v n) = refl

@@ -141,7 +141,8 @@ fn work_of(awake: bool, event: Event) -> Work
         | Event::Count(_)
         | Event::Pin
         | Event::Load(_)
-        | Event::Xready => Work::Other,
+        | Event::Xready
+        | Event::Ticks(_, _) => Work::Other,
     }
 }
 
@@ -162,6 +163,7 @@ fn seldom(chip: Chip, event: Event, counts: [u16; 15]) -> Stepped
         Event::Load(level) => chip.load(level),
         Event::Xready => chip.xready(),
         Event::OnBus(bus) => chip.doze(bus),
+        Event::Ticks(value, repeat) => chip.ticked(value, repeat as u32),
     }
 }
 

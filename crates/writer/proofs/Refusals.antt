@@ -2,7 +2,7 @@
 -- Assumes nothing.
 use mathlib.Core.Path.{_≡_, refl, ap, sym, _∙_, subst}
 use Prim.Native.Nat.{ℕ}
-use mathlib.Core.List.{List, [], _∷_}
+use mathlib.Core.List.{List, [], _∷_, _++_}
 use mathlib.Core.Bool.{Bool, true, false, cond, _&&_}
 use lib.IntN.{ℤ}
 use lib.Dec.{leb}
@@ -14,9 +14,10 @@ use Rattle.events.specs.declared.BusEvent.{BusEvent}
 use Rattle.events.specs.declared.BusEvent.the-variants.{Start, Out, In, Stop}
 use Rattle.events.specs.declared.Event.{Event}
 use Rattle.events.specs.declared.Event.the-variants.{Setup as SetupEvent, OnBus}
+use Rattle.records.specs.Kind.{TICKS}
 use Rattle.records.specs.Numbers.{bitOf}
 use Rattle.records.specs.Record.{setupGood, noCounts}
-use Rattle.writer.specs.Write.{recordOf, recordFor, bytes32, bits32, valueRefusal, refusalFor, Writes, Puts}
+use Rattle.writer.specs.Write.{recordOf, recordFor, bytes16, bytes32, bits32, valueRefusal, refusalFor, Writes, Puts}
 use Rattle.writer.specs.Checked.{refusalAt, other, refusal-is}
 use Rattle.writer.specs.declared.Wrote.{Wrote}
 use Rattle.writer.specs.declared.Wrote.the-variants.{Refused}
@@ -42,6 +43,10 @@ at-record k old {r} {new} q p = subst (λ (e : Event). Writes (recordFor e k) ol
 
 pub at-bits : {old new : List ℕ} {r : Wrote} {u : ℕ} {y z : ℤ} → u ≡ bits32 y → y ≡ z → Writes (recordOf 6 (bytes32 u)) old r new → Writes (recordOf 6 (bytes32 (bits32 z))) old r new
 at-bits {old} {new} {r} q e p = subst (λ (u : ℕ). Writes (recordOf 6 (bytes32 u)) old r new) (q ∙ ap bits32 e) p
+
+pub at-ticks : (n : ℕ) {old new : List ℕ} {r : Wrote} {u : ℕ} {y z : ℤ} → u ≡ bits32 y → y ≡ z
+    → Writes (recordOf TICKS (bytes32 u ++ bytes16 n)) old r new → Writes (recordOf TICKS (bytes32 (bits32 z) ++ bytes16 n)) old r new
+at-ticks n {old} {new} {r} q e p = subst (λ (u : ℕ). Writes (recordOf TICKS (bytes32 u ++ bytes16 n)) old r new) (q ∙ ap bits32 e) p
 
 pub at-bit : (kind : ℕ) (t : Bool) {old new : List ℕ} {r : Wrote} {n : ℕ} → n ≡ bitOf t → Writes (recordOf kind (n ∷ [])) old r new → Writes (recordOf kind (bitOf t ∷ [])) old r new
 at-bit kind t {old} {new} {r} q p = subst (λ (n : ℕ). Writes (recordOf kind (n ∷ [])) old r new) q p

@@ -1,20 +1,20 @@
 -- Laws of numbers written as bytes and read back, both ways. Assumes nothing.
 use mathlib.Core.Path.{_≡_, refl, ap, ap₂, sym, _∙_}
 use Prim.Native.Nat.{ℕ, suc, zero, _+_, _-_, _*_, _/_, _%_, _<_, _≤_, _^_}
-use mathlib.Core.List.{List, [], _∷_}
-use mathlib.Core.Bool.{Bool, true, false, not, _&&_}
+use mathlib.Core.List.{List, [], _∷_, _++_}
+use mathlib.Core.Bool.{Bool, true, false, not, _&&_, cond}
 use native.Mathlib.Omega.{arith}
 use lib.Dec.{leb, ltb, eqb}
 use lib.IntN.{ℤ, pos, negsuc}
 use lib.ListN.{length, getD, take, drop}
 use borrow.Author.Tests.{leb-true, ltb-true, ltb-false, not-true}
-use Rattle.events.specs.Event.{within, senseFits, senseMost}
-use Rattle.events.specs.declared.Event.the-variants.{Sense}
+use Rattle.events.specs.Event.{within, senseFits, senseMost, ticksMost, ticksFit}
+use Rattle.events.specs.declared.Event.the-variants.{Sense, Ticks}
 use Rattle.records.specs.Numbers.{le16, le32, signed32, bitOf, words}
-use Rattle.records.specs.Record.{senseOf}
-use Rattle.records.specs.Ranges.{fits-pos, fits-neg, sense-as, as-pos, as-neg}
+use Rattle.records.specs.Record.{senseOf, ticksOf}
+use Rattle.records.specs.Ranges.{fits-pos, fits-neg, as-pos, as-neg}
 use Rattle.records.specs.Sound.{and-left, and-right}
-use Rattle.records.specs.declared.Payload.the-variants.{Whole}
+use Rattle.records.specs.declared.Payload.the-variants.{Whole, Unfit}
 use Rattle.writer.specs.Write.{bytes16, bytes32, bits32, wordBytes}
 
 -- ── written, then read ──
@@ -41,15 +41,27 @@ bit-same false = refl
 sense-most : (n : ℕ) → not (ltb senseMost n) ≡ true → n ≤ 500000
 sense-most n h = ltb-false _ _ (not-true _ h)
 
-pub sense-back : (z : ℤ) → senseFits z ≡ true → senseOf (bits32 z) ≡ Whole (Sense z)
+value-back : (z : ℤ) → senseFits z ≡ true → signed32 (bits32 z) ≡ z
 unfolding bits32
-sense-back (pos n) h =
-    let l : n ≤ 500000 = sense-most n (sym (fits-pos n) ∙ h) in
-    sense-as n (pos n) true (as-pos n (omega arith)) h
-sense-back (negsuc n) h =
+value-back (pos n) h = let l : n ≤ 500000 = sense-most n (sym (fits-pos n) ∙ h) in as-pos n (omega arith)
+value-back (negsuc n) h =
     let l : suc n ≤ 500000 = sense-most (suc n) (sym (fits-neg n) ∙ h) in
     let e : 4294967295 - (4294967295 - n) ≡ n = omega arith in
-    sense-as (4294967295 - n) (negsuc n) true (as-neg (4294967295 - n) (omega arith) ∙ ap negsuc e) h
+    as-neg (4294967295 - n) (omega arith) ∙ ap negsuc e
+
+pub sense-back : (z : ℤ) → senseFits z ≡ true → senseOf (bits32 z) ≡ Whole (Sense z)
+unfolding senseOf
+sense-back z h = ap (λ (z : ℤ). cond (senseFits z) (Whole (Sense z)) (Unfit 3)) (value-back z h) ∙ ap (λ (t : Bool). cond t (Whole (Sense z)) (Unfit 3)) h
+
+fit-value : (most : ℕ) (z : ℤ) (n : ℕ) → ticksFit most z n ≡ true → senseFits z ≡ true
+unfolding ticksFit
+fit-value most z n h = and-left (senseFits z) (leb 1 n) (and-left (senseFits z && leb 1 n) (leb n most) h)
+
+pub ticks-back : (z : ℤ) (n : ℕ) → ticksFit ticksMost z n ≡ true → ticksOf (bits32 z) n ≡ Whole (Ticks z n)
+unfolding ticksOf
+ticks-back z n h =
+    ap (λ (z : ℤ). cond (ticksFit ticksMost z n) (Whole (Ticks z n)) (Unfit 3)) (value-back z (fit-value ticksMost z n h))
+    ∙ ap (λ (t : Bool). cond t (Whole (Ticks z n)) (Unfit 3)) h
 
 -- ── read, then written: the numbers of a list are bytes ──
 abbrev pub Bytes : List ℕ → Type 0
@@ -136,3 +148,16 @@ four-forth (x ∷ y ∷ z ∷ w ∷ []) l h =
     let h3 : Bytes (w ∷ []) = byte-rest z (w ∷ []) h2 in
     four-bytes x y z w (byte-first x (y ∷ z ∷ w ∷ []) h) (byte-first y (z ∷ w ∷ []) h1) (byte-first z (w ∷ []) h2) (byte-first w [] h3)
 four-forth (x ∷ y ∷ z ∷ w ∷ v ∷ b) l h = absurd (omega arith)
+
+-- a value of four bytes, then a number of two
+pub six-forth : (b : List ℕ) → length b ≡ 6 → Bytes b → bytes32 (bits32 (signed32 (le32 b 0))) ++ bytes16 (le16 b 4) ≡ b
+six-forth [] l h = absurd (omega arith)
+six-forth (x ∷ []) l h = absurd (omega arith)
+six-forth (x ∷ y ∷ []) l h = absurd (omega arith)
+six-forth (x ∷ y ∷ z ∷ []) l h = absurd (omega arith)
+six-forth (x ∷ y ∷ z ∷ w ∷ b) l h =
+    let h1 : Bytes (y ∷ z ∷ w ∷ b) = byte-rest x (y ∷ z ∷ w ∷ b) h in
+    let h2 : Bytes (z ∷ w ∷ b) = byte-rest y (z ∷ w ∷ b) h1 in
+    let h3 : Bytes (w ∷ b) = byte-rest z (w ∷ b) h2 in
+    ap₂ _++_ (four-bytes x y z w (byte-first x (y ∷ z ∷ w ∷ b) h) (byte-first y (z ∷ w ∷ b) h1) (byte-first z (w ∷ b) h2) (byte-first w b h3))
+    (two-forth b (omega arith) (byte-rest w b h3))

@@ -4,7 +4,7 @@ use mir.Syntax.{w32}
 use mir.Val.{toZ, ofZ}
 use Prim.Native.Nat.{ℕ}
 use lib.ListN.{take}
-use Rattle.events.specs.Event.{within, countMost, senseFits, fits}
+use Rattle.events.specs.Event.{within, countMost, senseFits, fits, ticksMost, ticksFit}
 use Rattle.checks.proofs.Looks.{at-event, pick-true, pick-false}
 use borrow.Author.Needs.{needs}
 use Rattle.checks.proofs.value_refusal.Statement.{statement}
@@ -62,6 +62,12 @@ returns-14 : tie.Need-returns-14
 unfolding fits
 returns-14 c = let a = c .before .before in at-event (a .args .setup) (a .args .of) (c .enum-told10 .given .1) refl
 
+returns-15 : tie.Need-returns-15
+returns-15 c = let g = c .before .before .before in let a = g .before .before in let z = g .event2 .given .0 .0 in let e : toZ w32 (ofZ w32 z) ≡ z = search needs in at-event (a .args .setup) (a .args .of) (g .event2 .given .1) (pick-true (c .before .ticks-fit .ensures ∙ ap (λ z. ticksFit ticksMost z (g .event2 .given .0 .1 .0)) e) (c .if4 .taken))
+
+returns-16 : tie.Need-returns-16
+returns-16 c = let g = c .before .before .before in let a = g .before .before in let z = g .event2 .given .0 .0 in let e : toZ w32 (ofZ w32 z) ≡ z = search needs in at-event (a .args .setup) (a .args .of) (g .event2 .given .1) (pick-false (c .before .ticks-fit .ensures ∙ ap (λ z. ticksFit ticksMost z (g .event2 .given .0 .1 .0)) e) (c .if4 .left))
+
 pub value-refusal-spec : {M : Type 1} → statement M
 value-refusal-spec =
     tie.close
@@ -83,6 +89,9 @@ value-refusal-spec =
     (λ c. search needs)
     (λ c. search needs)
     (λ c. search needs)
+    (λ c. search needs)
+    (λ c κs. search needs)
+    (λ c. search needs)
     returns-2
     returns-3
     returns-4
@@ -95,4 +104,6 @@ value-refusal-spec =
     returns-11
     returns-12
     returns-13
-    returns-14)
+    returns-14
+    returns-15
+    returns-16)

@@ -49,10 +49,16 @@ returns-11 : tie.Need-returns-11
 unfolding countsIn
 returns-11 c = at-counts (c .before .before .before .before .args .payload .now) (c .before .enum-told11 .given .1) (c .no-counts9 .ensures)
 
+returns-12 : tie.Need-returns-12
+unfolding countsIn
+returns-12 c = at-counts (c .before .before .before .before .args .payload .now) (c .before .enum-told12 .given .1) (c .no-counts10 .ensures)
+
 pub counts-in-spec : {M : Type 1} → statement M
 counts-in-spec =
     tie.close
     (tie.spec
+    (λ c. search needs)
+    (λ c κs. search needs)
     (λ c. search needs)
     (λ c κs. search needs)
     (λ c. search needs)
@@ -85,4 +91,5 @@ counts-in-spec =
     returns-8
     returns-9
     returns-10
-    returns-11)
+    returns-11
+    returns-12)

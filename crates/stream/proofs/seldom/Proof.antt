@@ -1,5 +1,8 @@
 -- What happens to a chip in SHIP, or seldom, by its case.
-use mathlib.Core.Path.{refl}
+use mathlib.Core.Path.{_≡_, refl, ap, _∙_}
+use mir.Syntax.{w32}
+use mir.Val.{toZ, ofZ}
+use Rattle.chip.specs.Chip.{ticked}
 use Rattle.stream.proofs.Steps.{as-event, sleeping, in-sleep}
 use borrow.Author.Needs.{needs}
 use Rattle.stream.proofs.seldom.Statement.{statement}
@@ -38,6 +41,13 @@ returns-10 c = as-event (c .before .before .before .args .counts) (c .before .be
 returns-11 : tie.Need-returns-11
 returns-11 c = let a = c .before .before .before .before in as-event (a .args .counts) (a .args .chip) (c .before .before .event3 .given .1) (in-sleep _ (a .args .chip) (sleeping (a .args .chip) (a .args .event) _ (a .pre) (c .before .before .event3 .given .1) refl) (c .doze .ensures))
 
+returns-12 : tie.Need-returns-12
+returns-12 c =
+    let a = c .before .before .before .before in
+    let z = c .before .before .event4 .given .0 .0 in
+    let e : toZ w32 (ofZ w32 z) ≡ z = search needs in
+    as-event (a .args .counts) (a .args .chip) (c .before .before .event4 .given .1) (c .ticked .ensures ∙ ap (λ v. ticked (c .before .before .event4 .given .0 .1 .0) v (a .args .chip)) e)
+
 pub seldom-spec : {M : Type 1} → statement M
 seldom-spec =
     tie.close
@@ -64,6 +74,9 @@ seldom-spec =
     (λ c κs. search needs)
     (λ c. search needs)
     (λ c κs. search needs)
+    (λ c. search needs)
+    (λ c. search needs)
+    (λ c κs. search needs)
     returns
     returns-2
     returns-3
@@ -74,4 +87,5 @@ seldom-spec =
     returns-8
     returns-9
     returns-10
-    returns-11)
+    returns-11
+    returns-12)

@@ -3,7 +3,7 @@ use mathlib.Core.Path.{_≡_}
 use mir.Syntax.{w32}
 use mir.Val.{toZ, ofZ}
 use Rattle.writer.specs.Write.{recordFor}
-use Rattle.writer.proofs.Refusals.{at-record, at-bits, at-bit, at-bus}
+use Rattle.writer.proofs.Refusals.{at-record, at-bits, at-ticks, at-bit, at-bus}
 use borrow.Author.Needs.{needs}
 use Rattle.writer.proofs.put_event.Statement.{statement}
 use Rattle.writer.proofs.put_event.Tie as tie
@@ -60,6 +60,15 @@ returns-11 c =
     let g = w .before .before .before in
     at-record _ _ (g .event5 .given .1) (at-bus (g .event5 .given .0 .0) _ _ (w .put-bus .ensures))
 
+returns-12 : tie.Need-returns-12
+unfolding recordFor
+returns-12 c =
+    let w = c .before .before in
+    let g = w .before .before .before .before in
+    let z = g .event6 .given .0 .0 in
+    let e : toZ w32 (ofZ w32 z) ≡ z = search needs in
+    at-record _ _ (g .event6 .given .1) (at-ticks (g .event6 .given .0 .1 .0) {z = z} (w .before .bits-of2 .ensures) e (w .write-ticks .ensures))
+
 pub put-event-spec : {M : Type 1} → statement M
 put-event-spec =
     tie.close
@@ -89,6 +98,9 @@ put-event-spec =
     (λ c. search needs)
     (λ c κs. search needs)
     (λ c. search needs)
+    (λ c κs. search needs)
+    (λ c κs. search needs)
+    (λ c. search needs)
     returns
     (λ c. search needs)
     returns-2
@@ -109,4 +121,6 @@ put-event-spec =
     (λ c. search needs)
     returns-10
     (λ c. search needs)
-    returns-11)
+    returns-11
+    (λ c. search needs)
+    returns-12)

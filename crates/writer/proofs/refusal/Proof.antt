@@ -38,10 +38,15 @@ returns-10 c = let a = c .before .before .before in at-refusal (a .args .counts)
 returns-11 : tie.Need-returns-11
 returns-11 c = let a = c .before .before .before in at-refusal (a .args .counts) (a .args .part) (c .before .enum-told10 .given .1) refl (c .refusal-at10 .ensures)
 
+returns-12 : tie.Need-returns-12
+returns-12 c = let a = c .before .before .before in at-refusal (a .args .counts) (a .args .part) (c .before .enum-told11 .given .1) refl (c .refusal-at11 .ensures)
+
 pub refusal-spec : {M : Type 1} → statement M
 refusal-spec =
     tie.close
     (tie.spec
+    (λ c. search needs)
+    (λ c κs. search needs)
     (λ c. search needs)
     (λ c κs. search needs)
     (λ c. search needs)
@@ -74,4 +79,5 @@ refusal-spec =
     returns-8
     returns-9
     returns-10
-    returns-11)
+    returns-11
+    returns-12)
