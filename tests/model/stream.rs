@@ -53,6 +53,7 @@ fn length_of(kind: u16, part: usize) -> Option<usize> {
         0x0005 => Some(2),
         0x0006 => Some(4),
         0x0008 | 0x0011 | 0x0012 => Some(1),
+        0x0014 => Some(6),
         _ => None,
     }
 }
@@ -60,13 +61,25 @@ fn length_of(kind: u16, part: usize) -> Option<usize> {
 fn in_range(kind: u16, payload: &[u8], plant: Plant) -> bool {
     match kind {
         0x0003 | 0x0004 => words(payload).iter().all(|count| *count <= 16_383) || plant == Plant::RangeNotChecked,
-        0x0006 => {
-            let value = i64::from(sensed(payload));
-            let most = if plant == Plant::SenseEndsLeftOut { 499_999 } else { 500_000 };
-            (-most..=most).contains(&value)
-        }
+        0x0006 => sense_in_range(payload, plant),
         0x0008 | 0x0012 => payload[0] <= 1,
+        0x0014 => sense_in_range(payload, plant) && repeat_in_range(word(payload, 4), plant),
         _ => true,
+    }
+}
+
+fn sense_in_range(payload: &[u8], plant: Plant) -> bool {
+    let value = i64::from(sensed(payload));
+    let most = if plant == Plant::SenseEndsLeftOut { 499_999 } else { 500_000 };
+    (-most..=most).contains(&value)
+}
+
+fn repeat_in_range(repeat: u16, plant: Plant) -> bool {
+    match plant {
+        Plant::NoTicksTaken => repeat <= 4_096,
+        Plant::TicksMostLower => (1..=4_095).contains(&repeat),
+        Plant::TicksMostHigher => (1..=4_097).contains(&repeat),
+        _ => (1..=4_096).contains(&repeat),
     }
 }
 
@@ -76,7 +89,7 @@ fn sensed(payload: &[u8]) -> i32 {
 
 /// The number for a record that follows SETUP: 2, then 3, then 4; or 0.
 fn refusal(chip: &Chip, kind: u16, payload: &[u8], plant: Plant) -> u8 {
-    let wants_waking = (3..=9).contains(&kind);
+    let wants_waking = (3..=9).contains(&kind) || kind == 0x14 && plant != Plant::TicksTakenAsleep;
     let asleep = !chip.awake && wants_waking;
     if asleep && plant == Plant::AsleepBeforeLength {
         return 4;
@@ -114,6 +127,7 @@ fn act(chip: &mut Chip, kind: u16, payload: &[u8]) -> Option<u8> {
         0x0010 => chip.start(),
         0x0011 => return Some(if chip.out(payload[0]) { 0 } else { 1 }),
         0x0012 => return Some(chip.take(payload[0] == 0)),
+        0x0014 => chip.ticks(sensed(payload), u32::from(word(payload, 4))),
         _ => chip.stop(),
     }
     None
