@@ -66,7 +66,9 @@ enum toralinge_reading_place {
 /*
  * Plays a whole stream of records on a new chip and writes one entry of five bytes for each record.
  *
- * stream, length   the records: payload length (2 bytes), kind (2 bytes), payload, little-endian
+ * stream, length   the records: payload length (2 bytes), kind (2 bytes), payload, little-endian. Kinds 0000
+ *                  to 0013 are document 01's; 0014 is ticks of one value: 4 bytes signed as SENSE has them,
+ *                  and a repeat number of 2 bytes, 1 to 4,096, with one entry for the whole
  * entries, room    where the entries go, and how many bytes may stand there
  *
  * Returns how many entries there are. They stand one after the other from entries[0]; every later
