@@ -2,7 +2,7 @@
 ghost use mathlib.Core.Path.{_≡_};
 ghost use lib.ListN.{take};
 ghost use Rattle.events.specs.Setup.{groups, inputs};
-ghost use Rattle.events.specs.Event.{eventOf, ticks as ticksSpec, ticksMost, Por, Boot, Pin, Xready, Scan, Temp, Count, Sense, Load, OnBus};
+ghost use Rattle.events.specs.Event.{eventOf, ticks as ticksSpec, ticksMost, soakMost, Por, Boot, Pin, Xready, Scan, Temp, Count, Sense, Load, OnBus};
 ghost use Rattle.events.specs.declared.BusEvent.the-variants.{Start, Out, In, Stop};
 ghost use Rattle.chip.specs.Chip.{quiet as quietSpec, answered as answeredSpec, inShip as inShipSpec, given as fetchedSpec, normally, busAsleep, happened, stepped, ticked as tickedSpec, steppedAs, steppedBy};
 ghost use Rattle.chip.specs.Parts.{unheard as unheardSpec, sentOn as sentSpec, handedOver as handedSpec, heardOf, wrote as wroteSpec, landed as landedSpec, raisedBy};
@@ -252,6 +252,16 @@ impl Chip {
         self.ticked(value, repeat as u32)
     }
 
+    // 1 to 16,777,216 ticks of one value.
+    pub fn soak(self, value: i32, repeat: u32) -> Stepped
+        ensures { λ r. ⌜ r ≡ steppedAs (ticksSpec soakMost value repeat) self ⌝ }
+    {
+        if !checks::ticks_fit(16777216, value, repeat) {
+            return quiet(3, self);
+        }
+        self.ticked(value, repeat)
+    }
+
     // In NORMAL: the counts of TEMP kept.
     pub fn warmed(self, counts: [u16; 15]) -> Self
         ensures { λ r. ⌜ r ≡ normally (Temp (take (groups (self .setup)) counts)) self .chip ⌝ }
@@ -453,6 +463,7 @@ impl Chip {
             Event::Xready => self.xready(),
             Event::OnBus(bus) => self.on_bus(bus),
             Event::Ticks(value, repeat) => self.ticks(value, repeat),
+            Event::Soak(value, repeat) => self.soak(value, repeat),
         }
     }
 

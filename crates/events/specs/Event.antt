@@ -12,7 +12,7 @@ use Rattle.events.specs.declared.Setup.{Setup}
 use Rattle.events.specs.declared.Counts.{Counts}
 use Rattle.events.specs.declared.BusEvent.{BusEvent}
 use Rattle.events.specs.declared.Event.{Event as Coded}
-use Rattle.events.specs.declared.Event.the-variants.{Setup as Setup-, Por as Por-, Boot as Boot-, Pin as Pin-, Xready as Xready-, Scan as Scan-, Temp as Temp-, Count as Count-, Sense as Sense-, Load as Load-, OnBus as OnBus-, Ticks as Ticks-}
+use Rattle.events.specs.declared.Event.the-variants.{Setup as Setup-, Por as Por-, Boot as Boot-, Pin as Pin-, Xready as Xready-, Scan as Scan-, Temp as Temp-, Count as Count-, Sense as Sense-, Load as Load-, OnBus as OnBus-, Ticks as Ticks-, Soak as Soak-}
 
 -- an event of a chip that stands: SCAN has a count for each input, TEMP one for each five
 pub data Event : Type 0 where
@@ -55,6 +55,10 @@ fits (OnBus b) = true
 abbrev pub ticksMost : ℕ
 ticksMost = 4096
 
+-- request M-109: kind 0017 repeats it 1 to 16,777,216 times
+abbrev pub soakMost : ℕ
+soakMost = 16777216
+
 -- a value, and how often it is repeated: 1 to the most that its kind allows
 unfoldable pub ticksFit : ℕ → ℤ → ℕ → Bool
 ticksFit most v n = senseFits v && leb 1 n && leb n most
@@ -74,6 +78,7 @@ countsWanted u (Sense- v) = 0
 countsWanted u (Load- l) = 0
 countsWanted u (OnBus- b) = 0
 countsWanted u (Ticks- v n) = 0
+countsWanted u (Soak- v n) = 0
 
 -- as many as wanted, and 0 in every place after them
 unfoldable pub countsFit : ℕ → Counts → Bool
@@ -98,6 +103,7 @@ eventOf u (Sense- v) xs = means (Sense v)
 eventOf u (Load- l) xs = means (Load l)
 eventOf u (OnBus- b) xs = means (OnBus b)
 eventOf u (Ticks- v n) xs = ticks ticksMost v n
+eventOf u (Soak- v n) xs = ticks soakMost v n
 
 unfoldable pub meantOf : Setup → Coded → Counts → Meant
 meantOf u e k = cond (countsFit (countsWanted u e) k) (eventOf u e (k .of)) unfit

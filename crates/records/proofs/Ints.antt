@@ -2,7 +2,7 @@
 -- Assumes nothing.
 use mathlib.Core.Path.{_≡_, refl, ap, sym, _∙_}
 use Prim.Native.Nat.{ℕ, suc, _+_, _-_, _<_, _≤_, _^_}
-use mathlib.Core.Bool.{Bool, true, false, not, _||_, cond, true≢false}
+use mathlib.Core.Bool.{Bool, true, false, not, _&&_, _||_, cond, true≢false}
 use native.Mathlib.Omega.{arith}
 use native.Mathlib.Numerals.{add-one}
 use lib.IntN.{ℤ, pos, negsuc, _-ℤ_, subℕ}
@@ -11,10 +11,12 @@ use mir.Syntax.{w32}
 use mir.Val.{toZ, ofZ, SFits}
 use mir.Facts.{toZ-pos, toZ-ofZ}
 use borrow.Author.Tests.{lt-ltb, le-ltb, ltb-true, ltb-false, leb-true, leb-false}
-use Rattle.events.specs.Event.{senseFits, ticksMost, ticksFit}
-use Rattle.events.specs.declared.Event.the-variants.{Sense, Ticks}
+use Rattle.events.specs.Event.{senseFits, ticksFit}
+use Rattle.events.specs.declared.Event.{Event}
+use Rattle.events.specs.declared.Event.the-variants.{Sense}
 use Rattle.records.specs.Numbers.{signed32}
-use Rattle.records.specs.Record.{senseOf, ticksOf}
+use Rattle.records.specs.Record.{senseOf, repeatOf}
+use Rattle.records.specs.Sound.{and-left}
 use Rattle.records.specs.Ranges.{fits-pos, fits-neg, as-pos, as-neg}
 use Rattle.records.specs.declared.Payload.the-variants.{Whole, Unfit}
 
@@ -72,10 +74,20 @@ pub sense-far : (u : ℕ) → senseFits (signed32 u) ≡ false → Unfit 3 ≡ s
 unfolding senseOf
 sense-far u n = ap (λ (t : Bool). cond t (Whole (Sense (signed32 u))) (Unfit 3)) (sym n)
 
-pub ticks-near : (u n : ℕ) (z : ℤ) → ticksFit ticksMost (signed32 u) n ≡ true → z ≡ signed32 u → Whole (Ticks z n) ≡ ticksOf u n
-unfolding ticksOf
-ticks-near u n z f e = ap (λ (z : ℤ). Whole (Ticks z n)) e ∙ ap (λ (t : Bool). cond t (Whole (Ticks (signed32 u) n)) (Unfit 3)) (sym f)
+-- ticks of it, of either kind
+module _ (event : ℤ → ℕ → Event) (most u n : ℕ) where
+  pub ticks-near : (z : ℤ) → ticksFit most (signed32 u) n ≡ true → z ≡ signed32 u → Whole (event z n) ≡ repeatOf event most u n
+  unfolding repeatOf
+  ticks-near z f e = ap (λ (z : ℤ). Whole (event z n)) e ∙ ap (λ (t : Bool). cond t (Whole (event (signed32 u) n)) (Unfit 3)) (sym f)
 
-pub ticks-far : (u n : ℕ) → ticksFit ticksMost (signed32 u) n ≡ false → Unfit 3 ≡ ticksOf u n
-unfolding ticksOf
-ticks-far u n f = ap (λ (t : Bool). cond t (Whole (Ticks (signed32 u) n)) (Unfit 3)) (sym f)
+  pub ticks-far : ticksFit most (signed32 u) n ≡ false → Unfit 3 ≡ repeatOf event most u n
+  unfolding repeatOf
+  ticks-far f = ap (λ (t : Bool). cond t (Whole (event (signed32 u) n)) (Unfit 3)) (sym f)
+
+  -- as the code tests it, once it is told whether the value is near
+  pub near-fits : (t : Bool) → t ≡ senseFits (signed32 u) → ticksFit most (signed32 u) n ≡ (t && leb 1 n && leb n most)
+  unfolding ticksFit
+  near-fits t e = ap (λ (t : Bool). t && leb 1 n && leb n most) (sym e)
+
+  pub fits-near : (t : Bool) → t ≡ senseFits (signed32 u) → (t && leb 1 n && leb n most) ≡ true → senseFits (signed32 u) ≡ true
+  fits-near t e h = sym e ∙ and-left t (leb 1 n) (and-left (t && leb 1 n) (leb n most) h)

@@ -11,15 +11,15 @@ use lib.ListN.{length, getD, take, drop}
 use lib.IntN.{ℤ}
 use borrow.Author.Tests.{eqb-true, leb-true, ne-eqb}
 use Rattle.events.specs.Setup.{setupFits, setupOf, checkedOf, groups, inputs}
-use Rattle.events.specs.Event.{within, countMost, senseFits, ticksMost, ticksFit, fits, countsFit, inRange, meantOf}
+use Rattle.events.specs.Event.{within, countMost, senseFits, ticksMost, soakMost, ticksFit, fits, countsFit, inRange, meantOf}
 use Rattle.events.specs.declared.Setup.{Setup as SetupValues}
 use Rattle.events.specs.declared.Counts.{Counts}
 use Rattle.events.specs.declared.BusEvent.the-variants.{Start, Out, In, Stop}
 use Rattle.events.specs.declared.Event.{Event}
-use Rattle.events.specs.declared.Event.the-variants.{Setup, Por, Boot, Scan, Temp, Count, Sense, Pin, Load, Xready, OnBus, Ticks}
+use Rattle.events.specs.declared.Event.the-variants.{Setup, Por, Boot, Scan, Temp, Count, Sense, Pin, Load, Xready, OnBus, Ticks, Soak}
 use Rattle.records.specs.Numbers.{le16, le32, signed32, bitOf, words}
 use Rattle.records.specs.Kind.{SETUP}
-use Rattle.records.specs.Record.{setupGood, checkedIn, setupIn, countedIn, senseOf, ticksOf, payloadOf, laterOf, readOf, groupsAt, inputsAt, countsOf, countsIn, countsBeside}
+use Rattle.records.specs.Record.{setupGood, checkedIn, setupIn, countedIn, senseOf, repeatOf, ticksOf, soakOf, payloadOf, laterOf, readOf, groupsAt, inputsAt, countsOf, countsIn, countsBeside}
 use Rattle.records.specs.Counted.{counts-fit, counts-taken, few-groups, few-inputs}
 use Rattle.records.specs.Reading.{WholeAt, read-whole, later-by, cond-by}
 use Rattle.records.specs.declared.Payload.{Payload}
@@ -67,6 +67,7 @@ IsSetup (Load l) = ⊥
 IsSetup Xready = ⊥
 IsSetup (OnBus b) = ⊥
 IsSetup (Ticks v n) = ⊥
+IsSetup (Soak v n) = ⊥
 
 abbrev FirstOk : Payload → Type 0
 FirstOk (Whole e) = IsSetup e
@@ -126,7 +127,7 @@ module _ (u : SetupValues) (b : List ℕ) where
       simp f (ap (within countMost) (counts-taken b (groups u) n few) ∙ w)
 
 later-ok : (u : SetupValues) (kind : ℕ) (b : List ℕ) → LaterOk u b (laterOf kind (u .part) b)
-unfolding countedIn senseOf ticksOf meantOf countsFit countsIn fits
+unfolding countedIn senseOf repeatOf meantOf countsFit countsIn fits
 later-ok u kind b =
     later-by (λ (kind : ℕ) (p : Payload). LaterOk u b p) (u .part) b
     (sized 0 (Whole Por) (λ l. refl))
@@ -142,7 +143,8 @@ later-ok u kind b =
     (sized 1 (Whole (OnBus (Out (getD b 0 0)))) (λ l. refl))
     (sized 1 (cond bit (Whole (OnBus (In level))) (Unfit 3)) (λ l. ranged bit (Whole (OnBus (In level))) (λ f. refl)))
     (sized 0 (Whole (OnBus Stop)) (λ l. refl))
-    (sized 6 (ticksOf (le32 b 0) (le16 b 4)) (λ l. ranged (ticksFit ticksMost value (le16 b 4)) (Whole (Ticks value (le16 b 4))) (λ f. f)))
+    (sized 6 (repeatOf ticksOf ticksMost (le32 b 0) (le16 b 4)) (λ l. ranged (ticksFit ticksMost value (le16 b 4)) (Whole (Ticks value (le16 b 4))) (λ f. f)))
+    (sized 8 (repeatOf soakOf soakMost (le32 b 0) (le32 b 4)) (λ l. ranged (ticksFit soakMost value (le32 b 4)) (Whole (Soak value (le32 b 4))) (λ f. f)))
     (λ (k : ℕ). tt)
     kind
   where

@@ -3,10 +3,10 @@ ghost use mathlib.Core.Path.{_≡_};
 ghost use mathlib.Core.Bool.{true};
 ghost use Prim.Native.Nat.{_+_, _<_, _≤_};
 ghost use lib.ListN.{length};
-ghost use Rattle.events.specs.Event.{countMost, senseFits, within};
+ghost use Rattle.events.specs.Event.{countMost, senseFits, ticksMost, soakMost, within};
 ghost use Rattle.records.specs.Numbers.{le16, le32, signed32, words, wordOr, filled};
 ghost use Rattle.records.specs.Frame.{frameOf, headerOf};
-ghost use Rattle.records.specs.Record.{senseOf, ticksOf, ticksIn, setupIn, bareIn, countedIn, countIn, senseIn, switchIn, loadOf, inOf, outIn, groupsAt, inputsAt, laterOf, payloadOf, readOf, numberOf, noCounts, countsOf, countsIn, takenAt};
+ghost use Rattle.records.specs.Record.{senseOf, repeatOf, ticksOf, ticksIn, soakOf, soakIn, setupIn, bareIn, countedIn, countIn, senseIn, switchIn, loadOf, inOf, outIn, groupsAt, inputsAt, laterOf, payloadOf, readOf, numberOf, noCounts, countsOf, countsIn, takenAt};
 use events::BusEvent;
 use events::Checked;
 use events::Counts;
@@ -83,10 +83,20 @@ fn sense(u: u32) -> Payload
 
 // The same, to be repeated 1 to 4,096 times.
 fn ticks(u: u32, n: u16) -> Payload
-    ensures { λ r. ⌜ r ≡ ticksOf u n ⌝ }
+    ensures { λ r. ⌜ r ≡ repeatOf ticksOf ticksMost u n ⌝ }
 {
     if near(u) & (1 <= n) & (n <= 4096) {
         return Payload::Whole(Event::Ticks(signed(u), n));
+    }
+    Payload::Unfit(3)
+}
+
+// Or 1 to 16,777,216 times.
+fn soak(u: u32, n: u32) -> Payload
+    ensures { λ r. ⌜ r ≡ repeatOf soakOf soakMost u n ⌝ }
+{
+    if near(u) & (1 <= n) & (n <= 16777216) {
+        return Payload::Whole(Event::Soak(signed(u), n));
     }
     Payload::Unfit(3)
 }
@@ -170,6 +180,15 @@ fn ticks_in(b: &[u8]) -> Payload
     ticks(get32(b, 0), get16(b, 4))
 }
 
+fn soak_in(b: &[u8]) -> Payload
+    ensures { λ r. ⌜ r ≡ soakIn (now (b .entry)) ⌝ }
+{
+    if b.len() != 8 {
+        return Payload::Unfit(2);
+    }
+    soak(get32(b, 0), get32(b, 4))
+}
+
 fn load_in(b: &[u8]) -> Payload
     ensures { λ r. ⌜ r ≡ switchIn loadOf (now (b .entry)) ⌝ }
 {
@@ -237,6 +256,7 @@ fn later_of(kind: u16, part: u8, b: &[u8]) -> Payload
         0x0012 => host_in(b),
         0x0013 => bare_in(Event::OnBus(BusEvent::Stop), b),
         0x0014 => ticks_in(b),
+        0x0017 => soak_in(b),
         _ => Payload::Unfit(2),
     }
 }
@@ -344,6 +364,7 @@ pub fn counts_in(event: Event, payload: &[u8]) -> Counts
         Event::Xready => no_counts(),
         Event::OnBus(_) => no_counts(),
         Event::Ticks(_, _) => no_counts(),
+        Event::Soak(_, _) => no_counts(),
     }
 }
 

@@ -152,7 +152,9 @@ fn refused(chip: Chip) -> Chip {
     let chip = counted(chip, Event::Ticks(0, 0), 1, 0, 0);
     let chip = plain(chip, Event::Ticks(0, 0));
     let chip = plain(chip, Event::Ticks(0, 4097));
-    plain(chip, Event::Ticks(-500001, 1))
+    let chip = plain(chip, Event::Ticks(-500001, 1));
+    let chip = plain(chip, Event::Soak(0, 0));
+    plain(chip, Event::Soak(0, 16777217))
 }
 
 // Number 4, and a bus that stays idle.
@@ -160,6 +162,7 @@ fn asleep(chip: Chip) -> Chip {
     let chip = counted(chip, Event::Scan, 5, 16383, 0);
     let chip = plain(chip, Event::Sense(-500000));
     let chip = plain(chip, Event::Ticks(-500000, 4096));
+    let chip = plain(chip, Event::Soak(-500000, 16777216));
     let chip = plain(chip, Event::Xready);
     let chip = on_bus(chip, BusEvent::Start);
     let chip = out(chip, 0x10);
@@ -180,7 +183,8 @@ fn fault(chip: Chip) -> Chip {
     chip
 }
 
-// 255 ticks and one more raise OCD, with a refused record between them that changes nothing; then two and one raise SCD.
+// 255 ticks and one more raise OCD, with a refused record between them that changes nothing; then two and one raise SCD; then 40,959 and one more
+// raise OCD at its longest delay.
 fn drawn(chip: Chip) -> Chip {
     let chip = plain(chip, Event::Ticks(-9500, 4096));
     let chip = plain(chip, Event::Ticks(-9501, 255));
@@ -189,6 +193,11 @@ fn drawn(chip: Chip) -> Chip {
     let chip = write(chip, 0x00, 0x01, 0);
     let chip = plain(chip, Event::Ticks(-18501, 2));
     let chip = plain(chip, Event::Sense(-18501));
+    let chip = write(chip, 0x00, 0x03, 0);
+    let chip = write(chip, 0x07, 0x70, 0);
+    let chip = plain(chip, Event::Soak(0, 16777216));
+    let chip = plain(chip, Event::Soak(-9501, 40959));
+    let chip = plain(chip, Event::Soak(-9501, 1));
     let chip = write(chip, 0x00, 0x03, 0);
     write(chip, 0x05, 0x03, 0)
 }

@@ -13,7 +13,7 @@ use Rattle.events.specs.declared.Setup.{Setup as SetupValues}
 use Rattle.events.specs.declared.Counts.{Counts}
 use Rattle.events.specs.declared.BusEvent.{BusEvent}
 use Rattle.events.specs.declared.Event.{Event}
-use Rattle.events.specs.declared.Event.the-variants.{Setup, Por, Boot, Scan, Temp, Count, Sense, Pin, Load, Xready, OnBus, Ticks}
+use Rattle.events.specs.declared.Event.the-variants.{Setup, Por, Boot, Scan, Temp, Count, Sense, Pin, Load, Xready, OnBus, Ticks, Soak}
 use Rattle.events.specs.Event.{Event as Happening, Scan as Scanned, Sense as Ticked, OnBus as Signalled, Meant, means, ticks, unfit, fits, inRange, eventOf, meantOf, countsFit, countsWanted}
 use Rattle.events.proofs.Event.{the-type as event-type}
 use Rattle.records.specs.declared.Read.the-variants.{Record}
@@ -66,11 +66,11 @@ checked c e k m = counts-by (countsFit (countsWanted (c .setup) e) k) (eventOf (
 
 -- no SETUP: what a record that was read does is what happens
 abbrev Later : Event → Type 0
-Later e = OneOf (1 ∷ 2 ∷ 3 ∷ 4 ∷ 5 ∷ 6 ∷ 7 ∷ 8 ∷ 9 ∷ 10 ∷ 11 ∷ []) (tagOf event-type e)
+Later e = OneOf (1 ∷ 2 ∷ 3 ∷ 4 ∷ 5 ∷ 6 ∷ 7 ∷ 8 ∷ 9 ∷ 10 ∷ 11 ∷ 12 ∷ []) (tagOf event-type e)
 
 other-acted : (c : Chip) (e : Event) (k : Counts) → Later e → steppedBy e k c ≡ acted e k c
 unfolding acted
-other-acted c (Setup v) k o = absurd (⊎-elim (λ h. omega arith) (⊎-elim (λ h. omega arith) (⊎-elim (λ h. omega arith) (⊎-elim (λ h. omega arith) (⊎-elim (λ h. omega arith) (⊎-elim (λ h. omega arith) (⊎-elim (λ h. omega arith) (⊎-elim (λ h. omega arith) (⊎-elim (λ h. omega arith) (⊎-elim (λ h. omega arith) (λ h. omega arith)))))))))) o)
+other-acted c (Setup v) k o = absurd (⊎-elim (λ h. omega arith) (⊎-elim (λ h. omega arith) (⊎-elim (λ h. omega arith) (⊎-elim (λ h. omega arith) (⊎-elim (λ h. omega arith) (⊎-elim (λ h. omega arith) (⊎-elim (λ h. omega arith) (⊎-elim (λ h. omega arith) (⊎-elim (λ h. omega arith) (⊎-elim (λ h. omega arith) (⊎-elim (λ h. omega arith) (λ h. omega arith))))))))))) o)
 other-acted c Por k o = refl
 other-acted c Boot k o = refl
 other-acted c Scan k o = refl
@@ -82,9 +82,10 @@ other-acted c (Load l) k o = refl
 other-acted c Xready k o = refl
 other-acted c (OnBus b) k o = refl
 other-acted c (Ticks v n) k o = refl
+other-acted c (Soak v n) k o = refl
 
 other-first : (e : Event) → IsSetup e → Later e → ⊥
-other-first (Setup v) f o = ⊎-elim (λ h. omega arith) (⊎-elim (λ h. omega arith) (⊎-elim (λ h. omega arith) (⊎-elim (λ h. omega arith) (⊎-elim (λ h. omega arith) (⊎-elim (λ h. omega arith) (⊎-elim (λ h. omega arith) (⊎-elim (λ h. omega arith) (⊎-elim (λ h. omega arith) (⊎-elim (λ h. omega arith) (λ h. omega arith)))))))))) o
+other-first (Setup v) f o = ⊎-elim (λ h. omega arith) (⊎-elim (λ h. omega arith) (⊎-elim (λ h. omega arith) (⊎-elim (λ h. omega arith) (⊎-elim (λ h. omega arith) (⊎-elim (λ h. omega arith) (⊎-elim (λ h. omega arith) (⊎-elim (λ h. omega arith) (⊎-elim (λ h. omega arith) (⊎-elim (λ h. omega arith) (⊎-elim (λ h. omega arith) (λ h. omega arith))))))))))) o
 other-first Por f o = f
 other-first Boot f o = f
 other-first Scan f o = f
@@ -96,6 +97,7 @@ other-first (Load l) f o = f
 other-first Xready f o = f
 other-first (OnBus b) f o = f
 other-first (Ticks v n) f o = f
+other-first (Soak v n) f o = f
 
 meaning : (c : Chip) (r : List ℕ) (e : Event) (next : ℕ) (t : Bool) → eqb (c .setup .part) 0 ≡ t → readOf (c .setup .part) r ≡ Record e next → Later e
     → Meaning (c .setup) e (countsBeside r (Record e next))
@@ -126,6 +128,7 @@ other-often (Load l) q = absurd (clash q)
 other-often Xready q = absurd (clash q)
 other-often (OnBus b) q = inr (inr (inr (inr (inr (inr (inr (inr (inr (inl refl)))))))))
 other-often (Ticks v n) q = absurd (clash q)
+other-often (Soak v n) q = absurd (clash q)
 
 pub as-event : {s : Stepped} {e e′ : Event} (xs : List ℕ) (c : Chip) → e ≡ e′ → s ≡ happenedBy e′ xs c → s ≡ happenedBy e xs c
 as-event xs c q h = h ∙ ap (λ (e : Event). happenedBy e xs c) (sym q)
@@ -135,19 +138,20 @@ pub often-is : {s : Stepped} (c : Chip) (r : List ℕ) (e e′ : Event) (next : 
 often-is c r e e′ next xs q t o b h = other-is c r e next xs q (other-often e (ap often t ∙ o)) b (as-event xs c t h)
 
 -- what is seldom done is other work
-pub seldom-work : (e : Event) → OneOf (0 ∷ 1 ∷ 2 ∷ 4 ∷ 5 ∷ 7 ∷ 8 ∷ 9 ∷ 11 ∷ []) (tagOf event-type e) → Other ≡ awakeWork e
+pub seldom-work : (e : Event) → OneOf (0 ∷ 1 ∷ 2 ∷ 4 ∷ 5 ∷ 7 ∷ 8 ∷ 9 ∷ 11 ∷ 12 ∷ []) (tagOf event-type e) → Other ≡ awakeWork e
 seldom-work (Setup v) o = refl
 seldom-work Por o = refl
 seldom-work Boot o = refl
-seldom-work Scan o = absurd (⊎-elim (λ h. omega arith) (⊎-elim (λ h. omega arith) (⊎-elim (λ h. omega arith) (⊎-elim (λ h. omega arith) (⊎-elim (λ h. omega arith) (⊎-elim (λ h. omega arith) (⊎-elim (λ h. omega arith) (⊎-elim (λ h. omega arith) (λ h. omega arith)))))))) o)
+seldom-work Scan o = absurd (⊎-elim (λ h. omega arith) (⊎-elim (λ h. omega arith) (⊎-elim (λ h. omega arith) (⊎-elim (λ h. omega arith) (⊎-elim (λ h. omega arith) (⊎-elim (λ h. omega arith) (⊎-elim (λ h. omega arith) (⊎-elim (λ h. omega arith) (⊎-elim (λ h. omega arith) (λ h. omega arith))))))))) o)
 seldom-work Temp o = refl
 seldom-work (Count n) o = refl
-seldom-work (Sense v) o = absurd (⊎-elim (λ h. omega arith) (⊎-elim (λ h. omega arith) (⊎-elim (λ h. omega arith) (⊎-elim (λ h. omega arith) (⊎-elim (λ h. omega arith) (⊎-elim (λ h. omega arith) (⊎-elim (λ h. omega arith) (⊎-elim (λ h. omega arith) (λ h. omega arith)))))))) o)
+seldom-work (Sense v) o = absurd (⊎-elim (λ h. omega arith) (⊎-elim (λ h. omega arith) (⊎-elim (λ h. omega arith) (⊎-elim (λ h. omega arith) (⊎-elim (λ h. omega arith) (⊎-elim (λ h. omega arith) (⊎-elim (λ h. omega arith) (⊎-elim (λ h. omega arith) (⊎-elim (λ h. omega arith) (λ h. omega arith))))))))) o)
 seldom-work Pin o = refl
 seldom-work (Load l) o = refl
 seldom-work Xready o = refl
-seldom-work (OnBus b) o = absurd (⊎-elim (λ h. omega arith) (⊎-elim (λ h. omega arith) (⊎-elim (λ h. omega arith) (⊎-elim (λ h. omega arith) (⊎-elim (λ h. omega arith) (⊎-elim (λ h. omega arith) (⊎-elim (λ h. omega arith) (⊎-elim (λ h. omega arith) (λ h. omega arith)))))))) o)
+seldom-work (OnBus b) o = absurd (⊎-elim (λ h. omega arith) (⊎-elim (λ h. omega arith) (⊎-elim (λ h. omega arith) (⊎-elim (λ h. omega arith) (⊎-elim (λ h. omega arith) (⊎-elim (λ h. omega arith) (⊎-elim (λ h. omega arith) (⊎-elim (λ h. omega arith) (⊎-elim (λ h. omega arith) (λ h. omega arith))))))))) o)
 seldom-work (Ticks v n) o = refl
+seldom-work (Soak v n) o = refl
 
 -- in SHIP
 off : (a t : Bool) → (a && t) ≡ false → t ≡ true → a ≡ false

@@ -4,7 +4,7 @@ use mathlib.Core.Bool.{Bool, true, false, cond, _&&_}
 use Rattle.events.specs.declared.Event.{Event}
 use Rattle.stream.specs.declared.Work.{Work}
 use Rattle.stream.specs.declared.Work.the-variants.{Scans, Ticks, Hears, Other}
-use Rattle.events.specs.declared.Event.the-variants.{Setup, Por, Boot, Scan, Temp, Count, Sense, Pin, Load, Xready, OnBus, Ticks as Repeated}
+use Rattle.events.specs.declared.Event.the-variants.{Setup, Por, Boot, Scan, Temp, Count, Sense, Pin, Load, Xready, OnBus, Ticks as Repeated, Soak}
 
 abbrev pub often : Event → Bool
 often (Setup v) = false
@@ -19,6 +19,7 @@ often (Load l) = false
 often Xready = false
 often (OnBus b) = true
 often (Repeated v n) = false
+often (Soak v n) = false
 
 -- ── and what each is to the loop, in NORMAL and in SHIP ──
 abbrev pub awakeWork : Event → Work
@@ -34,6 +35,7 @@ awakeWork (Load l) = Other
 awakeWork Xready = Other
 awakeWork (OnBus b) = Hears b
 awakeWork (Repeated v n) = Other
+awakeWork (Soak v n) = Other
 
 unfoldable pub workOf : Bool → Event → Work
 workOf a e = cond a (awakeWork e) Other
@@ -60,3 +62,4 @@ sorted true (Load l) = refl
 sorted true Xready = refl
 sorted true (OnBus b) = (refl, refl)
 sorted true (Repeated v n) = refl
+sorted true (Soak v n) = refl

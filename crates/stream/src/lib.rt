@@ -142,7 +142,8 @@ fn work_of(awake: bool, event: Event) -> Work
         | Event::Pin
         | Event::Load(_)
         | Event::Xready
-        | Event::Ticks(_, _) => Work::Other,
+        | Event::Ticks(_, _)
+        | Event::Soak(_, _) => Work::Other,
     }
 }
 
@@ -164,6 +165,7 @@ fn seldom(chip: Chip, event: Event, counts: [u16; 15]) -> Stepped
         Event::Xready => chip.xready(),
         Event::OnBus(bus) => chip.doze(bus),
         Event::Ticks(value, repeat) => chip.ticked(value, repeat as u32),
+        Event::Soak(value, repeat) => chip.ticked(value, repeat),
     }
 }
 

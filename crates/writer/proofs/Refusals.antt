@@ -14,10 +14,9 @@ use Rattle.events.specs.declared.BusEvent.{BusEvent}
 use Rattle.events.specs.declared.BusEvent.the-variants.{Start, Out, In, Stop}
 use Rattle.events.specs.declared.Event.{Event}
 use Rattle.events.specs.declared.Event.the-variants.{Setup as SetupEvent, OnBus}
-use Rattle.records.specs.Kind.{TICKS}
 use Rattle.records.specs.Numbers.{bitOf}
 use Rattle.records.specs.Record.{setupGood, noCounts}
-use Rattle.writer.specs.Write.{recordOf, recordFor, bytes16, bytes32, bits32, valueRefusal, refusalFor, Writes, Puts}
+use Rattle.writer.specs.Write.{recordOf, recordFor, bytes32, bits32, valueRefusal, refusalFor, Writes, Puts}
 use Rattle.writer.specs.Checked.{refusalAt, other, refusal-is}
 use Rattle.writer.specs.declared.Wrote.{Wrote}
 use Rattle.writer.specs.declared.Wrote.the-variants.{Refused}
@@ -44,9 +43,9 @@ at-record k old {r} {new} q p = subst (λ (e : Event). Writes (recordFor e k) ol
 pub at-bits : {old new : List ℕ} {r : Wrote} {u : ℕ} {y z : ℤ} → u ≡ bits32 y → y ≡ z → Writes (recordOf 6 (bytes32 u)) old r new → Writes (recordOf 6 (bytes32 (bits32 z))) old r new
 at-bits {old} {new} {r} q e p = subst (λ (u : ℕ). Writes (recordOf 6 (bytes32 u)) old r new) (q ∙ ap bits32 e) p
 
-pub at-ticks : (n : ℕ) {old new : List ℕ} {r : Wrote} {u : ℕ} {y z : ℤ} → u ≡ bits32 y → y ≡ z
-    → Writes (recordOf TICKS (bytes32 u ++ bytes16 n)) old r new → Writes (recordOf TICKS (bytes32 (bits32 z) ++ bytes16 n)) old r new
-at-ticks n {old} {new} {r} q e p = subst (λ (u : ℕ). Writes (recordOf TICKS (bytes32 u ++ bytes16 n)) old r new) (q ∙ ap bits32 e) p
+pub at-ticks : (kind : ℕ) (tail : List ℕ) {old new : List ℕ} {r : Wrote} {u : ℕ} {y z : ℤ} → u ≡ bits32 y → y ≡ z
+    → Writes (recordOf kind (bytes32 u ++ tail)) old r new → Writes (recordOf kind (bytes32 (bits32 z) ++ tail)) old r new
+at-ticks kind tail {old} {new} {r} q e p = subst (λ (u : ℕ). Writes (recordOf kind (bytes32 u ++ tail)) old r new) (q ∙ ap bits32 e) p
 
 pub at-bit : (kind : ℕ) (t : Bool) {old new : List ℕ} {r : Wrote} {n : ℕ} → n ≡ bitOf t → Writes (recordOf kind (n ∷ [])) old r new → Writes (recordOf kind (bitOf t ∷ [])) old r new
 at-bit kind t {old} {new} {r} q p = subst (λ (n : ℕ). Writes (recordOf kind (n ∷ [])) old r new) q p

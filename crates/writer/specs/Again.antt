@@ -11,15 +11,15 @@ use lib.ListN.{length, getD, take, drop, length-drop}
 use lib.Seq.{length-take-le}
 use borrow.Author.Tests.{le-leb, eqb-true, ne-eqb}
 use Rattle.events.specs.Setup.{setupFits, checkedOf}
-use Rattle.events.specs.Event.{within, countMost, senseFits, ticksMost, ticksFit, fits, countsWanted, countsFit, Meant, unfit, eventOf, meantOf, inRange}
+use Rattle.events.specs.Event.{within, countMost, senseFits, ticksMost, soakMost, ticksFit, fits, countsWanted, countsFit, Meant, unfit, eventOf, meantOf, inRange}
 use Rattle.events.specs.declared.Setup.{Setup as SetupValues}
 use Rattle.events.specs.declared.Counts.{Counts}
 use Rattle.events.specs.declared.BusEvent.the-variants.{Start, Out, In, Stop}
 use Rattle.events.specs.declared.Event.{Event}
-use Rattle.events.specs.declared.Event.the-variants.{Setup, Por, Boot, Scan, Temp, Count, Sense, Pin, Load, Xready, OnBus, Ticks}
-use Rattle.records.specs.Kind.{SETUP, POR, BOOT, SCAN, TEMP, COUNT, SENSE, PIN, LOAD, XREADY, START, OUT, IN, STOP, TICKS}
+use Rattle.events.specs.declared.Event.the-variants.{Setup, Por, Boot, Scan, Temp, Count, Sense, Pin, Load, Xready, OnBus, Ticks, Soak}
+use Rattle.records.specs.Kind.{SETUP, POR, BOOT, SCAN, TEMP, COUNT, SENSE, PIN, LOAD, XREADY, START, OUT, IN, STOP, TICKS, SOAK}
 use Rattle.records.specs.Numbers.{le16, le32, signed32, bitOf, words}
-use Rattle.records.specs.Record.{setupGood, checkedIn, setupIn, countedIn, senseOf, ticksOf, groupsAt, inputsAt, standing, laterOf, payloadOf, readOf, countsOf, countsIn, countsBeside}
+use Rattle.records.specs.Record.{setupGood, checkedIn, setupIn, countedIn, senseOf, repeatOf, ticksOf, soakOf, groupsAt, inputsAt, standing, laterOf, payloadOf, readOf, countsOf, countsIn, countsBeside}
 use Rattle.records.specs.Counted.{many-is, counts-taken, few-groups, few-inputs}
 use Rattle.records.specs.Reading.{WholeAt, read-whole, later-by, cond-by}
 use Rattle.records.specs.Sound.{bit-back, crc-back, and-left, IsSetup, first-setup, Meaning, later-means}
@@ -27,7 +27,7 @@ use Rattle.records.specs.declared.Payload.{Payload}
 use Rattle.records.specs.declared.Payload.the-variants.{Whole, Unfit}
 use Rattle.records.specs.declared.Read.the-variants.{Record}
 use Rattle.writer.specs.Write.{bytes16, wordBytes, recordOf, kindFor, payloadFor, countBytes, recordFor, partFor, valueRefusal, refusalFor}
-use Rattle.writer.specs.Bytes.{Bytes, byte-first, byte-rest, bytes-drop, bytes-take, low-forth, high-forth, words-forth, none-forth, one-forth, two-forth, four-forth, six-forth}
+use Rattle.writer.specs.Bytes.{Bytes, byte-first, byte-rest, bytes-drop, bytes-take, low-forth, high-forth, words-forth, none-forth, one-forth, two-forth, four-forth, six-forth, eight-forth}
 use Rattle.checks.specs.Counted.{fit-is}
 use Rattle.writer.specs.Accepted.{Accepted, not-refused}
 
@@ -46,7 +46,7 @@ module _ (b : List ℕ) (h : Bytes b) where
   switch-forth l f = ap (λ (x : ℕ). x ∷ []) (bit-back (getD b 0 0) f) ∙ one-forth b l
 
   later-same : (part kind : ℕ) → Same b kind (laterOf kind part b)
-  unfolding countedIn senseOf ticksOf countsIn
+  unfolding countedIn senseOf repeatOf countsIn
   later-same part kind =
       later-by (Same b) part b
       (sized POR 0 (Whole Por) (λ l. (refl, none-forth b l)))
@@ -62,7 +62,8 @@ module _ (b : List ℕ) (h : Bytes b) where
       (sized OUT 1 (Whole (OnBus (Out (getD b 0 0)))) (λ l. (refl, one-forth b l)))
       (sized IN 1 (cond bit (Whole (OnBus (In level))) (Unfit 3)) (λ l. ranged IN bit (Whole (OnBus (In level))) (λ f. (refl, switch-forth l f))))
       (sized STOP 0 (Whole (OnBus Stop)) (λ l. (refl, none-forth b l)))
-      (sized TICKS 6 (ticksOf (le32 b 0) (le16 b 4)) (λ l. ranged TICKS (ticksFit ticksMost value (le16 b 4)) (Whole (Ticks value (le16 b 4))) (λ f. (refl, six-forth b l h))))
+      (sized TICKS 6 (repeatOf ticksOf ticksMost (le32 b 0) (le16 b 4)) (λ l. ranged TICKS (ticksFit ticksMost value (le16 b 4)) (Whole (Ticks value (le16 b 4))) (λ f. (refl, six-forth b l h))))
+      (sized SOAK 8 (repeatOf soakOf soakMost (le32 b 0) (le32 b 4)) (λ l. ranged SOAK (ticksFit soakMost value (le32 b 4)) (Whole (Soak value (le32 b 4))) (λ f. (refl, eight-forth b l h))))
       (λ (k : ℕ). tt)
       kind
     where
@@ -174,6 +175,7 @@ setup-accepted (Load l) part b h = absurd h
 setup-accepted Xready part b h = absurd h
 setup-accepted (OnBus x) part b h = absurd h
 setup-accepted (Ticks v n) part b h = absurd h
+setup-accepted (Soak v n) part b h = absurd h
 
 meant-by : (t : Bool) (x : Meant) → inRange (cond t x unfit) ≡ true → (t ≡ true) × (inRange x ≡ true)
 meant-by true x h = (refl, h)
@@ -197,6 +199,7 @@ module _ (k : Counts) (part : ℕ) where
   value-fits Xready c f = refl
   value-fits (OnBus b) c f = refl
   value-fits (Ticks v n) c f = simp f
+  value-fits (Soak v n) c f = simp f
 
   stood : (e : Event) → leb 1 part && leb part 3 ≡ true → inRange (eventOf (standing part) e (k .of)) ≡ true → leb 1 (partFor e part) && leb (partFor e part) 3 ≡ true
   stood (Setup v) p f = absurd (true≢false (sym f))
@@ -211,6 +214,7 @@ module _ (k : Counts) (part : ℕ) where
   stood Xready p f = p
   stood (OnBus b) p f = p
   stood (Ticks v n) p f = p
+  stood (Soak v n) p f = p
 
   later-accepted : (e : Event) → leb 1 part && leb part 3 ≡ true → Meaning (standing part) e k → Accepted e k part
   unfolding meantOf

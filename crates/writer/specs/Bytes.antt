@@ -8,10 +8,11 @@ use lib.Dec.{leb, ltb, eqb}
 use lib.IntN.{ℤ, pos, negsuc}
 use lib.ListN.{length, getD, take, drop}
 use borrow.Author.Tests.{leb-true, ltb-true, ltb-false, not-true}
-use Rattle.events.specs.Event.{within, senseFits, senseMost, ticksMost, ticksFit}
-use Rattle.events.specs.declared.Event.the-variants.{Sense, Ticks}
+use Rattle.events.specs.Event.{within, senseFits, senseMost, ticksFit}
+use Rattle.events.specs.declared.Event.{Event}
+use Rattle.events.specs.declared.Event.the-variants.{Sense}
 use Rattle.records.specs.Numbers.{le16, le32, signed32, bitOf, words}
-use Rattle.records.specs.Record.{senseOf, ticksOf}
+use Rattle.records.specs.Record.{senseOf, repeatOf}
 use Rattle.records.specs.Ranges.{fits-pos, fits-neg, as-pos, as-neg}
 use Rattle.records.specs.Sound.{and-left, and-right}
 use Rattle.records.specs.declared.Payload.the-variants.{Whole, Unfit}
@@ -57,11 +58,10 @@ fit-value : (most : ℕ) (z : ℤ) (n : ℕ) → ticksFit most z n ≡ true → 
 unfolding ticksFit
 fit-value most z n h = and-left (senseFits z) (leb 1 n) (and-left (senseFits z && leb 1 n) (leb n most) h)
 
-pub ticks-back : (z : ℤ) (n : ℕ) → ticksFit ticksMost z n ≡ true → ticksOf (bits32 z) n ≡ Whole (Ticks z n)
-unfolding ticksOf
-ticks-back z n h =
-    ap (λ (z : ℤ). cond (ticksFit ticksMost z n) (Whole (Ticks z n)) (Unfit 3)) (value-back z (fit-value ticksMost z n h))
-    ∙ ap (λ (t : Bool). cond t (Whole (Ticks z n)) (Unfit 3)) h
+pub ticks-back : (e : ℤ → ℕ → Event) (most : ℕ) (z : ℤ) (n : ℕ) → ticksFit most z n ≡ true → repeatOf e most (bits32 z) n ≡ Whole (e z n)
+unfolding repeatOf
+ticks-back e most z n h =
+    ap (λ (z : ℤ). cond (ticksFit most z n) (Whole (e z n)) (Unfit 3)) (value-back z (fit-value most z n h)) ∙ ap (λ (t : Bool). cond t (Whole (e z n)) (Unfit 3)) h
 
 -- ── read, then written: the numbers of a list are bytes ──
 abbrev pub Bytes : List ℕ → Type 0
@@ -126,16 +126,19 @@ signed-by u false e h = ap bits32 (as-neg u (ltb-false _ _ e)) ∙ omega arith
 signed-forth : (u : ℕ) → u < 2 ^ 32 → bits32 (signed32 u) ≡ u
 signed-forth u = signed-by u (ltb u 2147483648) refl
 
-four-bytes : (x y z w : ℕ) → x < 256 → y < 256 → z < 256 → w < 256 → bytes32 (bits32 (signed32 (x + 256 * y + 65536 * (z + 256 * w)))) ≡ x ∷ y ∷ z ∷ w ∷ []
-four-bytes x y z w hx hy hz hw =
+-- four bytes as a number, and the bytes of that
+long-bytes : (x y z w : ℕ) → x < 256 → y < 256 → z < 256 → bytes32 (x + 256 * y + 65536 * (z + 256 * w)) ≡ x ∷ y ∷ z ∷ w ∷ []
+long-bytes x y z w hx hy hz =
     let u : ℕ = x + 256 * y + 65536 * (z + 256 * w) in
     let a : u % 65536 ≡ x + 256 * y = omega arith in
     let b : u / 65536 ≡ z + 256 * w = omega arith in
-    ap bytes32 (signed-forth u (omega arith))
-    ∙ ap₂ _∷_ (ap (λ (n : ℕ). n % 256) a ∙ low-forth x y hx)
+    ap₂ _∷_ (ap (λ (n : ℕ). n % 256) a ∙ low-forth x y hx)
     (ap₂ _∷_ (ap (λ (n : ℕ). n / 256) a ∙ high-forth x y hx)
     (ap₂ _∷_ (ap (λ (n : ℕ). n % 256) b ∙ low-forth z w hz)
     (ap (λ (n : ℕ). n ∷ []) (ap (λ (n : ℕ). n / 256) b ∙ high-forth z w hz))))
+
+four-bytes : (x y z w : ℕ) → x < 256 → y < 256 → z < 256 → w < 256 → bytes32 (bits32 (signed32 (x + 256 * y + 65536 * (z + 256 * w)))) ≡ x ∷ y ∷ z ∷ w ∷ []
+four-bytes x y z w hx hy hz hw = ap bytes32 (signed-forth (x + 256 * y + 65536 * (z + 256 * w)) (omega arith)) ∙ long-bytes x y z w hx hy hz
 
 pub four-forth : (b : List ℕ) → length b ≡ 4 → Bytes b → bytes32 (bits32 (signed32 (le32 b 0))) ≡ b
 four-forth [] l h = absurd (omega arith)
@@ -149,15 +152,38 @@ four-forth (x ∷ y ∷ z ∷ w ∷ []) l h =
     four-bytes x y z w (byte-first x (y ∷ z ∷ w ∷ []) h) (byte-first y (z ∷ w ∷ []) h1) (byte-first z (w ∷ []) h2) (byte-first w [] h3)
 four-forth (x ∷ y ∷ z ∷ w ∷ v ∷ b) l h = absurd (omega arith)
 
--- a value of four bytes, then a number of two
+-- a number of four bytes without a sign
+pub long-forth : (b : List ℕ) → length b ≡ 4 → Bytes b → bytes32 (le32 b 0) ≡ b
+long-forth [] l h = absurd (omega arith)
+long-forth (x ∷ []) l h = absurd (omega arith)
+long-forth (x ∷ y ∷ []) l h = absurd (omega arith)
+long-forth (x ∷ y ∷ z ∷ []) l h = absurd (omega arith)
+long-forth (x ∷ y ∷ z ∷ w ∷ []) l h =
+    let h1 : Bytes (y ∷ z ∷ w ∷ []) = byte-rest x (y ∷ z ∷ w ∷ []) h in
+    let h2 : Bytes (z ∷ w ∷ []) = byte-rest y (z ∷ w ∷ []) h1 in
+    long-bytes x y z w (byte-first x (y ∷ z ∷ w ∷ []) h) (byte-first y (z ∷ w ∷ []) h1) (byte-first z (w ∷ []) h2)
+long-forth (x ∷ y ∷ z ∷ w ∷ v ∷ b) l h = absurd (omega arith)
+
+-- a value of four bytes, then a number whose bytes are the rest of them
+value-then : (n : ℕ) (tail : List ℕ → List ℕ) → ((b : List ℕ) → length b ≡ n → Bytes b → tail b ≡ b)
+    → (x y z w : ℕ) (b : List ℕ) → length b ≡ n → Bytes (x ∷ y ∷ z ∷ w ∷ b)
+    → bytes32 (bits32 (signed32 (le32 (x ∷ y ∷ z ∷ w ∷ b) 0))) ++ tail b ≡ x ∷ y ∷ z ∷ w ∷ b
+value-then n tail forth x y z w b l h =
+    let h1 : Bytes (y ∷ z ∷ w ∷ b) = byte-rest x (y ∷ z ∷ w ∷ b) h in
+    let h2 : Bytes (z ∷ w ∷ b) = byte-rest y (z ∷ w ∷ b) h1 in
+    let h3 : Bytes (w ∷ b) = byte-rest z (w ∷ b) h2 in
+    ap₂ _++_ (four-bytes x y z w (byte-first x (y ∷ z ∷ w ∷ b) h) (byte-first y (z ∷ w ∷ b) h1) (byte-first z (w ∷ b) h2) (byte-first w b h3)) (forth b l (byte-rest w b h3))
+
 pub six-forth : (b : List ℕ) → length b ≡ 6 → Bytes b → bytes32 (bits32 (signed32 (le32 b 0))) ++ bytes16 (le16 b 4) ≡ b
 six-forth [] l h = absurd (omega arith)
 six-forth (x ∷ []) l h = absurd (omega arith)
 six-forth (x ∷ y ∷ []) l h = absurd (omega arith)
 six-forth (x ∷ y ∷ z ∷ []) l h = absurd (omega arith)
-six-forth (x ∷ y ∷ z ∷ w ∷ b) l h =
-    let h1 : Bytes (y ∷ z ∷ w ∷ b) = byte-rest x (y ∷ z ∷ w ∷ b) h in
-    let h2 : Bytes (z ∷ w ∷ b) = byte-rest y (z ∷ w ∷ b) h1 in
-    let h3 : Bytes (w ∷ b) = byte-rest z (w ∷ b) h2 in
-    ap₂ _++_ (four-bytes x y z w (byte-first x (y ∷ z ∷ w ∷ b) h) (byte-first y (z ∷ w ∷ b) h1) (byte-first z (w ∷ b) h2) (byte-first w b h3))
-    (two-forth b (omega arith) (byte-rest w b h3))
+six-forth (x ∷ y ∷ z ∷ w ∷ b) l h = value-then 2 (λ b. bytes16 (le16 b 0)) two-forth x y z w b (omega arith) h
+
+pub eight-forth : (b : List ℕ) → length b ≡ 8 → Bytes b → bytes32 (bits32 (signed32 (le32 b 0))) ++ bytes32 (le32 b 4) ≡ b
+eight-forth [] l h = absurd (omega arith)
+eight-forth (x ∷ []) l h = absurd (omega arith)
+eight-forth (x ∷ y ∷ []) l h = absurd (omega arith)
+eight-forth (x ∷ y ∷ z ∷ []) l h = absurd (omega arith)
+eight-forth (x ∷ y ∷ z ∷ w ∷ b) l h = value-then 4 (λ b. bytes32 (le32 b 0)) long-forth x y z w b (omega arith) h

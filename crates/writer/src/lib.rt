@@ -127,6 +127,28 @@ fn write_ticks(out: &mut [u8], kind: u16, u: u32, n: u16) -> Wrote
     Wrote::Done(10)
 }
 
+// A record whose payload is two numbers of 4 bytes.
+fn write_soak(out: &mut [u8], kind: u16, u: u32, n: u32) -> Wrote
+    ensures { λ r. ⌜ Writes (recordOf kind (bytes32 u ++ bytes32 n)) (now (out .entry)) r (now (out .exit)) ⌝ }
+{
+    if out.len() < 12 {
+        return Wrote::Refused(5);
+    }
+    out[0] = 8;
+    out[1] = 0;
+    out[2] = (kind % 256) as u8;
+    out[3] = (kind / 256) as u8;
+    out[4] = (u % 65536 % 256) as u8;
+    out[5] = (u % 65536 / 256) as u8;
+    out[6] = (u / 65536 % 256) as u8;
+    out[7] = (u / 65536 / 256) as u8;
+    out[8] = (n % 65536 % 256) as u8;
+    out[9] = (n % 65536 / 256) as u8;
+    out[10] = (n / 65536 % 256) as u8;
+    out[11] = (n / 65536 / 256) as u8;
+    Wrote::Done(12)
+}
+
 // SETUP's record.
 fn write_setup(out: &mut [u8], v: Setup) -> Wrote
     ensures { λ r. ⌜ Writes (recordOf 0 (setupBytes v)) (now (out .entry)) r (now (out .exit)) ⌝ }
@@ -236,6 +258,7 @@ fn refusal(event: Event, counts: Counts, part: u8) -> u8
         Event::Xready => refusal_at(event, counts, part),
         Event::OnBus(_) => refusal_at(event, counts, part),
         Event::Ticks(_, _) => refusal_at(event, counts, part),
+        Event::Soak(_, _) => refusal_at(event, counts, part),
     }
 }
 
@@ -268,6 +291,7 @@ fn put_event(event: Event, counts: Counts, out: &mut [u8]) -> Wrote
         Event::Xready => write_bare(out, 0x0009),
         Event::OnBus(bus) => put_bus(bus, out),
         Event::Ticks(v, n) => write_ticks(out, 0x0014, bits_of(v), n),
+        Event::Soak(v, n) => write_soak(out, 0x0017, bits_of(v), n),
     }
 }
 

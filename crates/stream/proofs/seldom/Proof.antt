@@ -48,6 +48,13 @@ returns-12 c =
     let e : toZ w32 (ofZ w32 z) ≡ z = search needs in
     as-event (a .args .counts) (a .args .chip) (c .before .before .event4 .given .1) (c .ticked .ensures ∙ ap (λ v. ticked (c .before .before .event4 .given .0 .1 .0) v (a .args .chip)) e)
 
+returns-13 : tie.Need-returns-13
+returns-13 c =
+    let a = c .before .before .before .before in
+    let z = c .before .before .event5 .given .0 .0 in
+    let e : toZ w32 (ofZ w32 z) ≡ z = search needs in
+    as-event (a .args .counts) (a .args .chip) (c .before .before .event5 .given .1) (c .ticked2 .ensures ∙ ap (λ v. ticked (c .before .before .event5 .given .0 .1 .0) v (a .args .chip)) e)
+
 pub seldom-spec : {M : Type 1} → statement M
 seldom-spec =
     tie.close
@@ -77,6 +84,8 @@ seldom-spec =
     (λ c. search needs)
     (λ c. search needs)
     (λ c κs. search needs)
+    (λ c. search needs)
+    (λ c κs. search needs)
     returns
     returns-2
     returns-3
@@ -88,4 +97,5 @@ seldom-spec =
     returns-9
     returns-10
     returns-11
-    returns-12)
+    returns-12
+    returns-13)

@@ -2,7 +2,8 @@
 use mathlib.Core.Path.{_≡_}
 use mir.Syntax.{w32}
 use mir.Val.{toZ, ofZ}
-use Rattle.writer.specs.Write.{recordFor}
+use Rattle.records.specs.Kind.{TICKS, SOAK}
+use Rattle.writer.specs.Write.{recordFor, bytes16, bytes32}
 use Rattle.writer.proofs.Refusals.{at-record, at-bits, at-ticks, at-bit, at-bus}
 use borrow.Author.Needs.{needs}
 use Rattle.writer.proofs.put_event.Statement.{statement}
@@ -67,7 +68,16 @@ returns-12 c =
     let g = w .before .before .before .before in
     let z = g .event6 .given .0 .0 in
     let e : toZ w32 (ofZ w32 z) ≡ z = search needs in
-    at-record _ _ (g .event6 .given .1) (at-ticks (g .event6 .given .0 .1 .0) {z = z} (w .before .bits-of2 .ensures) e (w .write-ticks .ensures))
+    at-record _ _ (g .event6 .given .1) (at-ticks TICKS (bytes16 (g .event6 .given .0 .1 .0)) {z = z} (w .before .bits-of2 .ensures) e (w .write-ticks .ensures))
+
+returns-13 : tie.Need-returns-13
+unfolding recordFor
+returns-13 c =
+    let w = c .before .before in
+    let g = w .before .before .before .before in
+    let z = g .event7 .given .0 .0 in
+    let e : toZ w32 (ofZ w32 z) ≡ z = search needs in
+    at-record _ _ (g .event7 .given .1) (at-ticks SOAK (bytes32 (g .event7 .given .0 .1 .0)) {z = z} (w .before .bits-of3 .ensures) e (w .write-soak .ensures))
 
 pub put-event-spec : {M : Type 1} → statement M
 put-event-spec =
@@ -101,6 +111,9 @@ put-event-spec =
     (λ c κs. search needs)
     (λ c κs. search needs)
     (λ c. search needs)
+    (λ c κs. search needs)
+    (λ c κs. search needs)
+    (λ c. search needs)
     returns
     (λ c. search needs)
     returns-2
@@ -123,4 +136,6 @@ put-event-spec =
     (λ c. search needs)
     returns-11
     (λ c. search needs)
-    returns-12)
+    returns-12
+    (λ c. search needs)
+    returns-13)
