@@ -16,7 +16,7 @@ static unsigned long checks;
         }                                                                                                              \
     } while (0)
 
-enum kind { SETUP = 0x00, POR, BOOT, SCAN, TEMP, COUNT, SENSE, PIN, LOAD, XREADY, START = 0x10, OUT, IN, STOP, TICKS };
+enum kind { SETUP = 0x00, POR, BOOT, SCAN, TEMP, COUNT, SENSE, PIN, LOAD, XREADY, START = 0x10, OUT, IN, STOP, TICKS, SOAK = 0x17 };
 
 /* ---- streams */
 
@@ -373,6 +373,44 @@ static void repeated_ticks(void)
     CHECK(entry_is(179, TORALINGE_BAD_VALUE, 0, 0, 0x00, 0));
 }
 
+/* The same with four bytes of repeat number: an hour of ticks in one record. */
+static void ticks_by_the_hour(void)
+{
+    struct stream made = awake(0);
+    add_write(&made, 0x07, 0x70);                    /* 2 to 6: OCD delay 40,960 */
+    add_ticks(&made, SOAK, -9500, 16777216, 4);      /* 7: not over */
+    add_ticks(&made, SOAK, -9501, 40959, 4);         /* 8 */
+    add_ticks(&made, TICKS, -9501, 1, 2);            /* 9: OCD at 40,960 */
+    add_write(&made, 0x00, 0x01);                    /* 10 to 14 */
+    add_ticks(&made, SOAK, 0, 1, 4);                 /* 15: the run ends */
+    add_ticks(&made, SOAK, -9501, 16777216, 4);      /* 16 */
+    add_ticks(&made, SOAK, -9501, 0, 4);             /* 17: 3 */
+    add_ticks(&made, SOAK, -9501, 16777217, 4);      /* 18: 3 */
+    add_ticks(&made, SOAK, -9501, UINT32_MAX, 4);    /* 19: 3 */
+    add_ticks(&made, SOAK, -500001, 1, 4);           /* 20: 3 */
+    add_ticks(&made, SOAK, -9501, 1, 2);             /* 21: 2 */
+    add_ticks(&made, SOAK, -500001, 0, 3);           /* 22: 2 before 3 */
+    add_bare(&made, 0x15);                           /* 23: 2 */
+    add_bare(&made, POR);                            /* 24 */
+    add_ticks(&made, SOAK, -9501, 16777216, 4);      /* 25: 4 */
+    add_ticks(&made, SOAK, -9501, 0, 4);             /* 26: 3 before 4 */
+    CHECK(play(&made) == 27);
+    CHECK(entry_is(7, 0, 0, 0, 0x00, 0));
+    CHECK(entry_is(8, 0, 0, 0, 0x00, 0));
+    CHECK(entry_is(9, 0, 0, 0, 0x01, TORALINGE_PIN_ALERT));
+    CHECK(entry_is(15, 0, 0, 0, 0x00, 0));
+    CHECK(entry_is(16, 0, 0, 0, 0x01, TORALINGE_PIN_ALERT));
+    CHECK(entry_is(17, TORALINGE_BAD_VALUE, 0, 0, 0x01, TORALINGE_PIN_ALERT));
+    CHECK(entry_is(18, TORALINGE_BAD_VALUE, 0, 0, 0x01, TORALINGE_PIN_ALERT));
+    CHECK(entry_is(19, TORALINGE_BAD_VALUE, 0, 0, 0x01, TORALINGE_PIN_ALERT));
+    CHECK(entry_is(20, TORALINGE_BAD_VALUE, 0, 0, 0x01, TORALINGE_PIN_ALERT));
+    CHECK(entry_is(21, TORALINGE_BAD_KIND, 0, 0, 0x01, TORALINGE_PIN_ALERT));
+    CHECK(entry_is(22, TORALINGE_BAD_KIND, 0, 0, 0x01, TORALINGE_PIN_ALERT));
+    CHECK(entry_is(23, TORALINGE_BAD_KIND, 0, 0, 0x01, TORALINGE_PIN_ALERT));
+    CHECK(entry_is(25, TORALINGE_ASLEEP, 0, 0, 0x00, 0));
+    CHECK(entry_is(26, TORALINGE_BAD_VALUE, 0, 0, 0x00, 0));
+}
+
 static int doubles_are(const uint8_t *room, double least, double greatest, double total, double cc)
 {
     double wanted[TORALINGE_READING_SIZE];
@@ -560,6 +598,7 @@ int main(void)
     refused_later_records();
     both_sides_of_each_line();
     repeated_ticks();
+    ticks_by_the_hour();
     readings();
     conversions();
     sums();

@@ -469,7 +469,7 @@ impl Chip {
         self.judge(Fault::Ocd, drawn > self.ocd_limit());
     }
 
-    /// That many ticks, one after the other.
+    /// That many ticks, one after the other. After 41,000 alike every run is longer than any delay, and one more moves nothing.
     pub fn ticks(&mut self, value: i32, repeat: u32) {
         let many = match self.plant {
             Plant::TicksCountedOnce => 1,
@@ -481,7 +481,7 @@ impl Chip {
             self.verdicts[Fault::Scd as usize].push(false);
             self.verdicts[Fault::Ocd as usize].push(false);
         }
-        for _ in 0..many {
+        for _ in 0..many.min(41_000) {
             self.sense(value);
         }
     }
@@ -491,7 +491,7 @@ impl Chip {
         let ended = match (self.plant, kind) {
             (Plant::RefusedScanEndsRuns, 3) => [Fault::Ov, Fault::Uv],
             (Plant::RefusedSenseEndsRuns, 6) => [Fault::Scd, Fault::Ocd],
-            (Plant::RefusedTicksEndRuns, 0x14) => [Fault::Scd, Fault::Ocd],
+            (Plant::RefusedTicksEndRuns, 0x14 | 0x17) => [Fault::Scd, Fault::Ocd],
             _ => return,
         };
         for fault in ended {

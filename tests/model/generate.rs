@@ -60,6 +60,7 @@ const OUT: u16 = 0x11;
 const IN: u16 = 0x12;
 const STOP: u16 = 0x13;
 const TICKS: u16 = 0x14;
+const SOAK: u16 = 0x17;
 
 #[derive(Clone, Copy, PartialEq)]
 enum Kind {
@@ -452,11 +453,21 @@ impl Maker {
         self.push(TICKS, &payload);
     }
 
+    fn soaked(&mut self, value: i64, repeat: usize) {
+        let mut payload = (value as i32).to_le_bytes().to_vec();
+        payload.extend((repeat as u32).to_le_bytes());
+        self.push(SOAK, &payload);
+    }
+
     fn some_ticks(&mut self) {
         let value = self.some_value();
         let any = self.rng.between(1, 300);
         let repeat = self.rng.pick(&[1, 2, 3, 4, 7, 13, 256, any]);
-        self.ticks(value, repeat);
+        if self.rng.once_in(3) {
+            self.soaked(value, repeat);
+        } else {
+            self.ticks(value, repeat);
+        }
     }
 
     /// That many ticks in records of as many as there may be, or cut in two or three by chance.
@@ -465,10 +476,10 @@ impl Maker {
         while left > 0 {
             let most = left.min(4_096);
             let part = if self.rng.once_in(2) { most } else { self.rng.between(1, most) };
-            if part == 1 && self.rng.once_in(2) {
-                self.sense(value);
-            } else {
-                self.ticks(value, part);
+            match self.rng.below(4) {
+                0 if part == 1 => self.sense(value),
+                1 => self.soaked(value, part),
+                _ => self.ticks(value, part),
             }
             left -= part;
         }
@@ -557,11 +568,20 @@ impl Maker {
     }
 
     fn wrong_ticks(&mut self) {
-        match self.rng.below(3) {
+        match self.rng.below(5) {
             0 => {
                 let value = self.some_value();
                 let repeat = self.rng.pick(&[0, 4_097, 65_535]);
                 self.ticks(value, repeat);
+            }
+            3 => {
+                let value = self.rng.pick(&[0, -1, 0, 500_001]);
+                let repeat = self.rng.pick(&[0, 16_777_217, 16_777_217, 0xFFFF_FFFF]);
+                self.soaked(value, repeat);
+            }
+            4 => {
+                let payload = self.rng.pick(&[&[][..], &[0, 0, 0, 0, 1, 0], &[1; 7], &[1; 9]]);
+                self.push(SOAK, payload);
             }
             1 => {
                 let value = self.rng.pick(&[500_001, -500_001, i64::from(i32::MIN)]);
@@ -739,8 +759,11 @@ impl Maker {
             self.write(0x00, &[0xFF]);
             self.drives_on();
         }
-        let quiet = self.rng.pick(&[1, 4_096, 40]);
-        self.ticks(0, quiet);
+        match self.rng.below(3) {
+            0 => self.ticks(0, 4_096),
+            1 => self.soaked(0, 1),
+            _ => self.ticks(0, 40),
+        }
         let limit = if fault == Fault::Scd { self.chip().scd_limit() } else { self.chip().ocd_limit() };
         let needed = self.chip().needed(fault);
         let many = self.rng.pick(&[needed - 1, needed, needed + 1, needed + 20]);
@@ -752,6 +775,10 @@ impl Maker {
             self.disturb_current(fault);
         }
         self.ticks_in_parts(-limit - 1, many - many / 2);
+        if self.rng.once_in(8) {
+            let long = self.rng.pick(&[4_097, 40_959, 65_536, 65_537, 16_777_216]);
+            self.soaked(-limit - 1, long);
+        }
         self.write(0x00, &[if fault == Fault::Scd { 0x02 } else { 0x01 }]);
         self.drives_on();
         let more = self.rng.between(1, 3);
