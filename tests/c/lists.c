@@ -2,19 +2,9 @@
  * Command lists as a C program turns them into records: every room up to what is needed, refusals in their order, and a list played on
  * a chip, through include/toralinge.h alone, with guard bytes round every buffer that is lent.
  */
+#include "check.h"
 #include "guard.h"
 #include "toralinge.h"
-
-static unsigned long checks;
-
-#define CHECK(what)                                                                                                    \
-    do {                                                                                                               \
-        checks++;                                                                                                      \
-        if (!(what)) {                                                                                                 \
-            fprintf(stderr, "%s:%d: does not hold: %s\n", __FILE__, __LINE__, #what);                                  \
-            exit(1);                                                                                                   \
-        }                                                                                                              \
-    } while (0)
 
 static int64_t turn(const char *line, uint8_t *records, size_t room)
 {

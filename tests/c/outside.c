@@ -2,19 +2,9 @@
  * The library as a C program sees it: document 01's examples, both sides of its lines and its refusals, through
  * include/toralinge.h alone, with guard bytes round every buffer that is lent.
  */
+#include "check.h"
 #include "guard.h"
 #include "toralinge.h"
-
-static unsigned long checks;
-
-#define CHECK(what)                                                                                                    \
-    do {                                                                                                               \
-        checks++;                                                                                                      \
-        if (!(what)) {                                                                                                 \
-            fprintf(stderr, "%s:%d: does not hold: %s\n", __FILE__, __LINE__, #what);                                  \
-            exit(1);                                                                                                   \
-        }                                                                                                              \
-    } while (0)
 
 enum kind { SETUP = 0x00, POR, BOOT, SCAN, TEMP, COUNT, SENSE, PIN, LOAD, XREADY, START = 0x10, OUT, IN, STOP, TICKS, SOAK = 0x17 };
 

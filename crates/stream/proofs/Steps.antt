@@ -1,12 +1,12 @@
 -- What is known of an event or a record that was taken apart, put to use: a record that was read needs no second check. Assumes nothing.
 use mathlib.Core.Path.{_≡_, refl, ap, sym, _∙_, subst}
-use mathlib.Core.Bool.{Bool, true, false, cond, _&&_, _||_, not}
+use mathlib.Core.Bool.{Bool, true, false, cond, _&&_, _||_}
 use mathlib.Core.Logic.{⊎-elim, _≢_, inl, inr}
 use mathlib.Core.List.{List, [], _∷_}
-use Prim.Native.Nat.{ℕ, _+_, _-_}
+use Prim.Native.Nat.{ℕ, _-_}
 use native.Mathlib.Omega.{arith}
 use lib.Dec.{eqb}
-use borrow.Author.Tests.{eqb-true, eqb-false, ne-eqb}
+use borrow.Author.Tests.{eqb-true, eqb-false}
 use types.Run.{OneOf}
 use denote.Enum.Declared.{tagOf}
 use Rattle.events.specs.declared.Setup.{Setup as SetupValues}
@@ -27,10 +27,6 @@ use Rattle.events.specs.Setup.{inputs}
 use lib.ListN.{take, drop}
 use lib.IntN.{ℤ}
 use Rattle.records.specs.Sound.{IsSetup, first-setup, Meaning, later-means}
-use Rattle.settings.specs.Bit.{weighed}
-use Rattle.registers.specs.declared.Status.{Status}
-use Rattle.registers.specs.State.{alert}
-use Rattle.registers.specs.Read.{statusByte}
 use Rattle.chip.specs.declared.Chip.{Chip}
 use Rattle.chip.specs.declared.Stepped.{Stepped}
 use Rattle.protection.specs.declared.Judged.{Judged}
@@ -217,19 +213,3 @@ still-arm c v j hj n =
 pub bus-arm : (c : Chip) (b : BusEvent) (xs : List ℕ) (h : Heard) (d : Chip) → c .awake ≡ true → h ≡ heardOf b c → d ≡ landed (h .store) (withBus (h .bus) c)
     → saying (answerHeard h) d ≡ happenedBy (OnBus b) xs c
 bus-arm c b xs h d a hh hd = in-normal (Signalled b) c a (ap (saying (answerHeard h)) hd ∙ ap (λ (h : Heard). told h c) hh ∙ bus-parts b c)
-
--- ALERT is up where SYS_STAT is not 0
-up-by : (a b c d e f g : Bool)
-    → (a || b || c || d || e || f || g)
-    ≡ not (eqb (weighed a 128 + weighed b 32 + weighed c 16 + weighed d 8 + weighed e 4 + weighed f 2 + weighed g 1) 0)
-up-by true b c d e f g = sym (ap not (ne-eqb (128 + weighed b 32 + weighed c 16 + weighed d 8 + weighed e 4 + weighed f 2 + weighed g 1) 0 (λ h. omega (arith, h))))
-up-by false true c d e f g = sym (ap not (ne-eqb (0 + 32 + weighed c 16 + weighed d 8 + weighed e 4 + weighed f 2 + weighed g 1) 0 (λ h. omega (arith, h))))
-up-by false false true d e f g = sym (ap not (ne-eqb (0 + 0 + 16 + weighed d 8 + weighed e 4 + weighed f 2 + weighed g 1) 0 (λ h. omega (arith, h))))
-up-by false false false true e f g = sym (ap not (ne-eqb (0 + 0 + 0 + 8 + weighed e 4 + weighed f 2 + weighed g 1) 0 (λ h. omega (arith, h))))
-up-by false false false false true f g = sym (ap not (ne-eqb (0 + 0 + 0 + 0 + 4 + weighed f 2 + weighed g 1) 0 (λ h. omega (arith, h))))
-up-by false false false false false true g = sym (ap not (ne-eqb (0 + 0 + 0 + 0 + 0 + 2 + weighed g 1) 0 (λ h. omega (arith, h))))
-up-by false false false false false false true = refl
-up-by false false false false false false false = refl
-
-pub alert-by : (t : Status) → alert t ≡ not (eqb (statusByte t) 0)
-alert-by t = up-by (t .ready) (t .xready) (t .ovrd) (t .uv) (t .ov) (t .scd) (t .ocd)

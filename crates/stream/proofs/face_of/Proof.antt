@@ -4,13 +4,13 @@ use mathlib.Core.Bool.{Bool, not}
 use Prim.Native.Nat.{ℕ}
 use lib.Dec.{eqb}
 use Rattle.settings.specs.Bit.{weighed}
-use Rattle.stream.proofs.Steps.{alert-by}
+use Rattle.registers.specs.Laws.{alert-is}
 use borrow.Author.Needs.{needs}
 use Rattle.stream.proofs.face_of.Statement.{statement}
 use Rattle.stream.proofs.face_of.Tie as tie
 
 returns : tie.Need-returns
-returns c = let k = c .before .before .before .before .before .before .args .chip in let stat = c .before .before .before .status .ensures in simp (c .weigh3 .ensures .0, c .before .weigh2 .ensures .0, c .before .before .weigh .ensures .0 ∙ ap (λ (n : ℕ). weighed (not (eqb n 0)) 4) stat ∙ ap (λ (b : Bool). weighed b 4) (sym (alert-by (k .registers .shown .status))), stat)
+returns c = let k = c .before .before .before .before .before .before .args .chip in let stat = c .before .before .before .status .ensures in simp (c .weigh3 .ensures .0, c .before .weigh2 .ensures .0, c .before .before .weigh .ensures .0 ∙ ap (λ (n : ℕ). weighed (not (eqb n 0)) 4) stat ∙ ap (λ (b : Bool). weighed b 4) (sym (alert-is (k .registers .shown .status))), stat)
 
 pub face-of-spec : {M : Type 1} → statement M
 face-of-spec =
