@@ -14,7 +14,7 @@ enum phase { IDLE, ADDRESS, POINTING, WRITING, CHECKING, READING, SUMMING };
 
 struct chip {
     uint8_t part, address, gain, offset;
-    bool crc, awake, load, kept;
+    bool crc, awake, load, outside, kept;
     uint16_t floor;
     enum phase phase;
     uint8_t pointer, sum, value, low;
@@ -86,7 +86,7 @@ static void enter_ship(struct chip *c)
     c->reg[OFFSET] = c->offset;
     c->reg[GAIN2] = (uint8_t)((c->gain & 7) << 5);
     c->ov = c->uv = c->scd = c->ocd = 0;
-    c->awake = c->load = c->kept = false;
+    c->awake = c->load = c->outside = c->kept = false;
     c->phase = IDLE;
     c->pointer = 0;
 }
@@ -98,6 +98,13 @@ static void raise(struct chip *c, uint8_t faults)
         c->reg[CTRL2] &= (uint8_t)~CHG;
     if (faults & (UV | OCD | SCD | OVRD | XREADY))
         c->reg[CTRL2] &= (uint8_t)~DSG;
+}
+
+/* The outside level: only a clearing write and its own record can find it at 1 and SYS_STAT at 0. */
+static void look_outside(struct chip *c)
+{
+    if (c->outside && c->reg[STAT] == 0)
+        raise(c, OVRD);
 }
 
 /* A run after one more verdict, and whether it is long enough. */
@@ -184,6 +191,7 @@ static void store(struct chip *c, uint8_t value)
     switch (c->pointer) {
     case STAT:
         c->reg[STAT] &= (uint8_t)~value;
+        look_outside(c);
         break;
     case BALANCE:
     case BALANCE + 1:
@@ -420,6 +428,16 @@ static uint8_t step(struct chip *c, unsigned kind, const uint8_t *b, unsigned si
             return 2;
         if (c->awake)
             c->phase = IDLE;
+        return 0;
+    case 0x15:
+        if (size != 1)
+            return 2;
+        if (b[0] > 1)
+            return 3;
+        if (!c->awake)
+            return 4;
+        c->outside = b[0];
+        look_outside(c);
         return 0;
     default:
         return 2;

@@ -6,7 +6,7 @@
 #include "guard.h"
 #include "toralinge.h"
 
-enum kind { SETUP = 0x00, POR, BOOT, SCAN, TEMP, COUNT, SENSE, PIN, LOAD, XREADY, START = 0x10, OUT, IN, STOP, TICKS, SOAK = 0x17 };
+enum kind { SETUP = 0x00, POR, BOOT, SCAN, TEMP, COUNT, SENSE, PIN, LOAD, XREADY, START = 0x10, OUT, IN, STOP, TICKS, LEVEL, SOAK = 0x17 };
 
 /* ---- streams */
 
@@ -324,6 +324,46 @@ static void both_sides_of_each_line(void)
     CHECK(status_after_ticks(-9500, 256) == 0x00);
 }
 
+/* A second protector holds ALERT up: cleared in vain, drives off, until it lets go; SHIP forgets it. */
+static void outside_level(void)
+{
+    struct stream made;
+    made.length = 0;
+    add_setup(&made, 0);
+    add_byte(&made, LEVEL, 1);      /* 1: asleep, 4 */
+    add_byte(&made, LEVEL, 2);      /* 2: out of range before asleep, 3 */
+    add_bare(&made, LEVEL);         /* 3: wrong length, 2 */
+    add_bare(&made, BOOT);          /* 4 */
+    add_write(&made, 0x05, 0x03);   /* 5 to 9 */
+    add_byte(&made, LEVEL, 1);      /* 10 */
+    add_write(&made, 0x00, 0xFF);   /* 11 to 15: up again at the end of 14 */
+    add_write(&made, 0x05, 0x03);   /* 16 to 20 */
+    add_bare(&made, XREADY);        /* 21 */
+    add_write(&made, 0x00, 0x10);   /* 22 to 26: XREADY is still up */
+    add_write(&made, 0x00, 0x20);   /* 27 to 31 */
+    add_byte(&made, LEVEL, 0);      /* 32: latched */
+    add_write(&made, 0x00, 0x10);   /* 33 to 37 */
+    add_byte(&made, LEVEL, 1);      /* 38 */
+    add_bare(&made, POR);           /* 39 */
+    add_bare(&made, BOOT);          /* 40 */
+    CHECK(play(&made) == 41);
+    CHECK(entry_is(1, TORALINGE_ASLEEP, 0, 0, 0, 0));
+    CHECK(entry_is(2, TORALINGE_BAD_VALUE, 0, 0, 0, 0));
+    CHECK(entry_is(3, TORALINGE_BAD_KIND, 0, 0, 0, 0));
+    CHECK(entry_is(9, 0, 0, 0, 0x00, TORALINGE_PIN_CHG | TORALINGE_PIN_DSG));
+    CHECK(entry_is(10, 0, 0, 0, 0x10, TORALINGE_PIN_ALERT));
+    CHECK(entry_is(14, 0, 1, 0, 0x10, TORALINGE_PIN_ALERT));
+    CHECK(entry_is(20, 0, 0, 0, 0x10, TORALINGE_PIN_ALERT));
+    CHECK(entry_is(21, 0, 0, 0, 0x30, TORALINGE_PIN_ALERT));
+    CHECK(entry_is(25, 0, 1, 0, 0x20, TORALINGE_PIN_ALERT));
+    CHECK(entry_is(30, 0, 1, 0, 0x10, TORALINGE_PIN_ALERT));
+    CHECK(entry_is(32, 0, 0, 0, 0x10, TORALINGE_PIN_ALERT));
+    CHECK(entry_is(36, 0, 1, 0, 0x00, 0));
+    CHECK(entry_is(38, 0, 0, 0, 0x10, TORALINGE_PIN_ALERT));
+    CHECK(entry_is(39, 0, 0, 0, 0x00, 0));
+    CHECK(entry_is(40, 0, 0, 0, 0x00, 0));
+}
+
 /* A record of ticks leaves what as many SENSE leave, in one entry; two of them leave what one of both together does. */
 static void repeated_ticks(void)
 {
@@ -587,6 +627,7 @@ int main(void)
     refused_first_records();
     refused_later_records();
     both_sides_of_each_line();
+    outside_level();
     repeated_ticks();
     ticks_by_the_hour();
     readings();

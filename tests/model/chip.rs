@@ -64,6 +64,7 @@ pub struct Chip {
     pub pointer: u8,
     page: [u8; 256],
     load: bool,
+    outside: bool,
     verdicts: [Vec<bool>; 4],
     stale: Option<u8>,
     old_ov_trip: u8,
@@ -93,6 +94,7 @@ impl Chip {
             pointer: 0,
             page,
             load: false,
+            outside: false,
             verdicts: Default::default(),
             stale: None,
             old_ov_trip: 0xAC,
@@ -125,6 +127,9 @@ impl Chip {
         }
         if !self.planted(Plant::LoadOutlivesPor) {
             self.load = false;
+        }
+        if !self.planted(Plant::LevelOutlivesShip) {
+            self.outside = false;
         }
         self.pointer = 0;
         self.bus = Bus::Idle;
@@ -530,6 +535,34 @@ impl Chip {
 
     pub fn load(&mut self, level: bool) {
         self.load = level;
+    }
+
+    /// The outside level: a second protector holds ALERT up, or lets go.
+    pub fn level(&mut self, level: bool) {
+        self.outside = level;
+        if !level && self.planted(Plant::LettingGoClears) {
+            self.page[0] &= !OVRD_ALERT;
+        }
+    }
+
+    /// After an event of this kind that was done: in NORMAL the outside level is looked at.
+    pub fn after(&mut self, kind: u16) {
+        let late = match self.plant {
+            Plant::LevelAtItsEventOnly => kind != 0x15,
+            Plant::LevelNotAtBusEvents => (0x10..=0x13).contains(&kind),
+            _ => false,
+        };
+        let ignored = if self.planted(Plant::LevelWithStatusUp) { 0xFF } else { 0 };
+        if !self.awake || !self.outside || late || self.page[0] & !ignored != 0 {
+            return;
+        }
+        let drives = self.page[5] & (CHG_ON | DSG_ON);
+        self.raise(OVRD_ALERT);
+        match self.plant {
+            Plant::LevelLeavesCharge => self.page[5] |= drives & CHG_ON,
+            Plant::LevelLeavesDischarge => self.page[5] |= drives & DSG_ON,
+            _ => {}
+        }
     }
 
     pub fn xready(&mut self) {

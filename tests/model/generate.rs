@@ -59,6 +59,7 @@ const START: u16 = 0x10;
 const OUT: u16 = 0x11;
 const IN: u16 = 0x12;
 const STOP: u16 = 0x13;
+const LEVEL: u16 = 0x15;
 const TICKS: u16 = 0x14;
 const SOAK: u16 = 0x17;
 
@@ -561,7 +562,7 @@ impl Maker {
                 self.sense(value);
             }
             _ => {
-                let (kind, value) = (self.rng.pick(&[LOAD, IN]), self.rng.between(2, 255) as u8);
+                let (kind, value) = (self.rng.pick(&[LOAD, IN, LEVEL]), self.rng.between(2, 255) as u8);
                 self.push(kind, &[value]);
             }
         }
@@ -604,7 +605,7 @@ impl Maker {
                 self.push(kind + 256 * upper, &[]);
             }
             0 => {
-                let kind = self.rng.pick(&[0x0A, 0x0D, 0x0F, 0x15, 0x16, 0x100, 0x1100, 0x1400, 0xFFFF, 0x0301]);
+                let kind = self.rng.pick(&[0x0A, 0x0D, 0x0F, 0x16, 0x18, 0x100, 0x1100, 0x1400, 0xFFFF, 0x0301]);
                 self.push(kind, &long);
             }
             1 => {
@@ -617,7 +618,7 @@ impl Maker {
                 self.push(kind, &long);
             }
             _ => {
-                let kind = self.rng.pick(&[POR, BOOT, PIN, XREADY, START, STOP, OUT, IN, LOAD, COUNT]);
+                let kind = self.rng.pick(&[POR, BOOT, PIN, XREADY, START, STOP, OUT, IN, LOAD, COUNT, LEVEL]);
                 self.push(kind, &[0, 1, 0]);
             }
         }
@@ -882,12 +883,13 @@ impl Maker {
     }
 
     fn awaking_free_event(&mut self) {
-        match self.rng.below(6) {
+        match self.rng.below(7) {
             0 => self.some_scan(),
             1 => self.some_sense(),
             5 => self.some_ticks(),
             2 => self.push(PIN, &[]),
             3 => self.push(LOAD, &[1]),
+            4 => self.push(LEVEL, &[1]),
             _ => self.push(XREADY, &[]),
         }
     }
@@ -976,15 +978,54 @@ impl Maker {
         self.read(at, 2, true);
     }
 
+    /// A second protector holds ALERT up through what a host and a pack may do, and lets go or not.
+    fn held(&mut self) {
+        if self.rng.once_in(2) {
+            self.clear();
+            self.drives_on();
+        }
+        self.push(LEVEL, &[1]);
+        for _ in 0..self.rng.between(1, 6) {
+            match self.rng.below(9) {
+                0..=2 => self.clear(),
+                3 => self.drives_on(),
+                4 => self.push(PIN, &[]),
+                5 => {
+                    // a fault in one scan, then only OVRD_ALERT cleared, then all
+                    self.write(0x05, &[0x83]);
+                    self.scan(Kind::Both);
+                    self.write(0x00, &[0x10]);
+                    self.drives_on();
+                    self.write(0x00, &[0xFF]);
+                }
+                6 => self.spoiled_write(),
+                7 => self.read(0x00, 1, false),
+                _ => self.event(),
+            }
+        }
+        match self.rng.below(6) {
+            0 => self.push(POR, &[]),
+            1 => {
+                self.write(0x04, &[0x11]);
+                self.write(0x04, &[0x12]);
+            }
+            2 => {}
+            _ => self.push(LEVEL, &[0]),
+        }
+        self.push(BOOT, &[]);
+        self.write(0x00, &[0xFF]);
+        self.drives_on();
+    }
+
     fn session(&mut self, records: usize) {
         let wanted = self.bytes.len() + 6 * records;
         while self.bytes.len() < wanted {
             if !self.chip().awake {
                 self.push(BOOT, &[]);
             }
-            match self.rng.below(31) {
-                28 | 29 => self.ticks_episode(Fault::Scd),
-                30 => self.ticks_episode(Fault::Ocd),
+            match self.rng.below(32) {
+                29 | 30 => self.ticks_episode(Fault::Scd),
+                31 => self.ticks_episode(Fault::Ocd),
                 0..=2 => self.scan_episode(Fault::Ov),
                 3 | 4 => self.scan_episode(Fault::Uv),
                 5 | 6 => self.current_episode(Fault::Scd),
@@ -1005,6 +1046,7 @@ impl Maker {
                 23 => self.hostile(),
                 24 => self.late_conditions(),
                 25 => self.adc_off(),
+                26 => self.held(),
                 _ => {
                     for _ in 0..self.rng.between(1, 6) {
                         self.event();

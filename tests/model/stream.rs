@@ -52,7 +52,7 @@ fn length_of(kind: u16, part: usize) -> Option<usize> {
         0x0004 => Some(2 * part),
         0x0005 => Some(2),
         0x0006 => Some(4),
-        0x0008 | 0x0011 | 0x0012 => Some(1),
+        0x0008 | 0x0011 | 0x0012 | 0x0015 => Some(1),
         0x0014 => Some(6),
         0x0017 => Some(8),
         _ => None,
@@ -63,7 +63,7 @@ fn in_range(kind: u16, payload: &[u8], plant: Plant) -> bool {
     match kind {
         0x0003 | 0x0004 => words(payload).iter().all(|count| *count <= 16_383) || plant == Plant::RangeNotChecked,
         0x0006 => sense_in_range(payload, plant),
-        0x0008 | 0x0012 => payload[0] <= 1,
+        0x0008 | 0x0012 | 0x0015 => payload[0] <= 1,
         0x0014 | 0x0017 => sense_in_range(payload, plant) && repeat_in_range(kind, repeat_of(payload, plant), plant),
         _ => true,
     }
@@ -104,7 +104,9 @@ fn sensed(payload: &[u8]) -> i32 {
 
 /// The number for a record that follows SETUP: 2, then 3, then 4; or 0.
 fn refusal(chip: &Chip, kind: u16, payload: &[u8], plant: Plant) -> u8 {
-    let wants_waking = (3..=9).contains(&kind) || matches!(kind, 0x14 | 0x17) && plant != Plant::TicksTakenAsleep;
+    let wants_waking = (3..=9).contains(&kind)
+        || kind == 0x15 && plant != Plant::LevelTakenAsleep
+        || matches!(kind, 0x14 | 0x17) && plant != Plant::TicksTakenAsleep;
     let asleep = !chip.awake && wants_waking;
     if asleep && plant == Plant::AsleepBeforeLength {
         return 4;
@@ -142,6 +144,7 @@ fn act(chip: &mut Chip, kind: u16, payload: &[u8], plant: Plant) -> Option<u8> {
         0x0010 => chip.start(),
         0x0011 => return Some(if chip.out(payload[0]) { 0 } else { 1 }),
         0x0012 => return Some(chip.take(payload[0] == 0)),
+        0x0015 => chip.level(payload[0] == 1),
         0x0014 | 0x0017 => chip.ticks(sensed(payload), repeat_of(payload, plant)),
         _ => chip.stop(),
     }
@@ -237,7 +240,9 @@ impl Session {
         if number != 0 {
             return Err(number);
         }
-        Ok(act(chip, kind, payload, plant))
+        let bus = act(chip, kind, payload, plant);
+        chip.after(kind);
+        Ok(bus)
     }
 }
 

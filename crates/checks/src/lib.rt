@@ -68,6 +68,7 @@ pub fn counts_wanted(setup: Setup, event: Event) -> u8
         Event::Load(_) => 0,
         Event::Xready => 0,
         Event::OnBus(_) => 0,
+        Event::Level(_) => 0,
         Event::Ticks(_, _) => 0,
         Event::Soak(_, _) => 0,
     }
@@ -108,6 +109,7 @@ fn value_refusal(setup: Setup, event: Event, of: [u16; 15]) -> u8
         Event::Load(_) => 0,
         Event::Xready => 0,
         Event::OnBus(_) => 0,
+        Event::Level(_) => 0,
         Event::Ticks(v, n) => if ticks_fit(4096, v, n as u32) { 0 } else { 3 },
         Event::Soak(v, n) => if ticks_fit(16777216, v, n) { 0 } else { 3 },
     }

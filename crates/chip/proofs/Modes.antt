@@ -10,13 +10,13 @@ use Rattle.events.specs.declared.Event.{Event as Coded}
 use Rattle.events.specs.Event.{Event, Por, Scan, Temp, OnBus, within, countMost, fits, eventOf}
 use Rattle.chip.specs.declared.Chip.{Chip}
 use Rattle.chip.specs.declared.Stepped.{Stepped}
-use Rattle.chip.specs.Chip.{quiet, inShip, normally, asleep, happened, stepped, steppedAs}
+use Rattle.chip.specs.Chip.{quiet, inShip, settled, normally, asleep, happened, stepped, steppedAs}
 
-pub in-normal : {s : Stepped} (e : Event) (c : Chip) → c .awake ≡ true → s ≡ normally e c → s ≡ happened e c
+pub in-normal : {s : Stepped} (e : Event) (c : Chip) → c .awake ≡ true → s ≡ settled (normally e c) → s ≡ happened e c
 unfolding happened
 in-normal e c a h = h ∙ sym (by (c .awake) a)
   where
-    by : (b : Bool) → b ≡ true → cond b (normally e c) (asleep e c) ≡ normally e c
+    by : (b : Bool) → b ≡ true → cond b (settled (normally e c)) (asleep e c) ≡ settled (normally e c)
     by true q = refl
     by false q = cc
 
@@ -24,7 +24,7 @@ pub in-sleep : {s : Stepped} (e : Event) (c : Chip) → c .awake ≡ false → s
 unfolding happened
 in-sleep e c a h = h ∙ sym (by (c .awake) a)
   where
-    by : (b : Bool) → b ≡ false → cond b (normally e c) (asleep e c) ≡ asleep e c
+    by : (b : Bool) → b ≡ false → cond b (settled (normally e c)) (asleep e c) ≡ asleep e c
     by true q = cc
     by false q = refl
 
@@ -33,7 +33,7 @@ pub in-either : {s : Stepped} (c : Chip) → s ≡ quiet 0 (inShip (c .setup)) �
 unfolding happened
 in-either c h = h ∙ sym (by (c .awake))
   where
-    by : (b : Bool) → cond b (normally Por c) (asleep Por c) ≡ quiet 0 (inShip (c .setup))
+    by : (b : Bool) → cond b (settled (normally Por c)) (asleep Por c) ≡ quiet 0 (inShip (c .setup))
     by true = refl
     by false = refl
 

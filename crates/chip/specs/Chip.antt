@@ -9,7 +9,7 @@ use Rattle.events.specs.declared.Counts.{Counts}
 use Rattle.events.specs.declared.BusEvent.{BusEvent}
 use Rattle.events.specs.declared.BusEvent.the-variants.{Start, Stop, Out, In}
 use Rattle.events.specs.declared.Event.{Event as Coded}
-use Rattle.events.specs.Event.{Event, Por, Boot, Pin, Xready, Scan, Temp, Count, Sense, Load, OnBus, fits, ticksFit, Meant, means, ticks, unfit, eventOf, meantOf}
+use Rattle.events.specs.Event.{Event, Por, Boot, Pin, Xready, Scan, Temp, Count, Sense, Load, OnBus, Level, fits, ticksFit, Meant, means, ticks, unfit, eventOf, meantOf}
 use Rattle.events.specs.Fault.{Fault}
 use Rattle.bus.specs.declared.Line.{Line}
 use Rattle.bus.specs.declared.Bus.{Bus}
@@ -21,11 +21,11 @@ use Rattle.bus.specs.Bus.{withLine, quietBus, grown, started, stopped, outed, t
 use Rattle.settings.specs.declared.Settings.{Settings}
 use Rattle.settings.specs.Write.{ships}
 use Rattle.registers.specs.declared.Registers.{Registers}
-use Rattle.registers.specs.State.{reset, withShown, withLoad}
+use Rattle.registers.specs.State.{reset, withShown, withLoad, withOutside}
 use Rattle.registers.specs.Write.{written}
 use Rattle.registers.specs.Read.{readAt}
 use Rattle.registers.specs.Fault.{raised}
-use Rattle.registers.specs.Judging.{scanned, warmed, coulombs, pulled, unready}
+use Rattle.registers.specs.Judging.{scanned, warmed, coulombs, pulled, held, unready}
 use Rattle.protection.specs.declared.Runs.{Runs}
 use Rattle.protection.specs.Fault.{noRuns}
 use Rattle.protection.specs.Rule.{counted, risen}
@@ -98,7 +98,15 @@ onBus Stop c = quiet 0 (moved (stopped (c .bus .line)) c)
 onBus (Out b) c = sent (outed (c .setup) (c .bus .line) b) c
 onBus (In nack) c = fetched nack c
 
--- ── each event in NORMAL, and in SHIP ──
+-- ── document 02, M-103: after any event that leaves the chip in NORMAL and is not refused, if the outside level is 1 and SYS_STAT is 0, OVRD_ALERT
+-- rises and both drives go off. In SHIP the level is 0, so an event that enters SHIP is left as it is ──
+abbrev pub watched : Chip → Chip
+watched c = withRegisters (held (c .registers)) c
+
+abbrev pub settled : Stepped → Stepped
+settled s = record { chip = watched (s .chip); number = s .number; flag = s .flag; byte = s .byte }
+
+-- ── each event in NORMAL, before the level is looked at, and in SHIP ──
 abbrev pub normally : Event → Chip → Stepped
 normally Por c = quiet 0 (inShip (c .setup))
 normally Boot c = quiet 0 c
@@ -110,6 +118,7 @@ normally (Count n) c = quiet 0 (withRegisters (coulombs n (c .registers)) c)
 normally (Sense v) c = quiet 0 (judged (Sense v) c)
 normally (Load l) c = quiet 0 (withRegisters (withLoad l (c .registers)) c)
 normally (OnBus b) c = onBus b c
+normally (Level l) c = quiet 0 (withRegisters (withOutside l (c .registers)) c)
 
 -- bus events are no refusals: the bus stays idle, OUT is not acknowledged and IN gives 0xFF
 abbrev pub busAsleep : BusEvent → Chip → Stepped
@@ -118,10 +127,10 @@ busAsleep Stop c = quiet 0 c
 busAsleep (Out b) c = answered 1 c
 busAsleep (In nack) c = answered 0xFF c
 
--- number 4: SCAN to XREADY
+-- number 4: SCAN to XREADY, and the outside level
 abbrev pub asleep : Event → Chip → Stepped
 asleep Por c = quiet 0 (inShip (c .setup))
-asleep Boot c = quiet 0 (withAwake true c)
+asleep Boot c = quiet 0 (watched (withAwake true c))
 asleep Pin c = quiet 4 c
 asleep Xready c = quiet 4 c
 asleep (Scan xs) c = quiet 4 c
@@ -130,10 +139,11 @@ asleep (Count n) c = quiet 4 c
 asleep (Sense v) c = quiet 4 c
 asleep (Load l) c = quiet 4 c
 asleep (OnBus b) c = busAsleep b c
+asleep (Level l) c = quiet 4 c
 
 -- an event whose values are in range
 unfoldable pub happened : Event → Chip → Stepped
-happened e c = cond (c .awake) (normally e c) (asleep e c)
+happened e c = cond (c .awake) (settled (normally e c)) (asleep e c)
 
 -- 3 before 4
 unfoldable pub stepped : Event → Chip → Stepped

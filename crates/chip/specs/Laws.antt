@@ -33,7 +33,7 @@ use Rattle.values.specs.Forecast.{fold, totalOf}
 use Rattle.chip.specs.declared.Chip.{Chip}
 use Rattle.chip.specs.declared.Stepped.{Stepped}
 use Rattle.chip.specs.declared.outward.ForecastAnswer.the-variants.{Is}
-use Rattle.chip.specs.Chip.{quiet, answered, inShip, accepted, storedAt, stored, normally, asleep, happened, stepped}
+use Rattle.chip.specs.Chip.{quiet, answered, inShip, accepted, storedAt, stored, settled, normally, asleep, happened, stepped}
 use Rattle.chip.specs.Moves.{normal-is}
 use Rattle.chip.specs.Outward.{voltageSaid, Forecasts}
 use Rattle.chip.specs.Voltage.{cell-said}
@@ -44,7 +44,7 @@ pub por-ships : (c : Chip) → stepped Por c ≡ quiet 0 (inShip (c .setup))
 unfolding stepped happened fits
 por-ships c = by (c .awake)
   where
-    by : (a : Bool) → cond a (normally Por c) (asleep Por c) ≡ quiet 0 (inShip (c .setup))
+    by : (a : Bool) → cond a (settled (normally Por c)) (asleep Por c) ≡ quiet 0 (inShip (c .setup))
     by true = refl
     by false = refl
 
@@ -79,9 +79,9 @@ pub out-ships : (b a v : ℕ) (c : Chip) → c .awake ≡ true → outed (c .set
 unfolding fits outed
 out-ships b a v c on s h =
     normal-is (OnBus (Out b)) c refl on
-    ∙ ap (λ (t : ℕ). answered t (stored (o .line) (o .store) c)) (stored-acked (c .setup) (c .bus .line .phase) (c .bus .line .pointer) b a v s)
-    ∙ ap (λ (t : Store). answered 0 (stored (o .line) t c)) s
-    ∙ ap (answered 0) (store-ships (o .line) a v c h)
+    ∙ ap (λ (t : ℕ). settled (answered t (stored (o .line) (o .store) c))) (stored-acked (c .setup) (c .bus .line .phase) (c .bus .line .pointer) b a v s)
+    ∙ ap (λ (t : Store). settled (answered 0 (stored (o .line) t c))) s
+    ∙ ap (λ (d : Chip). settled (answered 0 d)) (store-ships (o .line) a v c h)
   where
     o : Outed
     o = outIn (c .setup) (c .bus .line .phase) (c .bus .line .pointer) b

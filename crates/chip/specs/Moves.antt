@@ -5,7 +5,7 @@ use Prim.Native.Nat.{ℕ}
 use Rattle.events.specs.declared.Setup.{Setup}
 use Rattle.events.specs.declared.BusEvent.{BusEvent}
 use Rattle.events.specs.declared.BusEvent.the-variants.{Start, Stop, Out, In}
-use Rattle.events.specs.Event.{Event, Por, Boot, Pin, Xready, Scan, Temp, Count, Sense, Load, OnBus, fits}
+use Rattle.events.specs.Event.{Event, Por, Boot, Pin, Xready, Scan, Temp, Count, Sense, Load, OnBus, Level, fits}
 use Rattle.bus.specs.declared.Line.{Line}
 use Rattle.bus.specs.declared.Store.{Store}
 use Rattle.bus.specs.declared.Store.the-variants.{Nothing, At}
@@ -13,25 +13,25 @@ use Rattle.bus.specs.Bus.{outed}
 use Rattle.settings.specs.Write.{ships}
 use Rattle.chip.specs.declared.Chip.{Chip}
 use Rattle.chip.specs.declared.Stepped.{Stepped}
-use Rattle.chip.specs.Chip.{quiet, withAwake, inShip, moved, accepted, storedAt, stored, sent, onBus, normally, asleep, busAsleep, happened, stepped, next}
+use Rattle.chip.specs.Chip.{quiet, withAwake, inShip, moved, accepted, storedAt, stored, sent, onBus, watched, settled, normally, asleep, busAsleep, happened, stepped, next}
 use Rattle.chip.specs.Core.{Core, coreOf, bare, coreNext}
 
 -- ── an accepted event in NORMAL; in SHIP; a value out of range ──
-pub normal-is : (e : Event) (c : Chip) → fits e ≡ true → c .awake ≡ true → stepped e c ≡ normally e c
+pub normal-is : (e : Event) (c : Chip) → fits e ≡ true → c .awake ≡ true → stepped e c ≡ settled (normally e c)
 unfolding stepped happened
 normal-is e c f a = rw (f, a)
 
 -- a property of the next chip, by these three
 pub next-by : (P : Chip → Type 0) (e : Event) (c : Chip)
-    → (fits e ≡ true → c .awake ≡ true → P (normally e c .chip))
+    → (fits e ≡ true → c .awake ≡ true → P (watched (normally e c .chip)))
     → (fits e ≡ true → c .awake ≡ false → P (asleep e c .chip))
     → (fits e ≡ false → P c)
     → P (next e c)
 unfolding stepped happened
 next-by P e c n s r = by (fits e) (c .awake) n s r
   where
-    by : (f a : Bool) → (f ≡ true → a ≡ true → P (normally e c .chip)) → (f ≡ true → a ≡ false → P (asleep e c .chip)) → (f ≡ false → P c)
-        → P (cond f (cond a (normally e c) (asleep e c)) (quiet 3 c) .chip)
+    by : (f a : Bool) → (f ≡ true → a ≡ true → P (watched (normally e c .chip))) → (f ≡ true → a ≡ false → P (asleep e c .chip)) → (f ≡ false → P c)
+        → P (cond f (cond a (settled (normally e c)) (asleep e c)) (quiet 3 c) .chip)
     by true true n s r = n refl refl
     by true false n s r = s refl refl
     by false a n s r = r refl
@@ -70,9 +70,10 @@ setup-normal (Count n) c = refl
 setup-normal (Sense v) c = refl
 setup-normal (Load l) c = refl
 setup-normal (OnBus b) c = setup-bus b c
+setup-normal (Level l) c = refl
 
 -- in SHIP the chip enters SHIP anew, wakes, or stays as it is
-pub asleep-by : (P : Chip → Type 0) (e : Event) (c : Chip) → P (inShip (c .setup)) → (e ≡ Boot → P (withAwake true c)) → P c → P (asleep e c .chip)
+pub asleep-by : (P : Chip → Type 0) (e : Event) (c : Chip) → P (inShip (c .setup)) → (e ≡ Boot → P (watched (withAwake true c))) → P c → P (asleep e c .chip)
 asleep-by P Por c i w s = i
 asleep-by P Boot c i w s = w refl
 asleep-by P Pin c i w s = s
@@ -86,6 +87,7 @@ asleep-by P (OnBus Start) c i w s = s
 asleep-by P (OnBus Stop) c i w s = s
 asleep-by P (OnBus (Out b)) c i w s = s
 asleep-by P (OnBus (In nack)) c i w s = s
+asleep-by P (Level l) c i w s = s
 
 pub setup-next : (e : Event) (c : Chip) → next e c .setup ≡ c .setup
 setup-next e c =
@@ -118,6 +120,7 @@ core-normal (OnBus Start) c = refl
 core-normal (OnBus Stop) c = refl
 core-normal (OnBus (Out b)) c = core-stored (outed (c .setup) (c .bus .line) b .line) (outed (c .setup) (c .bus .line) b .store) c
 core-normal (OnBus (In nack)) c = refl
+core-normal (Level l) c = refl
 
 core-asleep : (e : Event) (c : Chip) → Agree (asleep e c .chip) (asleep e (bare (c .setup) (coreOf c)) .chip)
 core-asleep Por c = refl
@@ -133,6 +136,7 @@ core-asleep (OnBus Start) c = refl
 core-asleep (OnBus Stop) c = refl
 core-asleep (OnBus (Out b)) c = refl
 core-asleep (OnBus (In nack)) c = refl
+core-asleep (Level l) c = refl
 
 pub core-next : (e : Event) (c : Chip) → coreOf (next e c) ≡ coreNext (c .setup) e (coreOf c)
 unfolding stepped happened
@@ -141,7 +145,7 @@ core-next e c = by (fits e) (c .awake)
     alone : Chip
     alone = bare (c .setup) (coreOf c)
 
-    by : (f a : Bool) → Agree (cond f (cond a (normally e c) (asleep e c)) (quiet 3 c) .chip) (cond f (cond a (normally e alone) (asleep e alone)) (quiet 3 alone) .chip)
+    by : (f a : Bool) → Agree (cond f (cond a (settled (normally e c)) (asleep e c)) (quiet 3 c) .chip) (cond f (cond a (settled (normally e alone)) (asleep e alone)) (quiet 3 alone) .chip)
     by true true = core-normal e c
     by true false = core-asleep e c
     by false a = refl

@@ -26,7 +26,7 @@ use Rattle.protection.specs.Judged.{tickJudged, tick-judged}
 use Rattle.chip.specs.declared.Chip.{Chip}
 use Rattle.chip.specs.declared.Heard.{Heard}
 use Rattle.chip.specs.declared.Stepped.{Stepped}
-use Rattle.chip.specs.Chip.{quiet, answered, withBus, withRegisters, withRuns, inShip, moved, storedAt, stored, sent, given, onBus, normally}
+use Rattle.chip.specs.Chip.{quiet, answered, withBus, withRegisters, withRuns, inShip, moved, accepted, watched, settled, storedAt, stored, sent, given, onBus, normally}
 
 -- ── the bus: what is heard at once ──
 abbrev pub unheard : Line → Bus → Heard
@@ -44,26 +44,30 @@ heardOf Stop c = unheard (stopped (c .bus .line)) (c .bus)
 heardOf (Out b) c = sentOn (outed (c .setup) (c .bus .line) b) (c .bus)
 heardOf (In nack) c = handedOver (given nack c)
 
--- ── then the store: an accepted write, or SHIP ──
+-- ── then the store: an accepted write, after which the outside level is looked at, or SHIP ──
 unfoldable pub wrote : ℕ → ℕ → Chip → Chip
-wrote a v c = cond (ships a v (c .registers .settings)) (inShip (c .setup)) (withRegisters (written (c .setup) a v (c .registers)) c)
+wrote a v c = cond (ships a v (c .registers .settings)) (inShip (c .setup)) (watched (withRegisters (written (c .setup) a v (c .registers)) c))
 
 abbrev pub landed : Store → Chip → Chip
-landed Nothing c = c
+landed Nothing c = watched c
 landed (At a v) c = wrote a v c
 
 abbrev pub told : Heard → Chip → Stepped
 told h c = record { chip = landed (h .store) (withBus (h .bus) c); number = 0; flag = h .flag; byte = h .byte }
 
-sent-parts : (o : Outed) (c : Chip) → told (sentOn o (c .bus)) c ≡ sent o c
+sent-parts : (o : Outed) (c : Chip) → told (sentOn o (c .bus)) c ≡ settled (sent o c)
 unfolding wrote storedAt
 sent-parts o c = by (o .store)
   where
-    by : (t : Store) → _≡_ {A = Stepped} (record { chip = landed t (moved (o .line) c); number = 0; flag = true; byte = o .byte }) (answered (o .byte) (stored (o .line) t c))
-    by Nothing = refl
-    by (At a v) = refl
+    or-ships : (a v : ℕ) (t : Bool) → cond t (inShip (c .setup)) (watched (accepted (o .line) a v c)) ≡ watched (cond t (inShip (c .setup)) (accepted (o .line) a v c))
+    or-ships a v true = refl
+    or-ships a v false = refl
 
-pub bus-parts : (e : BusEvent) (c : Chip) → told (heardOf e c) c ≡ onBus e c
+    by : (t : Store) → _≡_ {A = Stepped} (record { chip = landed t (moved (o .line) c); number = 0; flag = true; byte = o .byte }) (settled (answered (o .byte) (stored (o .line) t c)))
+    by Nothing = refl
+    by (At a v) = ap (answered (o .byte)) (or-ships a v (ships a v (c .registers .settings)))
+
+pub bus-parts : (e : BusEvent) (c : Chip) → told (heardOf e c) c ≡ settled (onBus e c)
 unfolding heardOf
 bus-parts Start c = refl
 bus-parts Stop c = refl

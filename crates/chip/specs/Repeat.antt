@@ -1,5 +1,6 @@
 -- Requests M-100 and M-109: what ticks of one value leave, said once over their number: m and then n are m + n, they are as many SENSE, and the chip after
--- them has the runs by their number and shows what is due at the last. Assumes nothing.
+-- them has the runs by their number and shows what is due at the last; the outside level is looked at after each, and finds nothing to raise after the
+-- first. Assumes nothing.
 use mathlib.Core.Path.{_≡_, refl, sym, ap, subst, _∙_}
 use mathlib.Core.Bool.{Bool, true, false, cond, _&&_, true≢false}
 use Prim.Native.Nat.{ℕ, zero, suc, _+_}
@@ -13,24 +14,26 @@ use Rattle.settings.specs.declared.Settings.{Settings}
 use Rattle.registers.specs.declared.Shown.{Shown}
 use Rattle.registers.specs.State.{withShown}
 use Rattle.registers.specs.Fault.{raised}
+use Rattle.registers.specs.Held.{held-calm, raised-calm}
 use Rattle.protection.specs.declared.Runs.{Runs}
 use Rattle.protection.specs.declared.Judged.{Judged}
 use Rattle.protection.specs.Judged.{tickJudged}
 use Rattle.protection.specs.Repeat.{ticksJudged, scd-stays, ocd-stays}
 use Rattle.chip.specs.declared.Chip.{Chip}
 use Rattle.chip.specs.declared.Stepped.{Stepped}
-use Rattle.chip.specs.Chip.{quiet, withRegisters, withRuns, normally, asleep, happened, stepped, next, ticking, ticked, steppedAs}
+use Rattle.chip.specs.Chip.{quiet, withRegisters, withRuns, watched, settled, normally, asleep, happened, stepped, next, ticking, ticked, steppedAs}
 use Rattle.chip.specs.Moves.{setup-next}
 use Rattle.chip.specs.Parts.{raisedBy, tick-parts}
+use Rattle.chip.specs.Calm.{Calmed, calm-next, calm-tick}
 
 -- ── one tick, by the mode ──
-tick-awake : (v : ℤ) (c : Chip) → c .awake ≡ true → happened (Sense v) c ≡ normally (Sense v) c
+tick-awake : (v : ℤ) (c : Chip) → c .awake ≡ true → happened (Sense v) c ≡ settled (normally (Sense v) c)
 unfolding happened
-tick-awake v c a = ap (λ (t : Bool). cond t (normally (Sense v) c) (asleep (Sense v) c)) a
+tick-awake v c a = ap (λ (t : Bool). cond t (settled (normally (Sense v) c)) (asleep (Sense v) c)) a
 
 tick-asleep : (v : ℤ) (c : Chip) → c .awake ≡ false → happened (Sense v) c ≡ quiet 4 c
 unfolding happened
-tick-asleep v c a = ap (λ (t : Bool). cond t (normally (Sense v) c) (asleep (Sense v) c)) a
+tick-asleep v c a = ap (λ (t : Bool). cond t (settled (normally (Sense v) c)) (asleep (Sense v) c)) a
 
 tick-mode : (v : ℤ) (c : Chip) (t : Bool) → c .awake ≡ t → happened (Sense v) c .chip .awake ≡ t
 tick-mode v c true a = ap (λ (s : Stepped). s .chip .awake) (tick-awake v c a) ∙ a
@@ -50,7 +53,7 @@ tick-setup : (v : ℤ) (c : Chip) → happened (Sense v) c .chip .setup ≡ c .s
 unfolding happened
 tick-setup v c = by (c .awake)
   where
-    by : (t : Bool) → cond t (normally (Sense v) c) (asleep (Sense v) c) .chip .setup ≡ c .setup
+    by : (t : Bool) → cond t (settled (normally (Sense v) c)) (asleep (Sense v) c) .chip .setup ≡ c .setup
     by true = refl
     by false = refl
 
@@ -67,6 +70,29 @@ setup-as (ticks most v n) c = by (ticksFit most v n) (c .awake)
     by true false = refl
     by false t = refl
 setup-as unfit c = refl
+
+-- the outside level 1 and SYS_STAT 0 do not stand together after them, where they did not before
+tick-calm : (v : ℤ) (c : Chip) → Calmed c → Calmed (happened (Sense v) c .chip)
+unfolding happened
+tick-calm v c k = by (c .awake)
+  where
+    by : (t : Bool) → Calmed (cond t (settled (normally (Sense v) c)) (asleep (Sense v) c) .chip)
+    by true = held-calm (normally (Sense v) c .chip .registers)
+    by false = k
+
+ticking-calm : (n : ℕ) (v : ℤ) (c : Chip) → Calmed c → Calmed (ticking n v c)
+ticking-calm zero v c k = k
+ticking-calm (suc n) v c k = tick-calm v (ticking n v c) (ticking-calm n v c k)
+
+pub calm-as : (m : Meant) (c : Chip) → Calmed c → Calmed (steppedAs m c .chip)
+calm-as (means e) c k = calm-next e c k
+calm-as (ticks most v n) c k = by (ticksFit most v n) (c .awake)
+  where
+    by : (f t : Bool) → Calmed (cond f (cond t (quiet 0 (ticking n v c)) (quiet 4 c)) (quiet 3 c) .chip)
+    by true true = ticking-calm n v c k
+    by true false = k
+    by false t = k
+calm-as unfit c k = k
 
 -- m ticks followed by n are m + n
 pub ticking-more : (m n : ℕ) (v : ℤ) (c : Chip) → ticking n v (ticking m v c) ≡ ticking (m + n) v c
@@ -166,9 +192,31 @@ tick-on (suc n) v c =
     ap (λ (w : Shown). withRegisters (withShown w (c .registers)) (withRuns (k .runs) c))
     (raised-again (j .risen .scd) (j .risen .ocd) (k .risen .scd) (k .risen .ocd) (c .registers .shown) (scd-stays (suc n) s v (c .runs)) (ocd-stays (suc n) s v (c .runs)))
 
-pub ticking-is : (n : ℕ) (v : ℤ) (c : Chip) → c .awake ≡ true → ticking n v c ≡ tickedBy (ticksJudged n (c .registers .settings) v (c .runs)) c
+-- where the outside level has nothing to raise: all of them at once
+ticking-is : (n : ℕ) (v : ℤ) (c : Chip) → c .awake ≡ true → Calmed c → ticking n v c ≡ tickedBy (ticksJudged n (c .registers .settings) v (c .runs)) c
 unfolding ticksJudged
-ticking-is zero v c a = refl
-ticking-is (suc n) v c a =
-    let d : Chip = tickedBy (ticksJudged n (c .registers .settings) v (c .runs)) c in
-    ap (λ (d : Chip). happened (Sense v) d .chip) (ticking-is n v c a) ∙ ap (λ (s : Stepped). s .chip) (tick-awake v d a ∙ sym (tick-parts v d)) ∙ tick-on n v c
+ticking-is zero v c a k = refl
+ticking-is (suc n) v c a k =
+    let s : Settings = c .registers .settings in
+    let d : Chip = tickedBy (ticksJudged n s v (c .runs)) c in
+    let j : Judged = tickJudged s v (d .runs) in
+    ap (λ (d : Chip). happened (Sense v) d .chip) (ticking-is n v c a k)
+    ∙ ap (λ (s : Stepped). s .chip) (tick-awake v d a ∙ ap settled (sym (tick-parts v d)))
+    ∙ sym (calm-tick (j .risen) (j .runs) d (raised-calm (among (ticksJudged n s v (c .runs) .risen)) (c .registers) k))
+    ∙ tick-on n v c
+
+-- one of them, after which it has nothing to raise
+abbrev pub firstTick : ℤ → Chip → Chip
+firstTick v c = watched (tickedBy (ticksJudged 1 (c .registers .settings) v (c .runs)) c)
+
+first-is : (v : ℤ) (c : Chip) → c .awake ≡ true → ticking 1 v c ≡ firstTick v c
+unfolding ticksJudged
+first-is v c a = ap (λ (s : Stepped). s .chip) (tick-awake v c a ∙ ap settled (sym (tick-parts v c)))
+
+-- SO ANY NUMBER OF THEM: the first, and then the others at once
+pub ticking-all : (n : ℕ) (v : ℤ) (c : Chip) → c .awake ≡ true
+    → ticking (suc n) v c ≡ tickedBy (ticksJudged n (firstTick v c .registers .settings) v (firstTick v c .runs)) (firstTick v c)
+ticking-all n v c a =
+    let e : suc n ≡ 1 + n = omega arith in
+    ap (λ (k : ℕ). ticking k v c) e ∙ sym (ticking-more 1 n v c) ∙ ap (ticking n v) (first-is v c a)
+    ∙ ticking-is n v (firstTick v c) a (held-calm (tickedBy (ticksJudged 1 (c .registers .settings) v (c .runs)) c .registers))

@@ -2,11 +2,13 @@
 ghost use mathlib.Core.Path.{_≡_};
 ghost use lib.ListN.{take};
 ghost use Rattle.events.specs.Setup.{groups, inputs};
-ghost use Rattle.events.specs.Event.{eventOf, ticks as ticksSpec, ticksMost, soakMost, Por, Boot, Pin, Xready, Scan, Temp, Count, Sense, Load, OnBus};
+ghost use Rattle.events.specs.Event.{eventOf, ticks as ticksSpec, ticksMost, soakMost, Por, Boot, Pin, Xready, Scan, Temp, Count, Sense, Load, OnBus, Level};
 ghost use Rattle.events.specs.declared.BusEvent.the-variants.{Start, Out, In, Stop};
-ghost use Rattle.chip.specs.Chip.{quiet as quietSpec, answered as answeredSpec, inShip as inShipSpec, given as fetchedSpec, normally, busAsleep, happened, stepped, ticked as tickedSpec, steppedAs, steppedBy};
+ghost use Rattle.chip.specs.Chip.{quiet as quietSpec, answered as answeredSpec, inShip as inShipSpec, given as fetchedSpec, watched as watchedSpec, settled, normally, busAsleep, happened, stepped, ticked as tickedSpec, steppedAs, steppedBy};
 ghost use Rattle.chip.specs.Parts.{unheard as unheardSpec, sentOn as sentSpec, handedOver as handedSpec, heardOf, wrote as wroteSpec, landed as landedSpec, raisedBy};
 ghost use Rattle.protection.specs.Judged.{tickJudged};
+ghost use Rattle.protection.specs.Repeat.{ticksJudged};
+ghost use Rattle.chip.specs.Repeat.{tickedBy};
 ghost use Rattle.bus.specs.Bus.{wanted};
 use bus::Bus;
 use bus::Line;
@@ -62,6 +64,22 @@ fn quiet(number: u8, chip: Chip) -> Stepped
         flag: false,
         byte: 0,
     }
+}
+
+// The outside level is looked at.
+fn watched(mut chip: Chip) -> Chip
+    ensures { λ r. ⌜ r ≡ watchedSpec chip ⌝ }
+{
+    let registers = chip.registers;
+    chip.registers = registers.held();
+    chip
+}
+
+// An event done in NORMAL: the outside level is looked at, number 0.
+pub fn done(chip: Chip) -> Stepped
+    ensures { λ r. ⌜ r ≡ settled (quietSpec 0 chip) ⌝ }
+{
+    quiet(0, watched(chip))
 }
 
 // The answer of an OUT or IN that is done.
@@ -146,15 +164,12 @@ impl Chip {
         ensures { λ r. ⌜ r ≡ happened Boot self ⌝ }
     {
         if self.awake {
-            return quiet(0, self);
+            return done(self);
         }
-        quiet(
-            0,
-            Chip {
-                awake: true,
-                ..self
-            },
-        )
+        done(Chip {
+            awake: true,
+            ..self
+        })
     }
 
     // In NORMAL: one look over the counts stores, sums and judges.
@@ -188,7 +203,7 @@ impl Chip {
         if !self.awake {
             return quiet(4, self);
         }
-        quiet(0, self.scanned(counts))
+        done(self.scanned(counts))
     }
 
     // In NORMAL: one tick judged.
@@ -223,23 +238,34 @@ impl Chip {
         let runs = judged.runs;
         self.runs = runs;
         let risen = judged.risen;
-        quiet(0, self.raised(risen))
+        done(self.raised(risen))
     }
 
-    // That many ticks of one value: their number is enough, whatever it is.
-    pub fn ticked(mut self, value: i32, repeat: u32) -> Stepped
-        ensures { λ r. ⌜ r ≡ tickedSpec repeat value self ⌝ }
+    // In NORMAL: ticks of one value judged by their number, and what is due at the last of them shown.
+    fn judged_by(mut self, value: i32, repeat: u32) -> Self
+        ensures { λ r. ⌜ r ≡ tickedBy (ticksJudged repeat (self .registers .settings) value (self .runs)) self ⌝ }
     {
-        if !self.awake {
-            return quiet(4, self);
-        }
         let registers = self.registers;
         let runs = self.runs;
         let judged = runs.ticked(registers.settings, value, repeat);
         let runs = judged.runs;
         self.runs = runs;
         let risen = judged.risen;
-        quiet(0, self.raised(risen))
+        self.raised(risen)
+    }
+
+    // That many ticks of one value: their number is enough, whatever it is. After the first the outside level has nothing more to raise.
+    pub fn ticked(self, value: i32, repeat: u32) -> Stepped
+        ensures { λ r. ⌜ r ≡ tickedSpec repeat value self ⌝ }
+    {
+        if !self.awake {
+            return quiet(4, self);
+        }
+        if repeat == 0 {
+            return quiet(0, self);
+        }
+        let first = watched(self.judged_by(value, 1));
+        quiet(0, first.judged_by(value, repeat - 1))
     }
 
     // 1 to 4,096 ticks of one value.
@@ -283,7 +309,7 @@ impl Chip {
         if !self.awake {
             return quiet(4, self);
         }
-        quiet(0, self.warmed(counts))
+        done(self.warmed(counts))
     }
 
     pub fn count(self, cc: u16) -> Stepped
@@ -294,7 +320,7 @@ impl Chip {
         }
         let registers = self.registers;
         let registers = registers.coulombs(cc);
-        quiet(0, Chip { registers, ..self })
+        done(Chip { registers, ..self })
     }
 
     pub fn pin(self) -> Stepped
@@ -305,7 +331,7 @@ impl Chip {
         }
         let registers = self.registers;
         let registers = registers.pulled();
-        quiet(0, Chip { registers, ..self })
+        done(Chip { registers, ..self })
     }
 
     pub fn load(self, level: bool) -> Stepped
@@ -316,7 +342,18 @@ impl Chip {
         }
         let registers = self.registers;
         let registers = registers.loaded(level);
-        quiet(0, Chip { registers, ..self })
+        done(Chip { registers, ..self })
+    }
+
+    pub fn level(self, level: bool) -> Stepped
+        ensures { λ r. ⌜ r ≡ happened (Level level) self ⌝ }
+    {
+        if !self.awake {
+            return quiet(4, self);
+        }
+        let registers = self.registers;
+        let registers = registers.leveled(level);
+        done(Chip { registers, ..self })
     }
 
     pub fn xready(self) -> Stepped
@@ -327,7 +364,7 @@ impl Chip {
         }
         let registers = self.registers;
         let registers = registers.unready();
-        quiet(0, Chip { registers, ..self })
+        done(Chip { registers, ..self })
     }
 }
 
@@ -357,7 +394,8 @@ impl Chip {
         if settings.ships(at, value) {
             return in_ship(setup);
         }
-        self.registers = registers.write(setup, at, value);
+        let written = registers.write(setup, at, value);
+        self.registers = written.held();
         self
     }
 
@@ -365,7 +403,7 @@ impl Chip {
         ensures { λ r. ⌜ r ≡ landedSpec store self ⌝ }
     {
         match store {
-            Store::Nothing => self,
+            Store::Nothing => watched(self),
             Store::At(at, value) => self.wrote(at, value),
         }
     }
@@ -462,6 +500,7 @@ impl Chip {
             Event::Load(level) => self.load(level),
             Event::Xready => self.xready(),
             Event::OnBus(bus) => self.on_bus(bus),
+            Event::Level(level) => self.level(level),
             Event::Ticks(value, repeat) => self.ticks(value, repeat),
             Event::Soak(value, repeat) => self.soak(value, repeat),
         }

@@ -9,7 +9,7 @@ use Rattle.events.specs.declared.Setup.{Setup}
 use Rattle.events.specs.declared.BusEvent.{BusEvent}
 use Rattle.events.specs.declared.BusEvent.the-variants.{Start, Stop, Out, In}
 use Rattle.events.specs.Setup.{groups, inputs}
-use Rattle.events.specs.Event.{Event, Por, Boot, Pin, Xready, Scan, Temp, Count, Sense, Load, OnBus, fits}
+use Rattle.events.specs.Event.{Event, Por, Boot, Pin, Xready, Scan, Temp, Count, Sense, Load, OnBus, Level, fits}
 use Rattle.bus.specs.declared.Phase.{Phase}
 use Rattle.bus.specs.declared.Phase.the-variants.{Idle, Address, Pointing, Writing, Checking, Reading, Summing}
 use Rattle.bus.specs.declared.Line.{Line}
@@ -24,7 +24,7 @@ use Rattle.registers.specs.Write.{balanceWith}
 use Rattle.registers.specs.Read.{balanceByte, lowByte, wordAt, fixedByte, readAt}
 use Rattle.chip.specs.declared.Chip.{Chip}
 use Rattle.chip.specs.declared.Stepped.{Stepped}
-use Rattle.chip.specs.Chip.{quiet, inShip, accepted, storedAt, stored, reads, onBus, normally, asleep, happened, stepped, next}
+use Rattle.chip.specs.Chip.{quiet, inShip, accepted, storedAt, stored, reads, onBus, watched, settled, normally, asleep, happened, stepped, next}
 use Rattle.demands.specs.Demand.{chip}
 use Rattle.demands.specs.History.{setup-is}
 
@@ -87,6 +87,7 @@ normal-bare (Count n) c = refl
 normal-bare (Sense v) c = refl
 normal-bare (Load l) c = refl
 normal-bare (OnBus b) c = bus-bare b c
+normal-bare (Level l) c = refl
 
 asleep-bare : (e : Event) (c : Chip) → bared (asleep e c .chip) ≡ bared (asleep e (bared c) .chip)
 asleep-bare Por c = refl
@@ -102,14 +103,15 @@ asleep-bare (OnBus Start) c = refl
 asleep-bare (OnBus Stop) c = refl
 asleep-bare (OnBus (Out b)) c = refl
 asleep-bare (OnBus (In nack)) c = refl
+asleep-bare (Level l) c = refl
 
 pub next-bare : (e : Event) (c : Chip) → bared (next e c) ≡ bared (next e (bared c))
 unfolding stepped happened
 next-bare e c = by (fits e) (c .awake)
   where
-    by : (f a : Bool) → bared (cond f (cond a (normally e c) (asleep e c)) (quiet 3 c) .chip)
-        ≡ bared (cond f (cond a (normally e (bared c)) (asleep e (bared c))) (quiet 3 (bared c)) .chip)
-    by true true = normal-bare e c
+    by : (f a : Bool) → bared (cond f (cond a (settled (normally e c)) (asleep e c)) (quiet 3 c) .chip)
+        ≡ bared (cond f (cond a (settled (normally e (bared c))) (asleep e (bared c))) (quiet 3 (bared c)) .chip)
+    by true true = ap watched (normal-bare e c)
     by true false = asleep-bare e c
     by false a = refl
 

@@ -6,7 +6,7 @@ use mathlib.Core.List.{List, [], _∷_, _++_}
 use mathlib.Core.Logic.{_↔_, Iff·rfl}
 use Rattle.events.specs.declared.Setup.{Setup}
 use Rattle.events.specs.declared.BusEvent.{BusEvent}
-use Rattle.events.specs.Event.{Event, Por, Boot, Pin, Xready, Scan, Temp, Count, Sense, Load, OnBus, fits}
+use Rattle.events.specs.Event.{Event, Por, Boot, Pin, Xready, Scan, Temp, Count, Sense, Load, OnBus, Level, fits}
 use Rattle.events.specs.Fault.{Fault}
 use Rattle.protection.specs.Rule.{Rule, rule, opinion}
 use Rattle.chip.specs.declared.Chip.{Chip}
@@ -28,6 +28,7 @@ Outside (Count n) = Unit
 Outside (Sense v) = Unit
 Outside (Load l) = Unit
 Outside (OnBus b) = ⊥
+Outside (Level l) = Unit
 
 module _ (u : Setup) (k : Fault) where
   -- one rule for k, and one mode
@@ -70,6 +71,7 @@ module _ (u : Setup) (k : Fault) where
   alike-next (Sense v) o c d a = settled (Sense v) c d a (λ c. next-by (Kept c) (Sense v) (bare u c) (λ f a. (refl, refl)) (λ f a. (refl, refl)) (λ f. (refl, refl)))
   alike-next (Load l) o c d a = settled (Load l) c d a (λ c. next-by (Kept c) (Load l) (bare u c) (λ f a. (refl, refl)) (λ f a. (refl, refl)) (λ f. (refl, refl)))
   alike-next (OnBus b) o c d a = absurd o
+  alike-next (Level l) o c d a = settled (Level l) c d a (λ c. next-by (Kept c) (Level l) (bare u c) (λ f a. (refl, refl)) (λ f a. (refl, refl)) (λ f. (refl, refl)))
 
   -- ── the verdicts ──
   pub alike : {p q : List Event} → PutIn p q → Alike (core u p) (core u q)

@@ -11,7 +11,7 @@ use lib.Dec.{eqb}
 use Rattle.events.specs.declared.Setup.{Setup}
 use Rattle.events.specs.declared.BusEvent.{BusEvent}
 use Rattle.events.specs.declared.BusEvent.the-variants.{Start, Stop, Out, In}
-use Rattle.events.specs.Event.{Event, Por, Boot, Pin, Xready, Scan, Temp, Count, Sense, Load, OnBus, fits}
+use Rattle.events.specs.Event.{Event, Por, Boot, Pin, Xready, Scan, Temp, Count, Sense, Load, OnBus, Level, fits}
 use Rattle.events.specs.Fault.{Fault, Ov, Uv, Scd, Ocd}
 use Rattle.bus.specs.declared.Store.{Store}
 use Rattle.bus.specs.declared.Store.the-variants.{Nothing, At}
@@ -47,6 +47,7 @@ judges k (Count n) = false
 judges k (Sense v) = not (ofCells k)
 judges k (Load l) = false
 judges k (OnBus b) = false
+judges k (Level l) = false
 
 -- the accepted store that an event makes: with CRC on at the CRC byte, else at the data byte
 abbrev pub wrote : Setup → Core → Event → Store
@@ -63,6 +64,7 @@ wrote u c (OnBus Start) = Nothing
 wrote u c (OnBus Stop) = Nothing
 wrote u c (OnBus (Out b)) = cond (c .awake) (outed u (c .line) b .store) Nothing
 wrote u c (OnBus (In nack)) = Nothing
+wrote u c (Level l) = Nothing
 
 -- a one written to the bit of k in SYS_STAT; a one written to its drive in SYS_CTRL2
 abbrev pub clears : Fault → Store → Bool
@@ -92,6 +94,10 @@ module _ (u : Setup) where
 
   abbrev pub shown : List Event → Shown
   shown past = chip past .registers .shown
+
+  -- the outside level (document 02, M-103)
+  abbrev pub outside : List Event → Bool
+  outside past = chip past .registers .outside
 
   -- the bit of k in SYS_STAT, its drive, and ALERT
   abbrev pub up : Fault → List Event → Bool

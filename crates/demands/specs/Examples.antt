@@ -9,7 +9,7 @@ use Rattle.crc8.specs.Crc.{byteOn}
 use Rattle.events.specs.declared.Setup.{Setup}
 use Rattle.events.specs.declared.BusEvent.the-variants.{Start, Stop, Out, In}
 use Rattle.events.specs.Setup.{groups, inputs}
-use Rattle.events.specs.Event.{Event, Por, Boot, Pin, Xready, Scan, Sense, OnBus, fits}
+use Rattle.events.specs.Event.{Event, Por, Boot, Pin, Xready, Scan, Sense, OnBus, Level, fits}
 use Rattle.bus.specs.Bus.{addressed, fed, checked, outed, taken, given, owing, afterData, afterSum, keeps}
 use Rattle.settings.specs.Write.{settingsWith}
 use Rattle.settings.specs.Read.{settingsByte}
@@ -166,7 +166,20 @@ delays =
 abbrev pub pins : List Case
 pins = (Pin ∷ [], 0x10) ∷ (times 4 (cell 10953) ++ Pin ∷ [], 4) ∷ []
 
-pub spells-hold : found (spells ++ delays ++ pins) ≡ wanted (spells ++ delays ++ pins)
+-- the outside level: with SYS_STAT 0, and with OV up; cleared in vain while it is 1, with another bit left, and once it is 0; it does not outlive SHIP
+abbrev pub levels : List Case
+levels =
+    (Level true ∷ [], 0x10)
+    ∷ (times 4 (cell 10953) ++ Level true ∷ [], 4)
+    ∷ (Level true ∷ write 0x00 0xFF, 0x10)
+    ∷ (Level true ∷ times 4 (cell 10953) ++ write 0x00 0x10, 4)
+    ∷ (times 4 (cell 10953) ++ Level true ∷ write 0x00 0x04, 0x10)
+    ∷ (Level true ∷ Level false ∷ [], 0x10)
+    ∷ (Level true ∷ Level false ∷ write 0x00 0x10, 0)
+    ∷ (Level true ∷ Por ∷ Boot ∷ [], 0)
+    ∷ []
+
+pub spells-hold : found (spells ++ delays ++ pins ++ levels) ≡ wanted (spells ++ delays ++ pins ++ levels)
 unfolding stepped happened fits outed settingsWith shownWith balanceWith addressed fed checked storedAt rule over under beyond
 spells-hold = refl
 

@@ -16,9 +16,10 @@ use Rattle.bus.specs.declared.Phase.the-variants.{Address, Reading}
 use Rattle.bus.specs.Bus.{lineOf, outed, addressed, taken, given, owing, afterData, keeps, goes}
 use Rattle.chip.specs.declared.Chip.{Chip}
 use Rattle.chip.specs.declared.Stepped.{Stepped}
-use Rattle.chip.specs.Chip.{moved, reads, onBus, stepped, next}
+use Rattle.chip.specs.Chip.{moved, reads, onBus, watched, stepped, next}
+use Rattle.chip.specs.Calm.{Calmed}
 use Rattle.chip.specs.Moves.{normal-is}
-use Rattle.demands.specs.Checked.{ran, one-out}
+use Rattle.demands.specs.Checked.{ran, one-start, one-goes}
 
 -- the bus reads, and no low byte is kept
 abbrev pub reading : ℕ → Chip → Chip
@@ -35,7 +36,7 @@ pub gives-its-crc : (c : Chip) (s : ℕ) (nack : Bool) → c .setup .crc ≡ tru
 unfolding fits taken given owing afterData keeps
 gives-its-crc c s nack k on =
     ap (λ t. stepped (OnBus (In nack)) (t .chip) .byte) (normal-is (OnBus (In false)) (reading s c) refl on)
-    ∙ ap (λ t. t .byte) (normal-is (OnBus (In nack)) (onBus (In false) (reading s c) .chip) refl on)
+    ∙ ap (λ t. t .byte) (normal-is (OnBus (In nack)) (watched (onBus (In false) (reading s c) .chip)) refl on)
     ∙ (rw k)
 
 -- ── from START on ──
@@ -44,21 +45,20 @@ unfolding outed addressed
 called c a =
     simp (ne-eqb (c .setup .address * 2 + 1) (c .setup .address * 2) (omega arith), eq-eqb (c .setup .address * 2 + 1) (c .setup .address * 2 + 1) refl)
 
-pub begins : (c : Chip) → c .awake ≡ true
+pub begins : (c : Chip) → Calmed c → c .awake ≡ true
     → ran c (OnBus Start ∷ OnBus (Out (c .setup .address * 2 + 1)) ∷ []) ≡ reading (byteOn 0 (c .setup .address * 2 + 1)) c
-unfolding fits
-begins c on =
-    ap (λ s. next (OnBus (Out w)) (s .chip)) (normal-is (OnBus Start) c refl on)
-    ∙ one-out c (lineOf Address (c .bus .line .pointer)) w (goes (Reading (byteOn 0 w) false) (c .bus .line .pointer)) on (called c (c .bus .line .pointer))
+begins c m on =
+    ap (next (OnBus (Out w))) (one-start c m on)
+    ∙ one-goes c (lineOf Address (c .bus .line .pointer)) w (Reading (byteOn 0 w) false) (c .bus .line .pointer) m on (called c (c .bus .line .pointer))
   where
     w : ℕ
     w = c .setup .address * 2 + 1
 
 -- the first CRC of a read has the address byte and the data
-pub first-crc : (c : Chip) (nack : Bool) → c .setup .crc ≡ true → c .awake ≡ true → c .setup .address < 127 → reads c (c .bus .line .pointer) < 256
+pub first-crc : (c : Chip) (nack : Bool) → Calmed c → c .setup .crc ≡ true → c .awake ≡ true → c .setup .address < 127 → reads c (c .bus .line .pointer) < 256
     → stepped (OnBus (In nack)) (ran c (OnBus Start ∷ OnBus (Out (c .setup .address * 2 + 1)) ∷ OnBus (In false) ∷ [])) .byte
     ≡ crc ((c .setup .address * 2 + 1) ∷ reads c (c .bus .line .pointer) ∷ [])
-first-crc c nack k on ha hr =
-    ap (λ d. stepped (OnBus (In nack)) (next (OnBus (In false)) d) .byte) (begins c on)
+first-crc c nack m k on ha hr =
+    ap (λ d. stepped (OnBus (In nack)) (next (OnBus (In false)) d) .byte) (begins c m on)
     ∙ gives-its-crc c (byteOn 0 (c .setup .address * 2 + 1)) nack k on
     ∙ sym (crc-is ((c .setup .address * 2 + 1) ∷ reads c (c .bus .line .pointer) ∷ []) (omega arith, (hr, tt)))

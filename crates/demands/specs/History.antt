@@ -14,6 +14,7 @@ use Rattle.chip.specs.declared.Chip.{Chip}
 use Rattle.chip.specs.declared.Stepped.{Stepped}
 use Rattle.chip.specs.Core.{Core, coreOf, coreNext}
 use Rattle.chip.specs.Moves.{normal-is, setup-next, core-next}
+use Rattle.chip.specs.Calm.{Calmed, ship-calm, calm-next}
 use Rattle.demands.specs.Demand.{judges, chip, up, core, Awake, Accepted, said, verdicts, delay}
 use Rattle.demands.specs.Told.{run-of, heard, Told, next-told, accepted-judged, judging, rising}
 
@@ -31,6 +32,12 @@ module _ (u : Setup) where
 
   pub awake-is : (past : List Event) → chip u past .awake ≡ core u past .awake
   awake-is past = ap (λ d. d .awake) (core-is past)
+
+  -- THE LEVEL: the outside level 1 and SYS_STAT 0 never stand together
+  pub calm-is : (past : List Event) → Calmed (chip u past)
+  unfolding chip
+  calm-is [] = ship-calm u
+  calm-is (e ∷ past) = calm-next e (chip u past) (calm-is past)
 
   -- what the chip hears is what the events say
   heard-is : (k : Fault) (past : List Event) (e : Event) → heard k e (chip u past) ≡ said u k past e

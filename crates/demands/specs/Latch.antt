@@ -7,7 +7,7 @@ use borrow.Author.Tests.{eqb-true}
 use Rattle.events.specs.declared.Setup.{Setup}
 use Rattle.events.specs.declared.BusEvent.{BusEvent}
 use Rattle.events.specs.declared.BusEvent.the-variants.{Start, Stop, Out, In}
-use Rattle.events.specs.Event.{Event, Por, Boot, Pin, Xready, Scan, Temp, Count, Sense, Load, OnBus, fits}
+use Rattle.events.specs.Event.{Event, Por, Boot, Pin, Xready, Scan, Temp, Count, Sense, Load, OnBus, Level, fits}
 use Rattle.events.specs.Fault.{Fault, Ov, Uv, Scd, Ocd}
 use Rattle.registers.specs.Fault.{bitOf, driveOf, raised, overridden, readied, counting}
 use Rattle.bus.specs.declared.Store.{Store}
@@ -18,6 +18,7 @@ use Rattle.registers.specs.declared.Status.{Status}
 use Rattle.registers.specs.declared.Shown.{Shown}
 use Rattle.registers.specs.State.{dark, alert, withStatus}
 use Rattle.registers.specs.Write.{statusOf, without, holdsChg, holdsDsg, driven, shownWith}
+use Rattle.registers.specs.Held.{heldAt}
 use Rattle.protection.specs.Rule.{rule, risen}
 use Rattle.chip.specs.declared.Chip.{Chip}
 use Rattle.chip.specs.declared.Stepped.{Stepped}
@@ -96,6 +97,10 @@ module _ {jud clr ask on u d u′ d′ : Bool} where
         off = λ x. rw (p, e) (rise u r d q x i);
       }
 
+  -- and then its drive off
+  quieter : Kept jud clr ask on u d u′ d′ → Kept jud clr ask on u d u′ false
+  quieter h = record { only = h .only; stays = h .stays; down = h .down; back = λ x y. absurd (true≢false (sym y)); off = λ x. and-false u′ }
+
   asked : (q : Bool) → clr ≡ false → u′ ≡ u → d′ ≡ ask && not q → (u ≡ true → q ≡ true) → Kept jud clr ask on u d u′ d′
   asked q n p e i = record { only = λ x y. cc; stays = λ x y z. cc; down = λ x. cc; back = λ x y. granted ask q u i (sym e ∙ y); off = λ x. rw (p, e) (guard u ask q i) }
 
@@ -156,6 +161,19 @@ writes k x a v on s =
     (λ h. clearing k x a v on s (eqb-true a 0x00 h))
     (λ h. by-cond (Keeps k x (At a v) on s) (eqb a 0x05) (driven v s) s (λ i. driving k x a v on s (eqb-true a 0x05 i)) (λ i. same k x (At a v) on s (rw h)))
 
+-- ── and then the outside level ──
+over-keeps : (k : Fault) (x : Event) (w : Store) (on : Bool) (s t : Shown) → Keeps k x w on s t → Keeps k x w on s (overridden t)
+unfolding Keeps
+over-keeps Ov x w on s t h = quieter h
+over-keeps Uv x w on s t h = quieter h
+over-keeps Scd x w on s t h = quieter h
+over-keeps Ocd x w on s t h = quieter h
+
+level-keeps : (k : Fault) (x : Event) (w : Store) (on l : Bool) (s t : Shown) → Keeps k x w on s t → Keeps k x w on s (heldAt l t)
+level-keeps k x w on l s t h =
+    by-cond (Keeps k x w on s) l (cond (alert (t .status)) t (overridden t)) t
+    (λ i. by-cond (Keeps k x w on s) (alert (t .status)) t (overridden t) (λ j. h) (λ j. over-keeps k x w on s t h)) (λ i. h)
+
 -- ── each event ──
 pub when-true : {A : Type 0} (b : Bool) (x y : A) → b ≡ true → cond b x y ≡ x
 when-true b x y h = rw h
@@ -208,6 +226,7 @@ normal-keeps k (Count n) c a =
 normal-keeps k (Sense v) c a = judged-keeps k (Sense v) c
 normal-keeps k (Load l) c a = stays-as k (Load l) c Nothing refl
 normal-keeps k (OnBus b) c a = bus-keeps k b c a
+normal-keeps k (Level l) c a = stays-as k (Level l) c Nothing refl
 
 -- in SHIP, and out of range, nothing is written
 pub wrote-asleep : (u : Setup) (c : Core) (e : Event) → c .awake ≡ false → wrote u c e ≡ Nothing
@@ -224,6 +243,7 @@ wrote-asleep u c (OnBus Start) a = refl
 wrote-asleep u c (OnBus Stop) a = refl
 wrote-asleep u c (OnBus (Out b)) a = rw a
 wrote-asleep u c (OnBus (In nack)) a = refl
+wrote-asleep u c (Level l) a = refl
 
 pub wrote-unfit : (u : Setup) (c : Core) (e : Event) → fits e ≡ false → wrote u c e ≡ Nothing
 unfolding fits
@@ -237,12 +257,14 @@ wrote-unfit u c (Count n) f = refl
 wrote-unfit u c (Sense v) f = refl
 wrote-unfit u c (Load l) f = refl
 wrote-unfit u c (OnBus b) f = cc
+wrote-unfit u c (Level l) f = refl
 
 pub next-keeps : (k : Fault) (e : Event) (c : Chip) → Holds k e c (next e c)
 next-keeps k e c =
-    next-by (Holds k e c) e c (λ f a. normal-keeps k e c a)
+    next-by (Holds k e c) e c
+    (λ f a. level-keeps k e w (normally e c .chip .awake) (normally e c .chip .registers .outside) (c .registers .shown) (normally e c .chip .registers .shown) (normal-keeps k e c a))
     (λ f a. let n : clears k w ≡ false = ap (clears k) (wrote-asleep (c .setup) (coreOf c) e a) in
-    asleep-by (Holds k e c) e c (darkens k e w (c .registers .shown)) (λ b. same k e w true (c .registers .shown) n) (stays-as k e c w n))
+    asleep-by (Holds k e c) e c (darkens k e w (c .registers .shown)) (λ b. level-keeps k e w true (c .registers .outside) (c .registers .shown) (c .registers .shown) (same k e w true (c .registers .shown) n)) (stays-as k e c w n))
     (λ f. stays-as k e c w (ap (clears k) (wrote-unfit (c .setup) (coreOf c) e f)))
   where
     w : Store

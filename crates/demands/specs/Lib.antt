@@ -20,4 +20,5 @@ pub mod Streams
 pub mod Answered
 pub mod Latches
 pub mod Between
+pub mod Level
 pub mod Ticks

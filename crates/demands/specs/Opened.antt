@@ -8,7 +8,7 @@ use Rattle.crc8.specs.Crc.{byteOn}
 use Rattle.events.specs.declared.Setup.{Setup}
 use Rattle.events.specs.declared.BusEvent.{BusEvent}
 use Rattle.events.specs.declared.BusEvent.the-variants.{Start, Stop, Out, In}
-use Rattle.events.specs.Event.{Event, Por, Boot, Pin, Xready, Scan, Temp, Count, Sense, Load, OnBus, fits}
+use Rattle.events.specs.Event.{Event, Por, Boot, Pin, Xready, Scan, Temp, Count, Sense, Load, OnBus, Level, fits}
 use Rattle.bus.specs.declared.Phase.{Phase}
 use Rattle.bus.specs.declared.Line.{Line}
 use Rattle.bus.specs.declared.Store.{Store}
@@ -17,8 +17,9 @@ use Rattle.bus.specs.declared.Phase.the-variants.{Idle, Address, Pointing, Writ
 use Rattle.bus.specs.Bus.{addressed, fed, checked, outIn, outed, goes, refuses, stores}
 use Rattle.chip.specs.declared.Chip.{Chip}
 use Rattle.chip.specs.declared.Stepped.{Stepped}
-use Rattle.chip.specs.Chip.{quiet, inShip, stored, onBus, normally, asleep, happened, stepped, next}
+use Rattle.chip.specs.Chip.{quiet, inShip, stored, onBus, watched, settled, normally, asleep, happened, stepped, next}
 use Rattle.chip.specs.Moves.{normal-is, stored-by}
+use Rattle.chip.specs.Calm.{Calmed, calm-watched, settles}
 use Rattle.demands.specs.Spoiled.{Chips, sortOf, isSends, checks, waiting, spoiled, phased}
 
 -- ── the phase apart, a chip event does the same ──
@@ -39,28 +40,33 @@ apart-normal p (OnBus Start) c h = (cc, cc)
 apart-normal p (OnBus Stop) c h = (cc, cc)
 apart-normal p (OnBus (Out b)) c h = (cc, cc)
 apart-normal p (OnBus (In nack)) c h = (cc, cc)
+apart-normal p (Level l) c h = (refl, refl)
 
 pub apart : (p : Phase) (e : Event) (c : Chip) → sortOf e ≡ Chips → c .awake ≡ true → (stepped e (phased p c) ≡ mapped p (stepped e c)) × (next e c .awake ≡ true)
 unfolding stepped happened
 apart p e c h a = by (fits e) (c .awake) a
   where
     by : (f w : Bool) → w ≡ true
-        → (cond f (cond w (normally e (phased p c)) (asleep e (phased p c))) (quiet 3 (phased p c)) ≡ mapped p (cond f (cond w (normally e c) (asleep e c)) (quiet 3 c)))
-        × (cond f (cond w (normally e c) (asleep e c)) (quiet 3 c) .chip .awake ≡ true)
-    by true true w = (apart-normal p e c h .0, apart-normal p e c h .1 ∙ a)
+        → (cond f (cond w (settled (normally e (phased p c))) (asleep e (phased p c))) (quiet 3 (phased p c)) ≡ mapped p (cond f (cond w (settled (normally e c)) (asleep e c)) (quiet 3 c)))
+        × (cond f (cond w (settled (normally e c)) (asleep e c)) (quiet 3 c) .chip .awake ≡ true)
+    by true true w = (ap settled (apart-normal p e c h .0), apart-normal p e c h .1 ∙ a)
     by true false w = (cc, cc)
     by false w z = (refl, a)
 
 -- ── a bus event in NORMAL ──
-pub bus-is : (b : BusEvent) (c : Chip) → c .awake ≡ true → stepped (OnBus b) c ≡ onBus b c
+pub bus-is : (b : BusEvent) (c : Chip) → c .awake ≡ true → stepped (OnBus b) c ≡ settled (onBus b c)
 unfolding fits
 bus-is b c a = normal-is (OnBus b) c refl a
+
+-- where it leaves no work for the outside level
+pub bus-still : (b : BusEvent) (c : Chip) → c .awake ≡ true → Calmed (onBus b c .chip) → stepped (OnBus b) c ≡ onBus b c
+bus-still b c a m = bus-is b c a ∙ settles (onBus b c) m
 
 pub reset-is : (c : Chip) → stepped Por c ≡ quiet 0 (inShip (c .setup))
 unfolding stepped happened fits
 reset-is c = by (c .awake)
   where
-    by : (a : Bool) → cond a (normally Por c) (asleep Por c) ≡ quiet 0 (inShip (c .setup))
+    by : (a : Bool) → cond a (settled (normally Por c)) (asleep Por c) ≡ quiet 0 (inShip (c .setup))
     by true = refl
     by false = refl
 
@@ -68,7 +74,7 @@ asleep-out : (b : ℕ) (c : Chip) → c .awake ≡ false → next (OnBus (Out b)
 unfolding stepped happened fits
 asleep-out b c a = by (c .awake) a
   where
-    by : (w : Bool) → w ≡ false → cond w (normally (OnBus (Out b)) c) (asleep (OnBus (Out b)) c) .chip ≡ c
+    by : (w : Bool) → w ≡ false → cond w (settled (normally (OnBus (Out b)) c)) (asleep (OnBus (Out b)) c) .chip ≡ c
     by w h = rw h
 
 -- ── Bools ──
@@ -126,10 +132,11 @@ stored-waits l t c =
     (λ a v n s h. cc)
     (λ a v n s h. and-right (c .awake) (checks (l .phase)) h)
 
-pub opens : (b : ℕ) (c : Chip) → waiting (next (OnBus (Out b)) c) ≡ true
+pub opens : (b : ℕ) (c : Chip) → Calmed c → waiting (next (OnBus (Out b)) c) ≡ true
     → (s : ℕ) × (c ≡ phased (Writing s) c) × (next (OnBus (Out b)) c ≡ phased (Checking b (byteOn s b)) c) × (c .awake ≡ true)
 unfolding outed
-opens b c h = (f .0, λ i. phased-at (f .1 i), ap (λ s. s .chip) (bus-is (Out b) c a) ∙ ap (λ o. stored (o .line) (o .store) c) (f .2), a)
+opens b c m h =
+    (f .0, λ i. phased-at (f .1 i), ap (λ s. s .chip) (bus-is (Out b) c a) ∙ ap (λ o. watched (stored (o .line) (o .store) c)) (f .2) ∙ calm-watched (phased-at (Checking b (byteOn (f .0) b))) m, a)
   where
     a : c .awake ≡ true
     a = by (c .awake) refl

@@ -4,10 +4,10 @@ use mathlib.Core.Bool.{Bool, true, false, cond}
 use Rattle.events.specs.declared.Counts.{Counts}
 use Rattle.events.specs.declared.BusEvent.the-variants.{Start, Stop, Out, In}
 use Rattle.events.specs.declared.Event.{Event as Coded}
-use Rattle.events.specs.Event.{Event, Por, Boot, Pin, Xready, Scan, Temp, Count, Sense, Load, OnBus, fits, ticksFit, Meant, means, ticks, unfit, meantOf}
+use Rattle.events.specs.Event.{Event, Por, Boot, Pin, Xready, Scan, Temp, Count, Sense, Load, OnBus, Level, fits, ticksFit, Meant, means, ticks, unfit, meantOf}
 use Rattle.chip.specs.declared.Chip.{Chip}
 use Rattle.chip.specs.declared.Stepped.{Stepped}
-use Rattle.chip.specs.Chip.{quiet, normally, asleep, happened, stepped, next, ticking, steppedAs, steppedBy}
+use Rattle.chip.specs.Chip.{quiet, settled, normally, asleep, happened, stepped, next, ticking, steppedAs, steppedBy}
 
 -- in NORMAL nothing in range is refused
 pub normal-done : (e : Event) (c : Chip) → normally e c .number ≡ 0
@@ -24,6 +24,7 @@ normal-done (OnBus Start) c = refl
 normal-done (OnBus Stop) c = refl
 normal-done (OnBus (Out b)) c = refl
 normal-done (OnBus (In nack)) c = refl
+normal-done (Level l) c = refl
 
 asleep-refused : (e : Event) (c : Chip) → (asleep e c .number ≡ 0 → ⊥) → asleep e c .chip ≡ c
 asleep-refused Por c h = absurd (h refl)
@@ -39,13 +40,14 @@ asleep-refused (OnBus Start) c h = refl
 asleep-refused (OnBus Stop) c h = refl
 asleep-refused (OnBus (Out b)) c h = refl
 asleep-refused (OnBus (In nack)) c h = refl
+asleep-refused (Level l) c h = refl
 
 -- number 4, of an event whose values are in range, which the code's methods speak of
 pub refused-happened : (e : Event) (c : Chip) → (happened e c .number ≡ 0 → ⊥) → happened e c .chip ≡ c
 unfolding happened
 refused-happened e c h = by (c .awake) h
   where
-    by : (a : Bool) → (cond a (normally e c) (asleep e c) .number ≡ 0 → ⊥) → cond a (normally e c) (asleep e c) .chip ≡ c
+    by : (a : Bool) → (cond a (settled (normally e c)) (asleep e c) .number ≡ 0 → ⊥) → cond a (settled (normally e c)) (asleep e c) .chip ≡ c
     by true h = absurd (h (normal-done e c))
     by false h = asleep-refused e c h
 

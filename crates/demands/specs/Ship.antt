@@ -1,17 +1,17 @@
 -- Document 01, "Modes", over any events: whenever the chip is in SHIP it is as after setup, every register at its reset value, all runs ended, the load
--- level and the pointer 0, the bus idle. Assumes nothing.
+-- level, the outside level and the pointer 0, the bus idle. Assumes nothing.
 use mathlib.Core.Path.{_≡_, refl, sym, ap, _∙_}
 use mathlib.Core.Bool.{true, false, true≢false}
 use mathlib.Core.List.{List, [], _∷_}
 use Rattle.events.specs.declared.Setup.{Setup}
 use Rattle.events.specs.declared.BusEvent.{BusEvent}
 use Rattle.events.specs.declared.BusEvent.the-variants.{Start, Stop, Out, In}
-use Rattle.events.specs.Event.{Event, Por, Boot, Pin, Xready, Scan, Temp, Count, Sense, Load, OnBus}
+use Rattle.events.specs.Event.{Event, Por, Boot, Pin, Xready, Scan, Temp, Count, Sense, Load, OnBus, Level}
 use Rattle.bus.specs.declared.Outed.{Outed}
 use Rattle.bus.specs.Bus.{outed}
 use Rattle.chip.specs.declared.Chip.{Chip}
 use Rattle.chip.specs.declared.Stepped.{Stepped}
-use Rattle.chip.specs.Chip.{inShip, onBus, normally, next}
+use Rattle.chip.specs.Chip.{inShip, onBus, watched, normally, next}
 use Rattle.chip.specs.Moves.{next-by, stored-by, asleep-by}
 use Rattle.demands.specs.Demand.{chip}
 use Rattle.demands.specs.History.{setup-is}
@@ -43,10 +43,15 @@ normal-rests (Count n) c a = awake-rests (c .setup) (normally (Count n) c .chip)
 normal-rests (Sense v) c a = awake-rests (c .setup) (normally (Sense v) c .chip) a
 normal-rests (Load l) c a = awake-rests (c .setup) (normally (Load l) c .chip) a
 normal-rests (OnBus b) c a = bus-rests b c a
+normal-rests (Level l) c a = awake-rests (c .setup) (normally (Level l) c .chip) a
+
+-- in SHIP the outside level does nothing
+watched-rests : (u : Setup) (d : Chip) → Rests u d → Rests u (watched d)
+watched-rests u d h z = ap watched (h z)
 
 next-rests : (e : Event) (c : Chip) → Rests (c .setup) c → Rests (c .setup) (next e c)
 next-rests e c h =
-    next-by (Rests (c .setup)) e c (λ f a. normal-rests e c a)
+    next-by (Rests (c .setup)) e c (λ f a. watched-rests (c .setup) (normally e c .chip) (normal-rests e c a))
     (λ f a. asleep-by (Rests (c .setup)) e c (λ z. refl) (λ w z. absurd (true≢false z)) h) (λ f. h)
 
 module _ (u : Setup) where

@@ -7,7 +7,7 @@ use lib.Dec.{eqb}
 use Rattle.crc8.specs.Crc.{byteOn}
 use Rattle.events.specs.declared.Setup.{Setup}
 use Rattle.events.specs.declared.BusEvent.the-variants.{Start, Stop, Out, In}
-use Rattle.events.specs.Event.{Event, Por, Boot, Pin, Xready, Scan, Temp, Count, Sense, Load, OnBus, fits}
+use Rattle.events.specs.Event.{Event, Por, Boot, Pin, Xready, Scan, Temp, Count, Sense, Load, OnBus, Level, fits}
 use Rattle.bus.specs.declared.Phase.{Phase}
 use Rattle.bus.specs.declared.Phase.the-variants.{Idle, Address, Pointing, Writing, Checking, Reading, Summing}
 use Rattle.bus.specs.Bus.{withPhase, addressed, fed, checked, outed, taken, given, owing, afterData, afterSum, keeps}
@@ -36,6 +36,7 @@ sortOf (OnBus Start) = Frames
 sortOf (OnBus Stop) = Frames
 sortOf (OnBus (Out b)) = Sends
 sortOf (OnBus (In nack)) = Takes
+sortOf (Level l) = Chips
 
 abbrev pub isSends : Sort → Bool
 isSends Chips = false

@@ -8,19 +8,20 @@ use lib.Dec.{leb}
 use Rattle.events.specs.declared.Setup.{Setup}
 use Rattle.events.specs.declared.BusEvent.{BusEvent}
 use Rattle.events.specs.declared.BusEvent.the-variants.{Start, Stop, Out, In}
-use Rattle.events.specs.Event.{Event, Por, Boot, Pin, Xready, Scan, Temp, Count, Sense, Load, OnBus, fits}
+use Rattle.events.specs.Event.{Event, Por, Boot, Pin, Xready, Scan, Temp, Count, Sense, Load, OnBus, Level, fits}
 use Rattle.settings.specs.declared.Settings.{Settings}
 use Rattle.events.specs.Fault.{Fault, Ov, Uv, Scd, Ocd}
 use Rattle.registers.specs.Fault.{bitOf, raised}
 use Rattle.bus.specs.Bus.{outed}
 use Rattle.registers.specs.declared.Shown.{Shown}
+use Rattle.registers.specs.Held.{held-bit}
 use Rattle.protection.specs.Streak.{lastAll, streak, bumps, bumps-streak}
 use Rattle.protection.specs.Fault.{runOf, runsOf}
 use Rattle.protection.specs.Rule.{Rule, cap, rule, opinion, any, runAfter, risen}
 use Rattle.protection.specs.Tables.{run-tells}
 use Rattle.chip.specs.declared.Chip.{Chip}
 use Rattle.chip.specs.declared.Stepped.{Stepped}
-use Rattle.chip.specs.Chip.{quiet, inShip, onBus, normally, asleep, happened, stepped, next}
+use Rattle.chip.specs.Chip.{quiet, inShip, onBus, settled, normally, asleep, happened, stepped, next}
 use Rattle.chip.specs.Core.{coreOf}
 use Rattle.chip.specs.Moves.{normal-is, next-by, stored-by, asleep-by}
 use Rattle.demands.specs.Demand.{judges}
@@ -96,6 +97,7 @@ module _ (k : Fault) (l : List Bool) where
   normal-told (Sense v) c h a = judged-told (Sense v) c h a
   normal-told (Load x) c h a = still-told c h
   normal-told (OnBus b) c h a = bus-told b c h a
+  normal-told (Level x) c h a = still-told c h
 
   pub next-told : (e : Event) (c : Chip) → Told c → Tells (next e c) (heard k e c ++ l)
   next-told e c h =
@@ -122,6 +124,7 @@ says-one Scd floor r (Sense v) = refl
 says-one Ocd floor r (Sense v) = refl
 says-one k floor r (Load l) = refl
 says-one k floor r (OnBus b) = refl
+says-one k floor r (Level l) = refl
 
 -- in SHIP it is refused
 judged-asleep : (k : Fault) (e : Event) (c : Chip) → judges k e ≡ true → asleep e c .number ≡ 4
@@ -135,12 +138,13 @@ judged-asleep k (Count n) c j = refl
 judged-asleep k (Sense v) c j = refl
 judged-asleep k (Load l) c j = refl
 judged-asleep k (OnBus b) c j = cc
+judged-asleep k (Level l) c j = refl
 
 pub accepted-judged : (k : Fault) (e : Event) (c : Chip) → judges k e ≡ true → stepped e c .number ≡ 0 → (fits e ≡ true) × (c .awake ≡ true)
 unfolding stepped happened
 accepted-judged k e c j n = by (fits e) (c .awake) n
   where
-    by : (f a : Bool) → cond f (cond a (normally e c) (asleep e c)) (quiet 3 c) .number ≡ 0 → (f ≡ true) × (a ≡ true)
+    by : (f a : Bool) → cond f (cond a (settled (normally e c)) (asleep e c)) (quiet 3 c) .number ≡ 0 → (f ≡ true) × (a ≡ true)
     by true true n = (refl, refl)
     by true false n = let four : asleep e c .number ≡ 4 = judged-asleep k e c j in (cc, cc)
     by false a n = (cc, cc)
@@ -158,6 +162,7 @@ judging k (Count n) c j = (cc, cc)
 judging k (Sense v) c j = (refl, refl)
 judging k (Load l) c j = (cc, cc)
 judging k (OnBus b) c j = (cc, cc)
+judging k (Level l) c j = (cc, cc)
 
 -- so the bit of k is then up exactly if it was, or if the newest verdicts, as many as are needed, are all true
 pub rising : (k : Fault) (l : List Bool) (e : Event) (c : Chip) → Told k l c → fits e ≡ true → c .awake ≡ true → judges k e ≡ true
@@ -165,6 +170,7 @@ pub rising : (k : Fault) (l : List Bool) (e : Event) (c : Chip) → Told k l c �
     ≡ bitOf k (c .registers .shown .status) || lastAll (rule k (c .registers .settings) .need) (opinion k (c .setup .floor) (rule k (c .registers .settings)) e ++ l)
 rising k l e c h f a j =
     ap (λ s. bitOf k (s .chip .registers .shown .status)) (normal-is e c f a)
+    ∙ held-bit k (normally e c .chip .registers .outside) (normally e c .chip .registers .shown)
     ∙ ap (λ s. bitOf k (s .status)) (judging k e c j .0)
     ∙ bit-raised (risen (c .setup .floor) (c .registers .settings) (c .runs) e) (c .registers .shown) k
     ∙ or-comm (risen (c .setup .floor) (c .registers .settings) (c .runs) e k) (bitOf k (c .registers .shown .status))

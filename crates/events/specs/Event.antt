@@ -12,7 +12,7 @@ use Rattle.events.specs.declared.Setup.{Setup}
 use Rattle.events.specs.declared.Counts.{Counts}
 use Rattle.events.specs.declared.BusEvent.{BusEvent}
 use Rattle.events.specs.declared.Event.{Event as Coded}
-use Rattle.events.specs.declared.Event.the-variants.{Setup as Setup-, Por as Por-, Boot as Boot-, Pin as Pin-, Xready as Xready-, Scan as Scan-, Temp as Temp-, Count as Count-, Sense as Sense-, Load as Load-, OnBus as OnBus-, Ticks as Ticks-, Soak as Soak-}
+use Rattle.events.specs.declared.Event.the-variants.{Setup as Setup-, Por as Por-, Boot as Boot-, Pin as Pin-, Xready as Xready-, Scan as Scan-, Temp as Temp-, Count as Count-, Sense as Sense-, Load as Load-, OnBus as OnBus-, Level as Level-, Ticks as Ticks-, Soak as Soak-}
 
 -- an event of a chip that stands: SCAN has a count for each input, TEMP one for each five
 pub data Event : Type 0 where
@@ -22,6 +22,7 @@ pub data Event : Type 0 where
   Sense : ℤ → Event
   Load : Bool → Event
   OnBus : BusEvent → Event
+  Level : Bool → Event
 
 -- ── number 3: a payload value out of range ──
 abbrev pub within : ℕ → List ℕ → Bool
@@ -50,6 +51,7 @@ fits (Count n) = true
 fits (Sense v) = senseFits v
 fits (Load l) = true
 fits (OnBus b) = true
+fits (Level l) = true
 
 -- request M-100: kind 0014 repeats a tick 1 to 4,096 times, its value being one of SENSE
 abbrev pub ticksMost : ℕ
@@ -77,6 +79,7 @@ countsWanted u (Count- n) = 0
 countsWanted u (Sense- v) = 0
 countsWanted u (Load- l) = 0
 countsWanted u (OnBus- b) = 0
+countsWanted u (Level- l) = 0
 countsWanted u (Ticks- v n) = 0
 countsWanted u (Soak- v n) = 0
 
@@ -102,6 +105,7 @@ eventOf u (Count- n) xs = means (Count n)
 eventOf u (Sense- v) xs = means (Sense v)
 eventOf u (Load- l) xs = means (Load l)
 eventOf u (OnBus- b) xs = means (OnBus b)
+eventOf u (Level- l) xs = means (Level l)
 eventOf u (Ticks- v n) xs = ticks ticksMost v n
 eventOf u (Soak- v n) xs = ticks soakMost v n
 

@@ -32,6 +32,8 @@ pub enum Event {
     Load(bool),
     Xready,
     OnBus(BusEvent),
+    // The outside level: a second protector holds ALERT up, or lets go.
+    Level(bool),
     // That many ticks of one value: request M-100.
     Ticks(i32, u16),
     // The same with a longer repeat number: request M-109.

@@ -6,7 +6,7 @@ use lib.ListN.{getD}
 use lib.Dec.{leb}
 use lib.IntN.{ℤ, pos, negℤ}
 use lib.Signed.{ltZ}
-use Rattle.events.specs.Event.{Event, Por, Boot, Pin, Xready, Scan, Temp, Count, Sense, Load, OnBus}
+use Rattle.events.specs.Event.{Event, Por, Boot, Pin, Xready, Scan, Temp, Count, Sense, Load, OnBus, Level}
 use Rattle.events.specs.Fault.{Fault, Ov, Uv, Scd, Ocd}
 use Rattle.settings.specs.declared.Settings.{Settings}
 use Rattle.settings.specs.Bit.{bit}
@@ -116,6 +116,7 @@ opinion k floor r (Count n) = []
 opinion k floor r (Sense v) = ofSense k r v
 opinion k floor r (Load l) = []
 opinion k floor r (OnBus b) = []
+opinion k floor r (Level l) = []
 
 -- ── the runs, and what rises ──
 abbrev pub any : List Bool → Bool

@@ -43,6 +43,9 @@ IN = 0x0012
 abbrev pub STOP : ℕ
 STOP = 0x0013
 
+abbrev pub LEVEL : ℕ
+LEVEL = 0x0015
+
 -- request M-100: ticks of one value
 abbrev pub TICKS : ℕ
 TICKS = 0x0014

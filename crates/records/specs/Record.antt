@@ -13,9 +13,9 @@ use Rattle.events.specs.declared.Checked.{Checked}
 use Rattle.events.specs.declared.Checked.the-variants.{Good, Bad}
 use Rattle.events.specs.declared.BusEvent.the-variants.{Start, Out, In, Stop}
 use Rattle.events.specs.declared.Event.{Event}
-use Rattle.events.specs.declared.Event.the-variants.{Setup, Por, Boot, Scan, Temp, Count, Sense, Pin, Load, Xready, OnBus, Ticks, Soak}
+use Rattle.events.specs.declared.Event.the-variants.{Setup, Por, Boot, Scan, Temp, Count, Sense, Pin, Load, Xready, OnBus, Level, Ticks, Soak}
 use Rattle.records.specs.Numbers.{le16, le32, signed32, bitOf, words, filled}
-use Rattle.records.specs.Kind.{SETUP, POR, BOOT, SCAN, TEMP, COUNT, SENSE, PIN, LOAD, XREADY, START, OUT, IN, STOP, TICKS, SOAK}
+use Rattle.records.specs.Kind.{SETUP, POR, BOOT, SCAN, TEMP, COUNT, SENSE, PIN, LOAD, XREADY, START, OUT, IN, STOP, LEVEL, TICKS, SOAK}
 use Rattle.records.specs.declared.Payload.{Payload}
 use Rattle.records.specs.declared.Payload.the-variants.{Whole, Unfit}
 use Rattle.records.specs.declared.Read.{Read}
@@ -72,12 +72,15 @@ soakOf v n = Soak v n
 abbrev pub soakIn : List ℕ → Payload
 soakIn b = cond (eqb (length b) 8) (repeatOf soakOf soakMost (le32 b 0) (le32 b 4)) (Unfit 2)
 
--- 1 byte, 0 or 1: LOAD, and IN, where 1 says that the host does not acknowledge
+-- 1 byte, 0 or 1: LOAD, the outside level (document 02, M-103), and IN, where 1 says that the host does not acknowledge
 abbrev pub switchIn : (Bool → Event) → List ℕ → Payload
 switchIn e b = cond (eqb (length b) 1) (cond (leb (getD b 0 0) 1) (Whole (e (eqb (getD b 0 0) 1))) (Unfit 3)) (Unfit 2)
 
 abbrev pub loadOf : Bool → Event
 loadOf level = Load level
+
+abbrev pub levelOf : Bool → Event
+levelOf level = Level level
 
 abbrev pub inOf : Bool → Event
 inOf refused = OnBus (In refused)
@@ -113,8 +116,9 @@ laterOf kind part b =
     (cond (eqb kind OUT) (outIn b)
     (cond (eqb kind IN) (switchIn inOf b)
     (cond (eqb kind STOP) (bareIn (OnBus Stop) b)
+    (cond (eqb kind LEVEL) (switchIn levelOf b)
     (cond (eqb kind TICKS) (ticksIn b)
-    (cond (eqb kind SOAK) (soakIn b) (Unfit 2)))))))))))))))
+    (cond (eqb kind SOAK) (soakIn b) (Unfit 2))))))))))))))))
 
 -- part 0: none stands yet, and SETUP alone is first
 unfoldable pub payloadOf : ℕ → ℕ → List ℕ → Payload
@@ -159,6 +163,7 @@ countsIn Pin b = noCounts
 countsIn (Load l) b = noCounts
 countsIn Xready b = noCounts
 countsIn (OnBus e) b = noCounts
+countsIn (Level l) b = noCounts
 countsIn (Ticks v n) b = noCounts
 countsIn (Soak v n) b = noCounts
 

@@ -11,12 +11,12 @@ use lib.ListN.{length, getD, take, drop}
 use lib.IntN.{ℤ}
 use borrow.Author.Tests.{eqb-true, leb-true, ne-eqb}
 use Rattle.events.specs.Setup.{setupFits, setupOf, checkedOf, groups, inputs}
-use Rattle.events.specs.Event.{within, countMost, senseFits, ticksMost, soakMost, ticksFit, fits, countsFit, inRange, meantOf}
+use Rattle.events.specs.Event.{Level as Level-, within, countMost, senseFits, ticksMost, soakMost, ticksFit, fits, countsFit, inRange, meantOf}
 use Rattle.events.specs.declared.Setup.{Setup as SetupValues}
 use Rattle.events.specs.declared.Counts.{Counts}
 use Rattle.events.specs.declared.BusEvent.the-variants.{Start, Out, In, Stop}
 use Rattle.events.specs.declared.Event.{Event}
-use Rattle.events.specs.declared.Event.the-variants.{Setup, Por, Boot, Scan, Temp, Count, Sense, Pin, Load, Xready, OnBus, Ticks, Soak}
+use Rattle.events.specs.declared.Event.the-variants.{Setup, Por, Boot, Scan, Temp, Count, Sense, Pin, Load, Xready, OnBus, Level, Ticks, Soak}
 use Rattle.records.specs.Numbers.{le16, le32, signed32, bitOf, words}
 use Rattle.records.specs.Kind.{SETUP}
 use Rattle.records.specs.Record.{setupGood, checkedIn, setupIn, countedIn, senseOf, repeatOf, ticksOf, soakOf, payloadOf, laterOf, readOf, groupsAt, inputsAt, countsOf, countsIn, countsBeside}
@@ -66,6 +66,7 @@ IsSetup Pin = ⊥
 IsSetup (Load l) = ⊥
 IsSetup Xready = ⊥
 IsSetup (OnBus b) = ⊥
+IsSetup (Level l) = ⊥
 IsSetup (Ticks v n) = ⊥
 IsSetup (Soak v n) = ⊥
 
@@ -143,6 +144,7 @@ later-ok u kind b =
     (sized 1 (Whole (OnBus (Out (getD b 0 0)))) (λ l. refl))
     (sized 1 (cond bit (Whole (OnBus (In level))) (Unfit 3)) (λ l. ranged bit (Whole (OnBus (In level))) (λ f. refl)))
     (sized 0 (Whole (OnBus Stop)) (λ l. refl))
+    (sized 1 (cond bit (Whole (Level level)) (Unfit 3)) (λ l. ranged bit (Whole (Level level)) (λ f. refl)))
     (sized 6 (repeatOf ticksOf ticksMost (le32 b 0) (le16 b 4)) (λ l. ranged (ticksFit ticksMost value (le16 b 4)) (Whole (Ticks value (le16 b 4))) (λ f. f)))
     (sized 8 (repeatOf soakOf soakMost (le32 b 0) (le32 b 4)) (λ l. ranged (ticksFit soakMost value (le32 b 4)) (Whole (Soak value (le32 b 4))) (λ f. f)))
     (λ (k : ℕ). tt)

@@ -6,7 +6,7 @@ ghost use lib.ListN.{length};
 ghost use Rattle.events.specs.Event.{countMost, senseFits, ticksMost, soakMost, within};
 ghost use Rattle.records.specs.Numbers.{le16, le32, signed32, words, wordOr, filled};
 ghost use Rattle.records.specs.Frame.{frameOf, headerOf};
-ghost use Rattle.records.specs.Record.{senseOf, repeatOf, ticksOf, ticksIn, soakOf, soakIn, setupIn, bareIn, countedIn, countIn, senseIn, switchIn, loadOf, inOf, outIn, groupsAt, inputsAt, laterOf, payloadOf, readOf, numberOf, noCounts, countsOf, countsIn, takenAt};
+ghost use Rattle.records.specs.Record.{senseOf, repeatOf, ticksOf, ticksIn, soakOf, soakIn, setupIn, bareIn, countedIn, countIn, senseIn, switchIn, loadOf, levelOf, inOf, outIn, groupsAt, inputsAt, laterOf, payloadOf, readOf, numberOf, noCounts, countsOf, countsIn, takenAt};
 use events::BusEvent;
 use events::Checked;
 use events::Counts;
@@ -202,6 +202,19 @@ fn load_in(b: &[u8]) -> Payload
     }
 }
 
+fn level_in(b: &[u8]) -> Payload
+    ensures { λ r. ⌜ r ≡ switchIn levelOf (now (b .entry)) ⌝ }
+{
+    if b.len() != 1 {
+        return Payload::Unfit(2);
+    }
+    if b[0] <= 1 {
+        Payload::Whole(Event::Level(b[0] == 1))
+    } else {
+        Payload::Unfit(3)
+    }
+}
+
 fn host_in(b: &[u8]) -> Payload
     ensures { λ r. ⌜ r ≡ switchIn inOf (now (b .entry)) ⌝ }
 {
@@ -255,6 +268,7 @@ fn later_of(kind: u16, part: u8, b: &[u8]) -> Payload
         0x0011 => host_out(b),
         0x0012 => host_in(b),
         0x0013 => bare_in(Event::OnBus(BusEvent::Stop), b),
+        0x0015 => level_in(b),
         0x0014 => ticks_in(b),
         0x0017 => soak_in(b),
         _ => Payload::Unfit(2),
@@ -363,6 +377,7 @@ pub fn counts_in(event: Event, payload: &[u8]) -> Counts
         Event::Load(_) => no_counts(),
         Event::Xready => no_counts(),
         Event::OnBus(_) => no_counts(),
+        Event::Level(_) => no_counts(),
         Event::Ticks(_, _) => no_counts(),
         Event::Soak(_, _) => no_counts(),
     }

@@ -79,7 +79,7 @@ module _ (u : Setup) (a v : ℕ) (r : Registers) where
 
   -- the registers with other settings and another thing shown
   abbrev of : Settings → Shown → Registers
-  of t w = record { settings = t; shown = w; balance = r .balance; measured = r .measured; load = r .load }
+  of t w = record { settings = t; shown = w; balance = r .balance; measured = r .measured; load = r .load; outside = r .outside }
 
   still-4 : Still 0x04
   unfolding readAt lowByte

@@ -51,6 +51,10 @@ coulombs n r =
 abbrev pub pulled : Registers → Registers
 pulled r = withShown (cond (alert (r .shown .status)) (r .shown) (overridden (r .shown))) r
 
+-- ── document 02, M-103: while the outside level is 1, the same after every event that leaves the chip in NORMAL ──
+abbrev pub held : Registers → Registers
+held r = withShown (cond (r .outside) (pulled r .shown) (r .shown)) r
+
 -- ── XREADY its own bit, and clears all of CELLBAL ──
 abbrev pub unready : Registers → Registers
 unready r = withBalance noBalance (withShown (readied (r .shown)) r)

@@ -7,3 +7,4 @@ pub mod Laws
 pub mod Elsewhere
 pub mod Named
 pub mod Drives
+pub mod Held

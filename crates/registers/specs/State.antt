@@ -24,23 +24,26 @@ abbrev pub nothing : Measured
 nothing = record { cells = replicate cellPlaces 0; bat = 0; ts = replicate tsPlaces 0; cc = 0 }
 
 abbrev pub reset : Registers
-reset = record { settings = resetSettings; shown = dark; balance = noBalance; measured = nothing; load = false }
+reset = record { settings = resetSettings; shown = dark; balance = noBalance; measured = nothing; load = false; outside = false }
 
 -- ── one part put anew ──
 abbrev pub withSettings : Settings → Registers → Registers
-withSettings s r = record { settings = s; shown = r .shown; balance = r .balance; measured = r .measured; load = r .load }
+withSettings s r = record { settings = s; shown = r .shown; balance = r .balance; measured = r .measured; load = r .load; outside = r .outside }
 
 abbrev pub withShown : Shown → Registers → Registers
-withShown s r = record { settings = r .settings; shown = s; balance = r .balance; measured = r .measured; load = r .load }
+withShown s r = record { settings = r .settings; shown = s; balance = r .balance; measured = r .measured; load = r .load; outside = r .outside }
 
 abbrev pub withBalance : Balance → Registers → Registers
-withBalance b r = record { settings = r .settings; shown = r .shown; balance = b; measured = r .measured; load = r .load }
+withBalance b r = record { settings = r .settings; shown = r .shown; balance = b; measured = r .measured; load = r .load; outside = r .outside }
 
 abbrev pub withMeasured : Measured → Registers → Registers
-withMeasured m r = record { settings = r .settings; shown = r .shown; balance = r .balance; measured = m; load = r .load }
+withMeasured m r = record { settings = r .settings; shown = r .shown; balance = r .balance; measured = m; load = r .load; outside = r .outside }
 
 abbrev pub withLoad : Bool → Registers → Registers
-withLoad l r = record { settings = r .settings; shown = r .shown; balance = r .balance; measured = r .measured; load = l }
+withLoad l r = record { settings = r .settings; shown = r .shown; balance = r .balance; measured = r .measured; load = l; outside = r .outside }
+
+abbrev pub withOutside : Bool → Registers → Registers
+withOutside l r = record { settings = r .settings; shown = r .shown; balance = r .balance; measured = r .measured; load = r .load; outside = l }
 
 abbrev pub withStatus : Status → Shown → Shown
 withStatus t s = record { status = t; oneshot = s .oneshot; dsg = s .dsg; chg = s .chg }

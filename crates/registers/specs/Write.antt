@@ -60,7 +60,7 @@ balanceWith u a v b =
     (cond (eqb a 0x03 && leb 3 (groups u)) (record { one = b .one; two = b .two; three = fiveOf v })
     b))
 
--- ── the whole: what is measured, and the load level, no write moves ──
+-- ── the whole: what is measured, and the load level and the outside level, no write moves ──
 abbrev pub written : Setup → ℕ → ℕ → Registers → Registers
 written u a v r =
-    record { settings = settingsWith a v (r .settings); shown = shownWith a v (r .shown); balance = balanceWith u a v (r .balance); measured = r .measured; load = r .load }
+    record { settings = settingsWith a v (r .settings); shown = shownWith a v (r .shown); balance = balanceWith u a v (r .balance); measured = r .measured; load = r .load; outside = r .outside }

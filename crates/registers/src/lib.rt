@@ -1,10 +1,10 @@
 // The registers as a value: what an address reads, what an accepted write does, and what events leave.
 ghost use mathlib.Core.Path.{_≡_};
 ghost use Rattle.events.specs.Fault.{among};
-ghost use Rattle.registers.specs.State.{withStatus, withShown, withLoad, alert as alertSpec, reset as resetSpec};
+ghost use Rattle.registers.specs.State.{withStatus, withShown, withLoad, withOutside, alert as alertSpec, reset as resetSpec};
 ghost use Rattle.registers.specs.Write.{statusOf, without, driven, shownWith, balanceWith, written};
 ghost use Rattle.registers.specs.Fault.{raised as raisedSpec, overridden as overriddenSpec, readied as readiedSpec, counting as countingSpec};
-ghost use Rattle.registers.specs.Judging.{scanKept, tempKept, coulombs as coulombsSpec, pulled as pulledSpec, unready as unreadySpec};
+ghost use Rattle.registers.specs.Judging.{scanKept, tempKept, coulombs as coulombsSpec, pulled as pulledSpec, held as heldSpec, unready as unreadySpec};
 use events::Faults;
 use events::Setup;
 use settings::Settings;
@@ -49,6 +49,8 @@ pub struct Registers {
     pub balance: Balance,
     pub measured: Measured,
     pub load: bool,
+    // The outside level.
+    pub outside: bool,
 }
 
 // The byte at an address, and the low byte of the word that stands there.
@@ -242,6 +244,7 @@ pub fn reset() -> Registers
         },
         measured,
         load: false,
+        outside: false,
     }
 }
 
@@ -346,5 +349,22 @@ impl Registers {
         ensures { λ r. ⌜ r ≡ withLoad load self ⌝ }
     {
         Registers { load, ..self }
+    }
+
+    // The outside level.
+    pub fn leveled(self, outside: bool) -> Self
+        ensures { λ r. ⌜ r ≡ withOutside outside self ⌝ }
+    {
+        Registers { outside, ..self }
+    }
+
+    // What the outside level does after an event: while it is 1, as PIN does.
+    pub fn held(self) -> Self
+        ensures { λ r. ⌜ r ≡ heldSpec self ⌝ }
+    {
+        if self.outside {
+            return self.pulled();
+        }
+        self
     }
 }

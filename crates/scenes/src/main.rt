@@ -164,6 +164,7 @@ fn asleep(chip: Chip) -> Chip {
     let chip = plain(chip, Event::Ticks(-500000, 4096));
     let chip = plain(chip, Event::Soak(-500000, 16777216));
     let chip = plain(chip, Event::Xready);
+    let chip = plain(chip, Event::Level(true));
     let chip = on_bus(chip, BusEvent::Start);
     let chip = out(chip, 0x10);
     let chip = on_bus(chip, BusEvent::In(false));
@@ -211,6 +212,18 @@ fn cleared(chip: Chip) -> Chip {
     plain(chip, Event::Xready)
 }
 
+// A second protector holds ALERT up: clearing is in vain, and the drives stay off, till it lets go.
+fn held(chip: Chip) -> Chip {
+    let chip = plain(chip, Event::Level(true));
+    let chip = write(chip, 0x00, 0x20, 0);
+    let chip = write(chip, 0x05, 0x03, 0);
+    let chip = write(chip, 0x00, 0x10, 0);
+    let chip = plain(chip, Event::Level(false));
+    let chip = write(chip, 0x00, 0x10, 0);
+    let chip = write(chip, 0x05, 0x03, 0);
+    plain(chip, Event::Level(true))
+}
+
 fn scene(crc: bool) {
     let chip = asleep(refused(chip::in_ship(set_up(1, crc))));
     let chip = refused(plain(chip, Event::Boot));
@@ -219,7 +232,7 @@ fn scene(crc: bool) {
     let chip = write(chip, 0x05, 0x03, 0);
     let chip = write(chip, 0x05, 0x00, 1);
     let chip = write(chip, 0x05, 0x03, 0);
-    let chip = cleared(fault(drawn(chip)));
+    let chip = held(cleared(fault(drawn(chip))));
     let chip = write(chip, 0x04, 0x11, 0);
     let chip = write(chip, 0x04, 0x12, 0);
     voltages(chip);

@@ -18,8 +18,15 @@ use Rattle.records.specs.Record.{readOf}
 use Rattle.records.specs.declared.Read.{Read}
 use Rattle.records.specs.declared.Read.the-variants.{Record, Refused, Cut}
 use Rattle.records.specs.Reading.{Placed, placed}
+use Rattle.events.specs.declared.Event.{Event}
+use Rattle.events.specs.declared.Event.the-variants.{Setup, Por, Boot, Scan, Temp, Count, Sense, Pin, Load, Xready, OnBus, Level, Ticks, Soak}
+use Rattle.events.specs.declared.Counts.{Counts}
+use Rattle.events.specs.Event.{meantOf}
+use Rattle.records.specs.Record.{countsBeside}
 use Rattle.chip.specs.declared.Chip.{Chip}
-use Rattle.stream.specs.Stream.{Turn, turnOf, turned, runs, stands, entries, lastChip, none, entryBytes, bytesOf, noted, Ran, Played}
+use Rattle.chip.specs.Calm.{Calmed, ship-calm}
+use Rattle.chip.specs.Repeat.{calm-as}
+use Rattle.stream.specs.Stream.{Turn, turnOf, turned, runs, stands, entries, lastChip, none, entryBytes, bytesOf, noted, acted, Ran, Played}
 use Rattle.stream.specs.declared.Entry.{Entry}
 
 pub rest-is : (s : List ℕ) (at : ℕ) → take (length s - at) (drop at s) ≡ drop at s
@@ -115,6 +122,33 @@ turn-next : (chip : Chip) (rest : List ℕ) → turnOf chip rest .last ≡ false
 unfolding turnOf
 turn-next chip rest l = turned-next chip rest (readOf (chip .setup .part) rest) (placed (chip .setup .part) rest) l
 
+-- the outside level and SYS_STAT at 0 do not stand together after a turn, where they did not before it
+acted-calm : (e : Event) (n : Counts) (c : Chip) → Calmed c → Calmed (acted e n c .chip)
+unfolding acted
+acted-calm (Setup v) n c k = ship-calm v
+acted-calm Por n c k = calm-as (meantOf (c .setup) Por n) c k
+acted-calm Boot n c k = calm-as (meantOf (c .setup) Boot n) c k
+acted-calm Scan n c k = calm-as (meantOf (c .setup) Scan n) c k
+acted-calm Temp n c k = calm-as (meantOf (c .setup) Temp n) c k
+acted-calm (Count w) n c k = calm-as (meantOf (c .setup) (Count w) n) c k
+acted-calm (Sense v) n c k = calm-as (meantOf (c .setup) (Sense v) n) c k
+acted-calm Pin n c k = calm-as (meantOf (c .setup) Pin n) c k
+acted-calm (Load l) n c k = calm-as (meantOf (c .setup) (Load l) n) c k
+acted-calm Xready n c k = calm-as (meantOf (c .setup) Xready n) c k
+acted-calm (OnBus b) n c k = calm-as (meantOf (c .setup) (OnBus b) n) c k
+acted-calm (Level l) n c k = calm-as (meantOf (c .setup) (Level l) n) c k
+acted-calm (Ticks v w) n c k = calm-as (meantOf (c .setup) (Ticks v w) n) c k
+acted-calm (Soak v w) n c k = calm-as (meantOf (c .setup) (Soak v w) n) c k
+
+turned-calm : (chip : Chip) (rest : List ℕ) (x : Read) → Calmed chip → Calmed (turned chip rest x .chip)
+turned-calm chip rest (Record e n) k = acted-calm e (countsBeside rest (Record e n)) chip k
+turned-calm chip rest (Refused j n) k = k
+turned-calm chip rest Cut k = k
+
+turn-calm : (chip : Chip) (rest : List ℕ) → Calmed chip → Calmed (turnOf chip rest .chip)
+unfolding turnOf
+turn-calm chip rest k = turned-calm chip rest (readOf (chip .setup .part) rest) k
+
 -- what stands at the loop's head: the entries done, and those that are still to come
 pub record Going (s old out : List ℕ) (chip : Chip) (at n : ℕ) : Type 0 where
   pub done : List Entry
@@ -123,12 +157,13 @@ pub record Going (s old out : List ℕ) (chip : Chip) (at n : ℕ) : Type 0 wher
   pub ends : lastChip s ≡ stands (length s - n) chip (drop at s)
   pub slow : 4 * n ≤ at
   pub inside : at ≤ length s
+  pub calm : Calmed chip
 
 pub going-none : (s old : List ℕ) → Going s old old none 0 0
 unfolding entries lastChip
 going-none s old =
     let z : length s ≡ length s - 0 = omega arith in
-    record { done = []; made = made-none old; whole = ap (λ (k : ℕ). runs k none s) z; ends = ap (λ (k : ℕ). stands k none s) z; slow = omega arith; inside = omega arith }
+    record { done = []; made = made-none old; whole = ap (λ (k : ℕ). runs k none s) z; ends = ap (λ (k : ℕ). stands k none s) z; slow = omega arith; inside = omega arith; calm = ship-calm (none .setup) }
 
 module _ (s old out : List ℕ) (chip : Chip) (at n : ℕ) (g : Going s old out chip at n) where
   pub going-end : length s ≤ at → Ran s old chip out
@@ -181,6 +216,7 @@ module _ (s old out : List ℕ) (chip : Chip) (at n : ℕ) (g : Going s old out 
           ends = step-ends ∙ rw e refl;
           slow = omega arith;
           inside = p .1;
+          calm = subst (λ (t : Turn). Calmed (t .chip)) (sym turn-is) (turn-calm chip (drop at s) (g .calm));
         }
 
 -- the C call: the count by framing, and a run that is lent room enough

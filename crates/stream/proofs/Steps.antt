@@ -13,7 +13,7 @@ use Rattle.events.specs.declared.Setup.{Setup as SetupValues}
 use Rattle.events.specs.declared.Counts.{Counts}
 use Rattle.events.specs.declared.BusEvent.{BusEvent}
 use Rattle.events.specs.declared.Event.{Event}
-use Rattle.events.specs.declared.Event.the-variants.{Setup, Por, Boot, Scan, Temp, Count, Sense, Pin, Load, Xready, OnBus, Ticks, Soak}
+use Rattle.events.specs.declared.Event.the-variants.{Setup, Por, Boot, Scan, Temp, Count, Sense, Pin, Load, Xready, OnBus, Level, Ticks, Soak}
 use Rattle.events.specs.Event.{Event as Happening, Scan as Scanned, Sense as Ticked, OnBus as Signalled, Meant, means, ticks, unfit, fits, inRange, eventOf, meantOf, countsFit, countsWanted}
 use Rattle.events.proofs.Event.{the-type as event-type}
 use Rattle.records.specs.declared.Read.the-variants.{Record}
@@ -34,7 +34,8 @@ use Rattle.protection.specs.Judged.{tickJudged}
 use Rattle.chip.specs.declared.Heard.{Heard}
 use Rattle.chip.specs.Parts.{raisedBy, heardOf, landed, told, tick-parts, still-tick, bus-parts}
 use Rattle.chip.proofs.Modes.{in-normal}
-use Rattle.chip.specs.Chip.{quiet, withBus, withRuns, normally, asleep, happened, stepped, ticked, steppedAs, steppedBy, happenedAs, happenedBy}
+use Rattle.chip.specs.Calm.{Calmed, calm-scan, calm-tick}
+use Rattle.chip.specs.Chip.{quiet, withBus, withRuns, settled, normally, asleep, happened, stepped, ticked, steppedAs, steppedBy, happenedAs, happenedBy}
 use Rattle.stream.specs.Stream.{unanswered, answerOf, answerHeard, faceOf, entryWith, entryOf, saying, bornOf, acted, turn, turned, turnOf}
 use Rattle.stream.specs.declared.Answer.{Answer}
 use Rattle.stream.specs.declared.Entry.{Entry}
@@ -62,11 +63,11 @@ checked c e k m = counts-by (countsFit (countsWanted (c .setup) e) k) (eventOf (
 
 -- no SETUP: what a record that was read does is what happens
 abbrev Later : Event → Type 0
-Later e = OneOf (1 ∷ 2 ∷ 3 ∷ 4 ∷ 5 ∷ 6 ∷ 7 ∷ 8 ∷ 9 ∷ 10 ∷ 11 ∷ 12 ∷ []) (tagOf event-type e)
+Later e = OneOf (1 ∷ 2 ∷ 3 ∷ 4 ∷ 5 ∷ 6 ∷ 7 ∷ 8 ∷ 9 ∷ 10 ∷ 11 ∷ 12 ∷ 13 ∷ []) (tagOf event-type e)
 
 other-acted : (c : Chip) (e : Event) (k : Counts) → Later e → steppedBy e k c ≡ acted e k c
 unfolding acted
-other-acted c (Setup v) k o = absurd (⊎-elim (λ h. omega arith) (⊎-elim (λ h. omega arith) (⊎-elim (λ h. omega arith) (⊎-elim (λ h. omega arith) (⊎-elim (λ h. omega arith) (⊎-elim (λ h. omega arith) (⊎-elim (λ h. omega arith) (⊎-elim (λ h. omega arith) (⊎-elim (λ h. omega arith) (⊎-elim (λ h. omega arith) (⊎-elim (λ h. omega arith) (λ h. omega arith))))))))))) o)
+other-acted c (Setup v) k o = absurd (⊎-elim (λ h. omega arith) (⊎-elim (λ h. omega arith) (⊎-elim (λ h. omega arith) (⊎-elim (λ h. omega arith) (⊎-elim (λ h. omega arith) (⊎-elim (λ h. omega arith) (⊎-elim (λ h. omega arith) (⊎-elim (λ h. omega arith) (⊎-elim (λ h. omega arith) (⊎-elim (λ h. omega arith) (⊎-elim (λ h. omega arith) (⊎-elim (λ h. omega arith) (λ h. omega arith)))))))))))) o)
 other-acted c Por k o = refl
 other-acted c Boot k o = refl
 other-acted c Scan k o = refl
@@ -77,11 +78,12 @@ other-acted c Pin k o = refl
 other-acted c (Load l) k o = refl
 other-acted c Xready k o = refl
 other-acted c (OnBus b) k o = refl
+other-acted c (Level l) k o = refl
 other-acted c (Ticks v n) k o = refl
 other-acted c (Soak v n) k o = refl
 
 other-first : (e : Event) → IsSetup e → Later e → ⊥
-other-first (Setup v) f o = ⊎-elim (λ h. omega arith) (⊎-elim (λ h. omega arith) (⊎-elim (λ h. omega arith) (⊎-elim (λ h. omega arith) (⊎-elim (λ h. omega arith) (⊎-elim (λ h. omega arith) (⊎-elim (λ h. omega arith) (⊎-elim (λ h. omega arith) (⊎-elim (λ h. omega arith) (⊎-elim (λ h. omega arith) (⊎-elim (λ h. omega arith) (λ h. omega arith))))))))))) o
+other-first (Setup v) f o = ⊎-elim (λ h. omega arith) (⊎-elim (λ h. omega arith) (⊎-elim (λ h. omega arith) (⊎-elim (λ h. omega arith) (⊎-elim (λ h. omega arith) (⊎-elim (λ h. omega arith) (⊎-elim (λ h. omega arith) (⊎-elim (λ h. omega arith) (⊎-elim (λ h. omega arith) (⊎-elim (λ h. omega arith) (⊎-elim (λ h. omega arith) (⊎-elim (λ h. omega arith) (λ h. omega arith)))))))))))) o
 other-first Por f o = f
 other-first Boot f o = f
 other-first Scan f o = f
@@ -92,6 +94,7 @@ other-first Pin f o = f
 other-first (Load l) f o = f
 other-first Xready f o = f
 other-first (OnBus b) f o = f
+other-first (Level l) f o = f
 other-first (Ticks v n) f o = f
 other-first (Soak v n) f o = f
 
@@ -123,6 +126,7 @@ other-often Pin q = absurd (clash q)
 other-often (Load l) q = absurd (clash q)
 other-often Xready q = absurd (clash q)
 other-often (OnBus b) q = inr (inr (inr (inr (inr (inr (inr (inr (inr (inl refl)))))))))
+other-often (Level l) q = absurd (clash q)
 other-often (Ticks v n) q = absurd (clash q)
 other-often (Soak v n) q = absurd (clash q)
 
@@ -134,18 +138,19 @@ pub often-is : {s : Stepped} (c : Chip) (r : List ℕ) (e e′ : Event) (next : 
 often-is c r e e′ next xs q t o b h = other-is c r e next xs q (other-often e (ap often t ∙ o)) b (as-event xs c t h)
 
 -- what is seldom done is other work
-pub seldom-work : (e : Event) → OneOf (0 ∷ 1 ∷ 2 ∷ 4 ∷ 5 ∷ 7 ∷ 8 ∷ 9 ∷ 11 ∷ 12 ∷ []) (tagOf event-type e) → Other ≡ awakeWork e
+pub seldom-work : (e : Event) → OneOf (0 ∷ 1 ∷ 2 ∷ 4 ∷ 5 ∷ 7 ∷ 8 ∷ 9 ∷ 11 ∷ 12 ∷ 13 ∷ []) (tagOf event-type e) → Other ≡ awakeWork e
 seldom-work (Setup v) o = refl
 seldom-work Por o = refl
 seldom-work Boot o = refl
-seldom-work Scan o = absurd (⊎-elim (λ h. omega arith) (⊎-elim (λ h. omega arith) (⊎-elim (λ h. omega arith) (⊎-elim (λ h. omega arith) (⊎-elim (λ h. omega arith) (⊎-elim (λ h. omega arith) (⊎-elim (λ h. omega arith) (⊎-elim (λ h. omega arith) (⊎-elim (λ h. omega arith) (λ h. omega arith))))))))) o)
+seldom-work Scan o = absurd (⊎-elim (λ h. omega arith) (⊎-elim (λ h. omega arith) (⊎-elim (λ h. omega arith) (⊎-elim (λ h. omega arith) (⊎-elim (λ h. omega arith) (⊎-elim (λ h. omega arith) (⊎-elim (λ h. omega arith) (⊎-elim (λ h. omega arith) (⊎-elim (λ h. omega arith) (⊎-elim (λ h. omega arith) (λ h. omega arith)))))))))) o)
 seldom-work Temp o = refl
 seldom-work (Count n) o = refl
-seldom-work (Sense v) o = absurd (⊎-elim (λ h. omega arith) (⊎-elim (λ h. omega arith) (⊎-elim (λ h. omega arith) (⊎-elim (λ h. omega arith) (⊎-elim (λ h. omega arith) (⊎-elim (λ h. omega arith) (⊎-elim (λ h. omega arith) (⊎-elim (λ h. omega arith) (⊎-elim (λ h. omega arith) (λ h. omega arith))))))))) o)
+seldom-work (Sense v) o = absurd (⊎-elim (λ h. omega arith) (⊎-elim (λ h. omega arith) (⊎-elim (λ h. omega arith) (⊎-elim (λ h. omega arith) (⊎-elim (λ h. omega arith) (⊎-elim (λ h. omega arith) (⊎-elim (λ h. omega arith) (⊎-elim (λ h. omega arith) (⊎-elim (λ h. omega arith) (⊎-elim (λ h. omega arith) (λ h. omega arith)))))))))) o)
 seldom-work Pin o = refl
 seldom-work (Load l) o = refl
 seldom-work Xready o = refl
-seldom-work (OnBus b) o = absurd (⊎-elim (λ h. omega arith) (⊎-elim (λ h. omega arith) (⊎-elim (λ h. omega arith) (⊎-elim (λ h. omega arith) (⊎-elim (λ h. omega arith) (⊎-elim (λ h. omega arith) (⊎-elim (λ h. omega arith) (⊎-elim (λ h. omega arith) (⊎-elim (λ h. omega arith) (λ h. omega arith))))))))) o)
+seldom-work (OnBus b) o = absurd (⊎-elim (λ h. omega arith) (⊎-elim (λ h. omega arith) (⊎-elim (λ h. omega arith) (⊎-elim (λ h. omega arith) (⊎-elim (λ h. omega arith) (⊎-elim (λ h. omega arith) (⊎-elim (λ h. omega arith) (⊎-elim (λ h. omega arith) (⊎-elim (λ h. omega arith) (⊎-elim (λ h. omega arith) (λ h. omega arith)))))))))) o)
+seldom-work (Level l) o = refl
 seldom-work (Ticks v n) o = refl
 seldom-work (Soak v n) o = refl
 
@@ -162,7 +167,7 @@ pub in-sleep : {s : Stepped} (e : Happening) (c : Chip) → c .awake ≡ false �
 unfolding happened
 in-sleep e c a h = h ∙ sym (by (c .awake) a)
   where
-    by : (b : Bool) → b ≡ false → cond b (normally e c) (asleep e c) ≡ asleep e c
+    by : (b : Bool) → b ≡ false → cond b (settled (normally e c)) (asleep e c) ≡ asleep e c
     by true q = cc
     by false q = refl
 
@@ -196,13 +201,15 @@ module _ (c : Chip) (rest : List ℕ) (kind next : ℕ) (h : headerOf rest ≡ H
   unfolding turnOf
   done-turn e s w d = ap (λ (s : Stepped). turn s next false) d ∙ ap (turned c rest) (ap (asRead next) (sym w) ∙ read-as)
 
--- ── what each arm of the loop comes to, in NORMAL ──
-pub scan-arm : (c : Chip) (xs : List ℕ) (d : Chip) → c .awake ≡ true → d ≡ normally (Scanned (take (inputs (c .setup)) xs)) c .chip → saying (unanswered 0) d ≡ happenedBy Scan xs c
-scan-arm c xs d a h = in-normal (Scanned (take (inputs (c .setup)) xs)) c a (ap (saying (unanswered 0)) h)
+-- ── what each arm of the loop comes to, in NORMAL; the outside level does something after a store alone ──
+pub scan-arm : (c : Chip) (xs : List ℕ) (d : Chip) → Calmed c → c .awake ≡ true → d ≡ normally (Scanned (take (inputs (c .setup)) xs)) c .chip → saying (unanswered 0) d ≡ happenedBy Scan xs c
+scan-arm c xs d m a h = in-normal (Scanned (take (inputs (c .setup)) xs)) c a (ap (saying (unanswered 0)) h ∙ calm-scan (take (inputs (c .setup)) xs) c m)
 
-pub tick-arm : (c : Chip) (v : ℤ) (xs : List ℕ) (j : Judged) (d : Chip) → c .awake ≡ true → j ≡ tickJudged (c .registers .settings) v (c .runs) → d ≡ raisedBy (j .risen) (withRuns (j .runs) c)
+pub tick-arm : (c : Chip) (v : ℤ) (xs : List ℕ) (j : Judged) (d : Chip) → Calmed c → c .awake ≡ true → j ≡ tickJudged (c .registers .settings) v (c .runs) → d ≡ raisedBy (j .risen) (withRuns (j .runs) c)
     → saying (unanswered 0) d ≡ happenedBy (Sense v) xs c
-tick-arm c v xs j d a hj h = in-normal (Ticked v) c a (ap (quiet 0) (h ∙ ap (λ (j : Judged). raisedBy (j .risen) (withRuns (j .runs) c)) hj) ∙ tick-parts v c)
+tick-arm c v xs j d m a hj h =
+    in-normal (Ticked v) c a
+    (ap (quiet 0) (h ∙ calm-tick (j .risen) (j .runs) c m) ∙ ap (λ (j : Judged). settled (quiet 0 (raisedBy (j .risen) (withRuns (j .runs) c)))) hj ∙ ap settled (tick-parts v c))
 
 -- nothing rises: nothing is shown anew
 pub still-arm : (c : Chip) (v : ℤ) (j : Judged) → j ≡ tickJudged (c .registers .settings) v (c .runs) → (j .risen .scd || j .risen .ocd) ≡ false → withRuns (j .runs) c ≡ raisedBy (j .risen) (withRuns (j .runs) c)

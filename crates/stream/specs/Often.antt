@@ -4,7 +4,7 @@ use mathlib.Core.Bool.{Bool, true, false, cond, _&&_}
 use Rattle.events.specs.declared.Event.{Event}
 use Rattle.stream.specs.declared.Work.{Work}
 use Rattle.stream.specs.declared.Work.the-variants.{Scans, Ticks, Hears, Other}
-use Rattle.events.specs.declared.Event.the-variants.{Setup, Por, Boot, Scan, Temp, Count, Sense, Pin, Load, Xready, OnBus, Ticks as Repeated, Soak}
+use Rattle.events.specs.declared.Event.the-variants.{Setup, Por, Boot, Scan, Temp, Count, Sense, Pin, Load, Xready, OnBus, Level, Ticks as Repeated, Soak}
 
 abbrev pub often : Event → Bool
 often (Setup v) = false
@@ -18,6 +18,7 @@ often Pin = false
 often (Load l) = false
 often Xready = false
 often (OnBus b) = true
+often (Level l) = false
 often (Repeated v n) = false
 often (Soak v n) = false
 
@@ -34,6 +35,7 @@ awakeWork Pin = Other
 awakeWork (Load l) = Other
 awakeWork Xready = Other
 awakeWork (OnBus b) = Hears b
+awakeWork (Level l) = Other
 awakeWork (Repeated v n) = Other
 awakeWork (Soak v n) = Other
 
@@ -61,5 +63,6 @@ sorted true Pin = refl
 sorted true (Load l) = refl
 sorted true Xready = refl
 sorted true (OnBus b) = (refl, refl)
+sorted true (Level l) = refl
 sorted true (Repeated v n) = refl
 sorted true (Soak v n) = refl

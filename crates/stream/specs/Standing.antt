@@ -14,7 +14,7 @@ use Rattle.events.specs.declared.Counts.{Counts}
 use Rattle.events.specs.declared.Checked.{Checked}
 use Rattle.events.specs.declared.Checked.the-variants.{Good, Bad}
 use Rattle.events.specs.declared.Event.{Event}
-use Rattle.events.specs.declared.Event.the-variants.{Setup, Por, Boot, Scan, Temp, Count, Sense, Pin, Load, Xready, OnBus, Ticks, Soak}
+use Rattle.events.specs.declared.Event.the-variants.{Setup, Por, Boot, Scan, Temp, Count, Sense, Pin, Load, Xready, OnBus, Level, Ticks, Soak}
 use Rattle.events.specs.Setup.{checkedOf}
 use Rattle.events.specs.Event.{unfit, meantOf, inRange, countsFit}
 use Rattle.records.specs.declared.Payload.{Payload}
@@ -55,6 +55,7 @@ acted-is Pin k c m = refl
 acted-is (Load l) k c m = refl
 acted-is Xready k c m = refl
 acted-is (OnBus b) k c m = refl
+acted-is (Level l) k c m = refl
 acted-is (Ticks v n) k c m = refl
 acted-is (Soak v n) k c m = refl
 
@@ -176,6 +177,7 @@ made-by s (Record e next) q w h = by e q (first-setup s e next q)
     by (Load l) q g = absurd g
     by Xready q g = absurd g
     by (OnBus x) q g = absurd g
+    by (Level l) q g = absurd g
     by (Ticks v n) q g = absurd g
     by (Soak v n) q g = absurd g
 made-by s (Refused k next) q w h = absurd (w h)

@@ -142,6 +142,7 @@ fn work_of(awake: bool, event: Event) -> Work
         | Event::Pin
         | Event::Load(_)
         | Event::Xready
+        | Event::Level(_)
         | Event::Ticks(_, _)
         | Event::Soak(_, _) => Work::Other,
     }
@@ -164,6 +165,7 @@ fn seldom(chip: Chip, event: Event, counts: [u16; 15]) -> Stepped
         Event::Load(level) => chip.load(level),
         Event::Xready => chip.xready(),
         Event::OnBus(bus) => chip.doze(bus),
+        Event::Level(level) => chip.level(level),
         Event::Ticks(value, repeat) => chip.ticked(value, repeat as u32),
         Event::Soak(value, repeat) => chip.ticked(value, repeat),
     }
@@ -176,7 +178,7 @@ fn heated(chip: Chip, counts: [u16; 15]) -> Stepped
     if !chip.awake {
         return quiet(4, chip);
     }
-    quiet(0, chip.warmed(counts))
+    chip::done(chip.warmed(counts))
 }
 
 // The counts beside an event that was read.

@@ -87,6 +87,7 @@ fn kind_of(event: Event) -> usize {
         Event::Load(_) => 8,
         Event::Xready => 9,
         Event::OnBus(bus) => kind_of_bus(bus),
+        Event::Level(_) => 0x15,
         Event::Ticks(_, _) => 0x14,
         Event::Soak(_, _) => 0x17,
     }
@@ -197,6 +198,8 @@ fn write_kinds() {
     plain(Event::OnBus(BusEvent::In(false)), 1);
     plain(Event::OnBus(BusEvent::In(true)), 1);
     plain(Event::OnBus(BusEvent::Stop), 1);
+    plain(Event::Level(false), 1);
+    plain(Event::Level(true), 1);
     plain(Event::Ticks(500000, 1), 1);
     plain(Event::Ticks(-500000, 4096), 1);
     plain(Event::Ticks(-1, 0x0203), 1);
@@ -293,6 +296,8 @@ fn read_kinds() {
     take(&[1, 0, 0x12, 0, 1], 0, 1);
     take(&[0, 0, 0x13, 0], 0, 1);
     take(&[9, 9, 9, 0, 0, 0x13, 0], 3, 1);
+    take(&[1, 0, 0x15, 0, 0], 0, 1);
+    take(&[1, 0, 0x15, 0, 1], 0, 1);
     take(&[6, 0, 0x14, 0, 0x20, 0xA1, 0x07, 0x00, 1, 0], 0, 1);
     take(&[6, 0, 0x14, 0, 0xE0, 0x5E, 0xF8, 0xFF, 0, 0x10], 0, 1);
     take(&[8, 0, 0x17, 0, 0x20, 0xA1, 0x07, 0x00, 1, 0, 0, 0], 0, 1);
@@ -319,6 +324,7 @@ fn read_refusals() {
     take(&[1, 0, 5, 0, 0], 0, 1);
     take(&[2, 0, 6, 0, 0, 0], 0, 1);
     take(&[2, 0, 0x12, 0, 9, 9], 0, 1);
+    take(&[2, 0, 0x15, 0, 9, 9], 0, 1);
     take(&[4, 0, 0x14, 0, 0, 0, 0, 0], 0, 1);
     take(&[0, 0, 0x15, 0], 0, 1);
     take(&[6, 0, 0x17, 0, 0, 0, 0, 0, 1, 0], 0, 1);
@@ -332,6 +338,7 @@ fn read_ranges() {
     take(&[4, 0, 6, 0, 0, 0, 0, 0x80], 0, 1);
     take(&[1, 0, 8, 0, 2], 0, 1);
     take(&[1, 0, 0x12, 0, 2], 0, 1);
+    take(&[1, 0, 0x15, 0, 2], 0, 1);
     take(&[6, 0, 0x14, 0, 0, 0, 0, 0, 0, 0], 0, 1);
     take(&[6, 0, 0x14, 0, 0, 0, 0, 0, 1, 0x10], 0, 1);
     take(&[6, 0, 0x14, 0, 0x21, 0xA1, 0x07, 0x00, 1, 0], 0, 1);

@@ -448,6 +448,13 @@ fn part_lines(part: u8) {
     let pulled = quiet.write(setup, 0x05, 0x03);
     let pulled = pulled.pulled();
     write_lines(pulled, setup, 0x03);
+    let level = quiet.write(setup, 0x05, 0x03);
+    let level = level.leveled(true);
+    let level = level.held();
+    write_lines(level, setup, 0x03);
+    let level = full.leveled(true);
+    let level = level.held();
+    write_lines(level, setup, 0xA5);
     let unready = full.unready();
     write_lines(unready, setup, 0x23);
 }

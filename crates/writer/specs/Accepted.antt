@@ -8,7 +8,7 @@ use lib.Dec.{leb}
 use Rattle.events.specs.Event.{countsWanted, countsFit}
 use Rattle.events.specs.declared.Counts.{Counts}
 use Rattle.events.specs.declared.Event.{Event}
-use Rattle.events.specs.declared.Event.the-variants.{Setup as Setup-, Por, Boot, Scan, Temp, Count, Sense, Pin, Load, Xready, OnBus, Ticks, Soak}
+use Rattle.events.specs.declared.Event.the-variants.{Setup as Setup-, Por, Boot, Scan, Temp, Count, Sense, Pin, Load, Xready, OnBus, Level, Ticks, Soak}
 use Rattle.checks.specs.Counted.{fit-is}
 use Rattle.records.specs.Record.{standing}
 use Rattle.records.specs.Counted.{few-groups, few-inputs}
@@ -27,6 +27,7 @@ wanted-few part Pin = omega arith
 wanted-few part (Load l) = omega arith
 wanted-few part Xready = omega arith
 wanted-few part (OnBus b) = omega arith
+wanted-few part (Level l) = omega arith
 wanted-few part (Ticks v n) = omega arith
 wanted-few part (Soak v n) = omega arith
 

@@ -16,8 +16,8 @@ use Rattle.events.specs.declared.Setup.{Setup as SetupValues}
 use Rattle.events.specs.declared.Counts.{Counts}
 use Rattle.events.specs.declared.BusEvent.the-variants.{Start, Out, In, Stop}
 use Rattle.events.specs.declared.Event.{Event}
-use Rattle.events.specs.declared.Event.the-variants.{Setup, Por, Boot, Scan, Temp, Count, Sense, Pin, Load, Xready, OnBus, Ticks, Soak}
-use Rattle.records.specs.Kind.{SETUP, POR, BOOT, SCAN, TEMP, COUNT, SENSE, PIN, LOAD, XREADY, START, OUT, IN, STOP, TICKS, SOAK}
+use Rattle.events.specs.declared.Event.the-variants.{Setup, Por, Boot, Scan, Temp, Count, Sense, Pin, Load, Xready, OnBus, Level, Ticks, Soak}
+use Rattle.records.specs.Kind.{SETUP, POR, BOOT, SCAN, TEMP, COUNT, SENSE, PIN, LOAD, XREADY, START, OUT, IN, STOP, LEVEL, TICKS, SOAK}
 use Rattle.records.specs.Numbers.{le16, le32, signed32, bitOf, words}
 use Rattle.records.specs.Record.{setupGood, checkedIn, setupIn, countedIn, senseOf, repeatOf, ticksOf, soakOf, groupsAt, inputsAt, standing, laterOf, payloadOf, readOf, countsOf, countsIn, countsBeside}
 use Rattle.records.specs.Counted.{many-is, counts-taken, few-groups, few-inputs}
@@ -62,6 +62,7 @@ module _ (b : List ℕ) (h : Bytes b) where
       (sized OUT 1 (Whole (OnBus (Out (getD b 0 0)))) (λ l. (refl, one-forth b l)))
       (sized IN 1 (cond bit (Whole (OnBus (In level))) (Unfit 3)) (λ l. ranged IN bit (Whole (OnBus (In level))) (λ f. (refl, switch-forth l f))))
       (sized STOP 0 (Whole (OnBus Stop)) (λ l. (refl, none-forth b l)))
+      (sized LEVEL 1 (cond bit (Whole (Level level)) (Unfit 3)) (λ l. ranged LEVEL bit (Whole (Level level)) (λ f. (refl, switch-forth l f))))
       (sized TICKS 6 (repeatOf ticksOf ticksMost (le32 b 0) (le16 b 4)) (λ l. ranged TICKS (ticksFit ticksMost value (le16 b 4)) (Whole (Ticks value (le16 b 4))) (λ f. (refl, six-forth b l h))))
       (sized SOAK 8 (repeatOf soakOf soakMost (le32 b 0) (le32 b 4)) (λ l. ranged SOAK (ticksFit soakMost value (le32 b 4)) (Whole (Soak value (le32 b 4))) (λ f. (refl, eight-forth b l h))))
       (λ (k : ℕ). tt)
@@ -174,6 +175,7 @@ setup-accepted Pin part b h = absurd h
 setup-accepted (Load l) part b h = absurd h
 setup-accepted Xready part b h = absurd h
 setup-accepted (OnBus x) part b h = absurd h
+setup-accepted (Level l) part b h = absurd h
 setup-accepted (Ticks v n) part b h = absurd h
 setup-accepted (Soak v n) part b h = absurd h
 
@@ -198,6 +200,7 @@ module _ (k : Counts) (part : ℕ) where
   value-fits (Load l) c f = refl
   value-fits Xready c f = refl
   value-fits (OnBus b) c f = refl
+  value-fits (Level l) c f = refl
   value-fits (Ticks v n) c f = simp f
   value-fits (Soak v n) c f = simp f
 
@@ -213,6 +216,7 @@ module _ (k : Counts) (part : ℕ) where
   stood (Load l) p f = p
   stood Xready p f = p
   stood (OnBus b) p f = p
+  stood (Level l) p f = p
   stood (Ticks v n) p f = p
   stood (Soak v n) p f = p
 

@@ -8,7 +8,7 @@ use lib.ListN.{take}
 use Rattle.events.specs.Event.{within, countMost, fits, countsWanted, countsFit, Meant, unfit, eventOf, meantOf}
 use Rattle.events.specs.declared.Counts.{Counts}
 use Rattle.events.specs.declared.Event.{Event}
-use Rattle.events.specs.declared.Event.the-variants.{Setup, Por, Boot, Scan, Temp, Count, Sense, Pin, Load, Xready, OnBus, Ticks, Soak}
+use Rattle.events.specs.declared.Event.the-variants.{Setup, Por, Boot, Scan, Temp, Count, Sense, Pin, Load, Xready, OnBus, Level, Ticks, Soak}
 use Rattle.checks.specs.Refusal.{refusalOf}
 use Rattle.checks.specs.Counted.{fit-is}
 use Rattle.records.specs.Record.{standing}
@@ -30,6 +30,7 @@ other Pin = true
 other (Load l) = true
 other Xready = true
 other (OnBus b) = true
+other (Level l) = true
 other (Ticks v n) = true
 other (Soak v n) = true
 
@@ -60,6 +61,7 @@ numbers-same Pin k part o = refl
 numbers-same (Load l) k part o = refl
 numbers-same Xready k part o = refl
 numbers-same (OnBus b) k part o = refl
+numbers-same (Level l) k part o = refl
 numbers-same (Ticks v n) k part o = refl
 numbers-same (Soak v n) k part o = refl
 

@@ -18,7 +18,7 @@ use Rattle.events.specs.declared.Counts.{Counts}
 use Rattle.events.specs.declared.Checked.the-variants.{Good}
 use Rattle.events.specs.declared.BusEvent.the-variants.{Start, Out, In, Stop}
 use Rattle.events.specs.declared.Event.{Event}
-use Rattle.events.specs.declared.Event.the-variants.{Setup, Por, Boot, Scan, Temp, Count, Sense, Pin, Load, Xready, OnBus, Ticks, Soak}
+use Rattle.events.specs.declared.Event.the-variants.{Setup, Por, Boot, Scan, Temp, Count, Sense, Pin, Load, Xready, OnBus, Level, Ticks, Soak}
 use Rattle.records.specs.Numbers.{bitOf, filled}
 use Rattle.records.specs.Record.{setupGood, checkedIn, setupIn, countedIn, ticksOf, soakOf, groupsAt, inputsAt, laterOf, payloadOf, asRead, readOf, noCounts, countsOf, countsIn, countsBeside, takenFrom, takenAt}
 use Rattle.records.specs.Counted.{many-is}
@@ -46,6 +46,7 @@ standsFor Pin part = part
 standsFor (Load l) part = part
 standsFor Xready part = part
 standsFor (OnBus b) part = part
+standsFor (Level l) part = part
 standsFor (Ticks v n) part = part
 standsFor (Soak v n) part = part
 
@@ -110,6 +111,8 @@ payload-back (OnBus (Out b)) k part a l = simp (ne-eqb part 0 (stands part (a .p
 payload-back (OnBus (In true)) k part a l = simp (ne-eqb part 0 (stands part (a .part-fits)))
 payload-back (OnBus (In false)) k part a l = simp (ne-eqb part 0 (stands part (a .part-fits)))
 payload-back (OnBus Stop) k part a l = simp (ne-eqb part 0 (stands part (a .part-fits)))
+payload-back (Level true) k part a l = simp (ne-eqb part 0 (stands part (a .part-fits)))
+payload-back (Level false) k part a l = simp (ne-eqb part 0 (stands part (a .part-fits)))
 payload-back (Ticks z n) k part a l =
     simp (ne-eqb part 0 (stands part (a .part-fits)), back16 (bits32 z % 65536), back16 (bits32 z / 65536), back32 (bits32 z), back16 n) (ticks-back ticksOf ticksMost z n (picked 2 _ (a .values-fit)))
 payload-back (Soak z n) k part a l =
@@ -131,6 +134,7 @@ payload-short (OnBus Start) k part a l = omega arith
 payload-short (OnBus (Out b)) k part a l = omega arith
 payload-short (OnBus (In t)) k part a l = omega arith
 payload-short (OnBus Stop) k part a l = omega arith
+payload-short (Level t) k part a l = omega arith
 payload-short (Ticks z n) k part a l = omega arith
 payload-short (Soak z n) k part a l = omega arith
 
@@ -189,6 +193,7 @@ counts-back Pin k part a l = none-back k 0 (a .counts-fit) l refl
 counts-back (Load t) k part a l = none-back k 0 (a .counts-fit) l refl
 counts-back Xready k part a l = none-back k 0 (a .counts-fit) l refl
 counts-back (OnBus b) k part a l = none-back k 0 (a .counts-fit) l refl
+counts-back (Level t) k part a l = none-back k 0 (a .counts-fit) l refl
 counts-back (Ticks z n) k part a l = none-back k 0 (a .counts-fit) l refl
 counts-back (Soak z n) k part a l = none-back k 0 (a .counts-fit) l refl
 

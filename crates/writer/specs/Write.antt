@@ -11,8 +11,8 @@ use Rattle.events.specs.declared.Setup.{Setup as SetupValues}
 use Rattle.events.specs.declared.Counts.{Counts}
 use Rattle.events.specs.declared.BusEvent.the-variants.{Start, Out, In, Stop}
 use Rattle.events.specs.declared.Event.{Event}
-use Rattle.events.specs.declared.Event.the-variants.{Setup, Por, Boot, Scan, Temp, Count, Sense, Pin, Load, Xready, OnBus, Ticks, Soak}
-use Rattle.records.specs.Kind.{SETUP, POR, BOOT, SCAN, TEMP, COUNT, SENSE, PIN, LOAD, XREADY, START, OUT, IN, STOP, TICKS, SOAK}
+use Rattle.events.specs.declared.Event.the-variants.{Setup, Por, Boot, Scan, Temp, Count, Sense, Pin, Load, Xready, OnBus, Level, Ticks, Soak}
+use Rattle.records.specs.Kind.{SETUP, POR, BOOT, SCAN, TEMP, COUNT, SENSE, PIN, LOAD, XREADY, START, OUT, IN, STOP, LEVEL, TICKS, SOAK}
 use Rattle.records.specs.Numbers.{bitOf}
 use Rattle.records.specs.Record.{setupGood, standing}
 use Rattle.writer.specs.declared.Wrote.{Wrote}
@@ -54,6 +54,7 @@ kindFor (OnBus Start) = START
 kindFor (OnBus (Out b)) = OUT
 kindFor (OnBus (In n)) = IN
 kindFor (OnBus Stop) = STOP
+kindFor (Level l) = LEVEL
 kindFor (Ticks v n) = TICKS
 kindFor (Soak v n) = SOAK
 
@@ -81,6 +82,7 @@ payloadFor (OnBus Start) k = []
 payloadFor (OnBus (Out b)) k = b ∷ []
 payloadFor (OnBus (In n)) k = bitOf n ∷ []
 payloadFor (OnBus Stop) k = []
+payloadFor (Level l) k = bitOf l ∷ []
 payloadFor (Ticks v n) k = bytes32 (bits32 v) ++ bytes16 n
 payloadFor (Soak v n) k = bytes32 (bits32 v) ++ bytes32 n
 
@@ -101,6 +103,7 @@ partFor Pin part = part
 partFor (Load l) part = part
 partFor Xready part = part
 partFor (OnBus b) part = part
+partFor (Level l) part = part
 partFor (Ticks v n) part = part
 partFor (Soak v n) part = part
 
@@ -117,6 +120,7 @@ valueRefusal Pin k = 0
 valueRefusal (Load l) k = 0
 valueRefusal Xready k = 0
 valueRefusal (OnBus b) k = 0
+valueRefusal (Level l) k = 0
 valueRefusal (Ticks v n) k = cond (ticksFit ticksMost v n) 0 3
 valueRefusal (Soak v n) k = cond (ticksFit soakMost v n) 0 3
 

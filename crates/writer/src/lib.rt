@@ -257,6 +257,7 @@ fn refusal(event: Event, counts: Counts, part: u8) -> u8
         Event::Load(_) => refusal_at(event, counts, part),
         Event::Xready => refusal_at(event, counts, part),
         Event::OnBus(_) => refusal_at(event, counts, part),
+        Event::Level(_) => refusal_at(event, counts, part),
         Event::Ticks(_, _) => refusal_at(event, counts, part),
         Event::Soak(_, _) => refusal_at(event, counts, part),
     }
@@ -290,6 +291,7 @@ fn put_event(event: Event, counts: Counts, out: &mut [u8]) -> Wrote
         Event::Load(level) => write_byte(out, 0x0008, bit_of(level)),
         Event::Xready => write_bare(out, 0x0009),
         Event::OnBus(bus) => put_bus(bus, out),
+        Event::Level(level) => write_byte(out, 0x0015, bit_of(level)),
         Event::Ticks(v, n) => write_ticks(out, 0x0014, bits_of(v), n),
         Event::Soak(v, n) => write_soak(out, 0x0017, bits_of(v), n),
     }

@@ -10,6 +10,9 @@ use borrow.Author.Needs.{needs}
 use Rattle.checks.proofs.value_refusal.Statement.{statement}
 use Rattle.checks.proofs.value_refusal.Tie as tie
 
+returns : tie.Need-returns
+returns c = let a = c .before .before in at-event (a .args .setup) (a .args .of) (c .enum-told .given .1) refl
+
 returns-2 : tie.Need-returns-2
 unfolding fits
 returns-2 c = let a = c .before .before in at-event (a .args .setup) (a .args .of) (c .enum-told2 .given .1) refl
@@ -63,16 +66,20 @@ unfolding fits
 returns-14 c = let a = c .before .before in at-event (a .args .setup) (a .args .of) (c .enum-told10 .given .1) refl
 
 returns-15 : tie.Need-returns-15
-returns-15 c = let g = c .before .before .before in let a = g .before .before in let z = g .event2 .given .0 .0 in let e : toZ w32 (ofZ w32 z) ≡ z = search needs in at-event (a .args .setup) (a .args .of) (g .event2 .given .1) (pick-true (c .before .ticks-fit .ensures ∙ ap (λ z. ticksFit ticksMost z (g .event2 .given .0 .1 .0)) e) (c .if4 .taken))
+unfolding fits
+returns-15 c = let a = c .before .before in at-event (a .args .setup) (a .args .of) (c .enum-told11 .given .1) refl
 
 returns-16 : tie.Need-returns-16
-returns-16 c = let g = c .before .before .before in let a = g .before .before in let z = g .event2 .given .0 .0 in let e : toZ w32 (ofZ w32 z) ≡ z = search needs in at-event (a .args .setup) (a .args .of) (g .event2 .given .1) (pick-false (c .before .ticks-fit .ensures ∙ ap (λ z. ticksFit ticksMost z (g .event2 .given .0 .1 .0)) e) (c .if4 .left))
+returns-16 c = let g = c .before .before .before in let a = g .before .before in let z = g .event2 .given .0 .0 in let e : toZ w32 (ofZ w32 z) ≡ z = search needs in at-event (a .args .setup) (a .args .of) (g .event2 .given .1) (pick-true (c .before .ticks-fit .ensures ∙ ap (λ z. ticksFit ticksMost z (g .event2 .given .0 .1 .0)) e) (c .if4 .taken))
 
 returns-17 : tie.Need-returns-17
-returns-17 c = let g = c .before .before .before in let a = g .before .before in let z = g .event3 .given .0 .0 in let e : toZ w32 (ofZ w32 z) ≡ z = search needs in at-event (a .args .setup) (a .args .of) (g .event3 .given .1) (pick-true (c .before .ticks-fit2 .ensures ∙ ap (λ z. ticksFit soakMost z (g .event3 .given .0 .1 .0)) e) (c .if5 .taken))
+returns-17 c = let g = c .before .before .before in let a = g .before .before in let z = g .event2 .given .0 .0 in let e : toZ w32 (ofZ w32 z) ≡ z = search needs in at-event (a .args .setup) (a .args .of) (g .event2 .given .1) (pick-false (c .before .ticks-fit .ensures ∙ ap (λ z. ticksFit ticksMost z (g .event2 .given .0 .1 .0)) e) (c .if4 .left))
 
 returns-18 : tie.Need-returns-18
-returns-18 c = let g = c .before .before .before in let a = g .before .before in let z = g .event3 .given .0 .0 in let e : toZ w32 (ofZ w32 z) ≡ z = search needs in at-event (a .args .setup) (a .args .of) (g .event3 .given .1) (pick-false (c .before .ticks-fit2 .ensures ∙ ap (λ z. ticksFit soakMost z (g .event3 .given .0 .1 .0)) e) (c .if5 .left))
+returns-18 c = let g = c .before .before .before in let a = g .before .before in let z = g .event3 .given .0 .0 in let e : toZ w32 (ofZ w32 z) ≡ z = search needs in at-event (a .args .setup) (a .args .of) (g .event3 .given .1) (pick-true (c .before .ticks-fit2 .ensures ∙ ap (λ z. ticksFit soakMost z (g .event3 .given .0 .1 .0)) e) (c .if5 .taken))
+
+returns-19 : tie.Need-returns-19
+returns-19 c = let g = c .before .before .before in let a = g .before .before in let z = g .event3 .given .0 .0 in let e : toZ w32 (ofZ w32 z) ≡ z = search needs in at-event (a .args .setup) (a .args .of) (g .event3 .given .1) (pick-false (c .before .ticks-fit2 .ensures ∙ ap (λ z. ticksFit soakMost z (g .event3 .given .0 .1 .0)) e) (c .if5 .left))
 
 pub value-refusal-spec : {M : Type 1} → statement M
 value-refusal-spec =
@@ -96,10 +103,11 @@ value-refusal-spec =
     (λ c. search needs)
     (λ c. search needs)
     (λ c. search needs)
-    (λ c κs. search needs)
     (λ c. search needs)
     (λ c κs. search needs)
     (λ c. search needs)
+    (λ c κs. search needs)
+    returns
     returns-2
     returns-3
     returns-4
@@ -116,4 +124,5 @@ value-refusal-spec =
     returns-15
     returns-16
     returns-17
-    returns-18)
+    returns-18
+    returns-19)

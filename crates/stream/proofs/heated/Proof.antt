@@ -11,7 +11,7 @@ returns : tie.Need-returns
 returns c = in-sleep (Temp _) (c .before .before .before .args .chip) (not-true _ (c .before .if1 .taken)) (c .quiet .ensures)
 
 returns-2 : tie.Need-returns-2
-returns-2 c = in-normal (Temp _) (c .before .before .before .before .args .chip) (not-false _ (c .before .before .if1 .left)) (simp (c .quiet2 .ensures, c .before .warmed .ensures))
+returns-2 c = in-normal (Temp _) (c .before .before .before .before .args .chip) (not-false _ (c .before .before .if1 .left)) (simp (c .done .ensures, c .before .warmed .ensures))
 
 pub heated-spec : {M : Type 1} → statement M
 heated-spec = tie.close (tie.spec (λ c κs. search needs) returns (λ c κs. search needs) (λ c κs. search needs) returns-2)

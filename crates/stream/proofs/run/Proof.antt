@@ -29,6 +29,7 @@ use Rattle.chip.specs.declared.Chip.{Chip}
 use Rattle.chip.specs.declared.Stepped.{Stepped}
 use Rattle.chip.specs.Chip.{quiet, withBus, withRuns, happenedBy}
 use Rattle.chip.specs.Parts.{landed}
+use Rattle.chip.specs.Calm.{Calmed, calm-bus}
 use Rattle.stream.specs.Often.{often, workOf, Sorted, sorted}
 use Rattle.stream.specs.Stream.{Turn, Ran, turnOf, noted, acted, turn, answerOf, answerHeard, unanswered, faceOf, entryOf, saying}
 use Rattle.stream.specs.declared.Answer.{Answer}
@@ -198,6 +199,10 @@ module _ (c : tie.At-match2-came Inv-loop μ-loop) where
   abbrev shown : head (was pay) .loop .face ≡ faceOf k
   shown = head (was pay) .loop .inv .1
 
+  -- the outside level and SYS_STAT at 0 do not stand together
+  abbrev calm : Calmed k
+  calm = head (was pay) .loop .inv .0 .calm
+
   -- an answer that is not given
   still : (d : Chip) → saying (c .before .before .before .unanswered2 .result) d ≡ saying (unanswered 0) d
   still d = ap (λ (a : Answer). saying a d) (c .before .before .before .unanswered2 .ensures)
@@ -210,21 +215,21 @@ module _ (c : tie.At-match2-came Inv-loop μ-loop) where
         shown,
       ))
       (⊎-elim (λ w. let e = w .1 .given .0 .0 in let f = w .1 .given .1 in let o = kinds pay e f Scans (sym (w .5 .given .1) ∙ w .3 .ensures) in way _ _ _ (w .9) (w .10) (w .11)
-      (did pay e f _ (by pay e f Scan (w .6 .result) (o .1) refl (w .6 .ensures) (still (w .7 .result) ∙ scan-arm k (w .6 .result) (w .7 .result) (o .0) (w .7 .ensures))), w .8 .ensures))
+      (did pay e f _ (by pay e f Scan (w .6 .result) (o .1) refl (w .6 .ensures) (still (w .7 .result) ∙ scan-arm k (w .6 .result) (w .7 .result) calm (o .0) (w .7 .ensures))), w .8 .ensures))
       (⊎-elim (λ w. let e = w .1 .given .0 .0 in let f = w .1 .given .1 in let z = w .5 .given .0 .0 in let y : toZ w32 (ofZ w32 z) ≡ z = search needs in let o = kinds pay e f (Ticks z) (sym (w .5 .given .1) ∙ w .3 .ensures) in way _ _ _ (w .14) (w .15) (w .16) (
         did pay e f _ (by pay e f (Sense z) (beside pay e f .of) (o .1) refl refl (still (w .12 .result)
-            ∙ tick-arm k z (beside pay e f .of) (w .7 .result) (w .12 .result) (o .0) (w .7 .ensures ∙ ap (λ v. tickJudged (k .registers .settings) v (k .runs)) y) (w .12 .ensures))),
+            ∙ tick-arm k z (beside pay e f .of) (w .7 .result) (w .12 .result) calm (o .0) (w .7 .ensures ∙ ap (λ v. tickJudged (k .registers .settings) v (k .runs)) y) (w .12 .ensures))),
         w .13 .ensures,
       ))
       (⊎-elim (λ w. let e = w .1 .given .0 .0 in let f = w .1 .given .1 in let z = w .5 .given .0 .0 in let y : toZ w32 (ofZ w32 z) ≡ z = search needs in let o = kinds pay e f (Ticks z) (sym (w .5 .given .1) ∙ w .3 .ensures) in
       let j = w .7 .ensures ∙ ap (λ v. tickJudged (k .registers .settings) v (k .runs)) y in way _ _ _ (w .12) (w .13) (w .14) (
         did pay e f _ (by pay e f (Sense z) (beside pay e f .of) (o .1) refl refl (still (withRuns (w .7 .result .runs) k)
-            ∙ tick-arm k z (beside pay e f .of) (w .7 .result) (withRuns (w .7 .result .runs) k) (o .0) j (still-arm k z (w .7 .result) j (w .11 .left)))),
+            ∙ tick-arm k z (beside pay e f .of) (w .7 .result) (withRuns (w .7 .result .runs) k) calm (o .0) j (still-arm k z (w .7 .result) j (w .11 .left)))),
         shown,
       ))
       (⊎-elim (λ w. let e = w .1 .given .0 .0 in let f = w .1 .given .1 in let b = w .5 .given .0 .0 in let o = kinds pay e f (Hears b) (sym (w .5 .given .1) ∙ w .3 .ensures) in let h = w .7 .result in way _ _ _ (w .12) (w .13) (w .14) (
         did pay e f _ (by pay e f (OnBus b) (beside pay e f .of) (o .1) refl refl (ap (λ (a : Answer). saying a (withBus (h .bus) k)) (w .9 .ensures)
-            ∙ bus-arm k b (beside pay e f .of) h (withBus (h .bus) k) (o .0) (w .7 .ensures) (ap (λ (t : Store). landed t (withBus (h .bus) k)) (sym (w .11 .given .1))))),
+            ∙ bus-arm k b (beside pay e f .of) h (withBus (h .bus) k) (o .0) (w .7 .ensures) (calm-bus (h .bus) k calm ∙ ap (λ (t : Store). landed t (withBus (h .bus) k)) (sym (w .11 .given .1))))),
         shown,
       ))
       (⊎-elim (λ w. let e = w .1 .given .0 .0 in let f = w .1 .given .1 in let b = w .5 .given .0 .0 in let o = kinds pay e f (Hears b) (sym (w .5 .given .1) ∙ w .3 .ensures) in let h = w .7 .result in way _ _ _ (w .15) (w .16) (w .17) (

@@ -42,23 +42,28 @@ returns-11 : tie.Need-returns-11
 returns-11 c = let a = c .before .before .before .before in as-event (a .args .counts) (a .args .chip) (c .before .before .event3 .given .1) (in-sleep _ (a .args .chip) (sleeping (a .args .chip) (a .args .event) _ (a .pre) (c .before .before .event3 .given .1) refl) (c .doze .ensures))
 
 returns-12 : tie.Need-returns-12
-returns-12 c =
-    let a = c .before .before .before .before in
-    let z = c .before .before .event4 .given .0 .0 in
-    let e : toZ w32 (ofZ w32 z) ≡ z = search needs in
-    as-event (a .args .counts) (a .args .chip) (c .before .before .event4 .given .1) (c .ticked .ensures ∙ ap (λ v. ticked (c .before .before .event4 .given .0 .1 .0) v (a .args .chip)) e)
+returns-12 c = as-event (c .before .before .before .before .args .counts) (c .before .before .before .before .args .chip) (c .before .before .event4 .given .1) (c .level .ensures)
 
 returns-13 : tie.Need-returns-13
 returns-13 c =
     let a = c .before .before .before .before in
     let z = c .before .before .event5 .given .0 .0 in
     let e : toZ w32 (ofZ w32 z) ≡ z = search needs in
-    as-event (a .args .counts) (a .args .chip) (c .before .before .event5 .given .1) (c .ticked2 .ensures ∙ ap (λ v. ticked (c .before .before .event5 .given .0 .1 .0) v (a .args .chip)) e)
+    as-event (a .args .counts) (a .args .chip) (c .before .before .event5 .given .1) (c .ticked .ensures ∙ ap (λ v. ticked (c .before .before .event5 .given .0 .1 .0) v (a .args .chip)) e)
+
+returns-14 : tie.Need-returns-14
+returns-14 c =
+    let a = c .before .before .before .before in
+    let z = c .before .before .event6 .given .0 .0 in
+    let e : toZ w32 (ofZ w32 z) ≡ z = search needs in
+    as-event (a .args .counts) (a .args .chip) (c .before .before .event6 .given .1) (c .ticked2 .ensures ∙ ap (λ v. ticked (c .before .before .event6 .given .0 .1 .0) v (a .args .chip)) e)
 
 pub seldom-spec : {M : Type 1} → statement M
 seldom-spec =
     tie.close
     (tie.spec
+    (λ c. search needs)
+    (λ c κs. search needs)
     (λ c. search needs)
     (λ c κs. search needs)
     (λ c. search needs)
@@ -98,4 +103,5 @@ seldom-spec =
     returns-10
     returns-11
     returns-12
-    returns-13)
+    returns-13
+    returns-14)

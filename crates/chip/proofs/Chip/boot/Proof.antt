@@ -6,10 +6,10 @@ use Rattle.chip.proofs.Chip.boot.Statement.{statement}
 use Rattle.chip.proofs.Chip.boot.Tie as tie
 
 returns : tie.Need-returns
-returns c = in-normal Boot (c .before .before .args .self) (c .before .if1 .taken) (c .quiet .ensures)
+returns c = in-normal Boot (c .before .before .args .self) (c .before .if1 .taken) (c .done .ensures)
 
 returns-2 : tie.Need-returns-2
-returns-2 c = in-sleep Boot (c .before .before .before .before .before .before .args .self) (c .before .before .before .before .before .if1 .left) (c .quiet2 .ensures)
+returns-2 c = in-sleep Boot (c .before .before .before .before .before .before .args .self) (c .before .before .before .before .before .if1 .left) (c .done2 .ensures)
 
 pub boot-spec : {M : Type 1} → statement M
 boot-spec =

@@ -37,7 +37,7 @@ returns-3 c =
     (in-normal (Sense _) (a .args .self) (not-false _ (j .before .if2 .left))
     (sense-done (a .args .self) (a .args .value) (j .sensed .result) (c .before .raised .result)
     (j .sensed .ensures ∙ ap (λ v. tickJudged (a .args .self .registers .settings) v (a .args .self .runs)) (toZ-ofZ {w = w32} (a .fits .value)))
-    (c .before .raised .ensures) (c .quiet3 .ensures)))
+    (c .before .raised .ensures) (c .done .ensures)))
 
 pub sense-spec : {M : Type 1} → statement M
 sense-spec =

@@ -1,0 +1,23 @@
+-- The outside level: by the mode, what its definition says.
+use Rattle.chip.proofs.Modes.{in-normal, in-sleep}
+use borrow.Author.Tests.{not-true, not-false}
+use Rattle.events.specs.Event.{Level}
+use borrow.Author.Needs.{needs}
+use Rattle.chip.proofs.Chip.level.Statement.{statement}
+use Rattle.chip.proofs.Chip.level.Tie as tie
+
+returns : tie.Need-returns
+returns c = in-sleep (Level _) (c .before .before .before .args .self) (not-true _ (c .before .if1 .taken)) (c .quiet .ensures)
+
+returns-2 : tie.Need-returns-2
+returns-2 c = let b = c .before .before .before .before .before .before in in-normal (Level _) (b .before .before .args .self) (not-false _ (b .if1 .left)) (simp (c .done .ensures, c .before .before .before .before .leveled .ensures))
+
+pub level-spec : {M : Type 1} → statement M
+level-spec =
+    tie.close
+    (tie.spec
+    (λ c κs. search needs)
+    returns
+    (λ c κs. search needs)
+    (λ c κs. search needs)
+    returns-2)

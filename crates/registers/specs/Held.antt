@@ -1,0 +1,83 @@
+-- Document 02, M-103: the outside level over the registers. Where it is 1 a bit of SYS_STAT is up after every event that leaves the chip in NORMAL; it
+-- raises OVRD_ALERT alone, and where a bit is up, or the level is 0, it does nothing. Assumes nothing.
+use mathlib.Core.Path.{_≡_, refl, sym, ap, _∙_}
+use mathlib.Core.Bool.{Bool, true, false, _||_, cond, true≢false}
+use Rattle.events.specs.Fault.{Fault, Ov, Uv, Scd, Ocd}
+use Rattle.registers.specs.declared.Status.{Status}
+use Rattle.registers.specs.declared.Shown.{Shown}
+use Rattle.registers.specs.declared.Registers.{Registers}
+use Rattle.registers.specs.State.{alert, reset, withShown}
+use Rattle.registers.specs.Fault.{bitOf, raised, overridden}
+use Rattle.registers.specs.Judging.{held}
+
+-- the level 1 and SYS_STAT 0 do not stand together
+abbrev pub Calm : Registers → Type 0
+Calm r = r .outside ≡ true → alert (r .shown .status) ≡ true
+
+-- what is shown after the level was looked at, by the level
+abbrev pub heldAt : Bool → Shown → Shown
+heldAt l s = cond l (cond (alert (s .status)) s (overridden s)) s
+
+or-true : (b : Bool) → (b || true) ≡ true
+or-true true = refl
+or-true false = refl
+
+-- OVRD_ALERT keeps ALERT up
+pub overridden-alerts : (s : Shown) → alert (overridden s .status) ≡ true
+overridden-alerts s = simp or-true
+
+heldAt-alerts : (l : Bool) (s : Shown) → l ≡ true → alert (heldAt l s .status) ≡ true
+heldAt-alerts false s h = absurd (true≢false (sym h))
+heldAt-alerts true s h = by (alert (s .status)) refl
+  where
+    by : (b : Bool) → alert (s .status) ≡ b → alert (cond b s (overridden s) .status) ≡ true
+    by true e = e
+    by false e = overridden-alerts s
+
+pub held-calm : (r : Registers) → Calm (held r)
+held-calm r h = heldAt-alerts (r .outside) (r .shown) h
+
+pub reset-calm : Calm reset
+reset-calm h = absurd (true≢false (sym h))
+
+-- where they do not stand together, the level does nothing
+pub calm-held : (r : Registers) → Calm r → held r ≡ r
+calm-held r k = ap (λ (s : Shown). withShown s r) (by (r .outside) (alert (r .shown .status)) k)
+  where
+    by : (l a : Bool) → (l ≡ true → a ≡ true) → cond l (cond a (r .shown) (overridden (r .shown))) (r .shown) ≡ r .shown
+    by false a k = refl
+    by true true k = refl
+    by true false k = absurd (true≢false (sym (k refl)))
+
+-- the level 0 does nothing
+pub let-go : (r : Registers) → r .outside ≡ false → held r ≡ r
+let-go r h = calm-held r (λ (e : r .outside ≡ true). absurd (true≢false (sym e ∙ h)))
+
+-- it moves none of the four faults' bits
+pub held-bit : (k : Fault) (l : Bool) (s : Shown) → bitOf k (heldAt l s .status) ≡ bitOf k (s .status)
+held-bit k false s = refl
+held-bit k true s = by k (alert (s .status))
+  where
+    by : (k : Fault) (a : Bool) → bitOf k (cond a s (overridden s) .status) ≡ bitOf k (s .status)
+    by k true = refl
+    by Ov false = refl
+    by Uv false = refl
+    by Scd false = refl
+    by Ocd false = refl
+
+-- with the level 1 and SYS_STAT 0 it raises OVRD_ALERT and puts both drives off
+pub held-rises : (r : Registers) → r .outside ≡ true → alert (r .shown .status) ≡ false → held r .shown ≡ overridden (r .shown)
+held-rises r h a = simp (h, a)
+
+-- what rises leaves a bit up
+pub raised-calm : (f : Fault → Bool) (r : Registers) → Calm r → Calm (withShown (raised f (r .shown)) r)
+raised-calm f r k h =
+    let t : Status = r .shown .status in
+    let a : Bool = t .ready || t .xready || t .ovrd in
+    more (a || t .uv || t .ov || t .scd) (a || (f Uv || t .uv) || (f Ov || t .ov) || (f Scd || t .scd)) (f Ocd) (t .ocd)
+    (more (a || t .uv || t .ov) (a || (f Uv || t .uv) || (f Ov || t .ov)) (f Scd) (t .scd)
+    (more (a || t .uv) (a || (f Uv || t .uv)) (f Ov) (t .ov) (more a a (f Uv) (t .uv) (λ e. e)))) (k h)
+  where
+    more : (x y u d : Bool) → (x ≡ true → y ≡ true) → (x || d) ≡ true → (y || (u || d)) ≡ true
+    more true y u d f h = ap (λ (b : Bool). b || (u || d)) (f refl)
+    more false y u d f h = simp (h, or-true)
