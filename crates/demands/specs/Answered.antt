@@ -7,22 +7,19 @@ use mathlib.Core.List.{List, [], _∷_, map}
 use Prim.Native.Nat.{ℕ, zero, suc, _-_}
 use lib.ListN.{length, drop}
 use Rattle.events.specs.declared.Setup.{Setup as SetupValues}
-use Rattle.events.specs.declared.Counts.{Counts}
 use Rattle.events.specs.declared.Event.the-variants.{Setup}
-use Rattle.events.specs.Event.{Event, Meant, means, meantOf}
+use Rattle.events.specs.Event.{Event, meantOf}
 use Rattle.records.specs.declared.Read.{Read}
 use Rattle.records.specs.declared.Read.the-variants.{Record, Refused, Cut}
 use Rattle.records.specs.Record.{readOf, countsBeside}
-use Rattle.records.specs.Sound.{Meaning, later-means}
 use Rattle.chip.specs.declared.Chip.{Chip}
 use Rattle.chip.specs.declared.Stepped.{Stepped}
 use Rattle.chip.specs.Chip.{quiet, inShip, steppedAs}
 use Rattle.stream.specs.declared.Entry.{Entry}
 use Rattle.stream.specs.Stream.{Turn, entryOf, turned, turnOf, runs, entries}
-use Rattle.stream.specs.Standing.{acted-is, first-entries}
+use Rattle.stream.specs.Standing.{first-entries}
 use Rattle.demands.specs.Demand.{chip}
-use Rattle.demands.specs.History.{setup-is}
-use Rattle.demands.specs.Streams.{restAfter, heardNext, next-is, turn-is, goes-on, a-part}
+use Rattle.demands.specs.Streams.{restAfter, heardNext, answered-is, next-is, turn-is, goes-on, a-part}
 
 module _ (u : SetupValues) where
   -- what the record at the start of r is answered, once SETUP was read as u and the past was heard
@@ -44,11 +41,7 @@ module _ (u : SetupValues) where
 
   module _ (p : u .part ≢ 0) where
     entry-is : (r : List ℕ) (past : List Event) (x : Read) → readOf (u .part) r ≡ x → turned (chip u past) r x .entry ≡ entryOf (answerTo r x past)
-    entry-is r past (Record e next) q =
-        let k : Counts = countsBeside r (Record e next) in
-        let m : Meaning u e k = later-means u r e next p q in
-        let same : meantOf (chip u past .setup) e k ≡ means (m .event) = ap (λ (v : SetupValues). meantOf v e k) (setup-is u past) ∙ m .meant in
-        ap entryOf (acted-is e k (chip u past) (m .event) same) ∙ sym (ap (λ (x : Meant). entryOf (steppedAs x (chip u past))) (m .meant))
+    entry-is r past (Record e next) q = ap entryOf (answered-is u p r past e next q)
     entry-is r past (Refused k next) q = refl
     entry-is r past Cut q = refl
 

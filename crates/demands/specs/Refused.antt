@@ -4,10 +4,10 @@ use mathlib.Core.Bool.{Bool, true, false, cond}
 use Rattle.events.specs.declared.Counts.{Counts}
 use Rattle.events.specs.declared.BusEvent.the-variants.{Start, Stop, Out, In}
 use Rattle.events.specs.declared.Event.{Event as Coded}
-use Rattle.events.specs.Event.{Event, Por, Boot, Pin, Xready, Scan, Temp, Count, Sense, Load, OnBus, Level, fits, Meant, means, unfit, meantOf}
+use Rattle.events.specs.Event.{Event, Por, Boot, Pin, Xready, Scan, Temp, Count, Sense, Load, OnBus, Level, fits, ticksFit, Meant, means, ticks, unfit, meantOf}
 use Rattle.chip.specs.declared.Chip.{Chip}
 use Rattle.chip.specs.declared.Stepped.{Stepped}
-use Rattle.chip.specs.Chip.{quiet, settled, normally, asleep, happened, stepped, next, steppedAs, steppedBy}
+use Rattle.chip.specs.Chip.{quiet, settled, normally, asleep, happened, stepped, next, ticking, steppedAs, steppedBy}
 
 -- in NORMAL nothing in range is refused
 pub normal-done : (e : Event) (c : Chip) → normally e c .number ≡ 0
@@ -70,4 +70,10 @@ refused-by e k c = by (meantOf (c .setup) e k)
   where
     by : (m : Meant) → (steppedAs m c .number ≡ 0 → ⊥) → steppedAs m c .chip ≡ c
     by (means e) h = refused e c h
+    by (ticks most v n) h = in-ticks (ticksFit most v n) (c .awake) h
+      where
+        in-ticks : (f a : Bool) → (cond f (cond a (quiet 0 (ticking n v c)) (quiet 4 c)) (quiet 3 c) .number ≡ 0 → ⊥) → cond f (cond a (quiet 0 (ticking n v c)) (quiet 4 c)) (quiet 3 c) .chip ≡ c
+        in-ticks true true h = absurd (h refl)
+        in-ticks true false h = refl
+        in-ticks false a h = refl
     by unfit h = refl

@@ -1,6 +1,6 @@
 -- DEMAND 3 of streams: the chip at the end of a stream, and what each of its entries shows, are those of the events that its records mean.
 -- So every claim of Demand over events is one over the bytes of a stream. Assumes nothing.
-use mathlib.Core.Path.{_≡_, refl, sym, ap, _∙_}
+use mathlib.Core.Path.{_≡_, refl, sym, ap, subst, _∙_}
 use mathlib.Core.Bool.{false, cond}
 use mathlib.Core.Logic.{_≢_}
 use mathlib.Core.List.{List, [], _∷_, map}
@@ -11,8 +11,9 @@ use lib.ListN.{length, drop}
 use borrow.Author.Tests.{ne-eqb}
 use Rattle.events.specs.declared.Setup.{Setup as SetupValues}
 use Rattle.events.specs.declared.Counts.{Counts}
+use Rattle.events.specs.declared.Event.{Event as Coded}
 use Rattle.events.specs.declared.Event.the-variants.{Setup}
-use Rattle.events.specs.Event.{Event, Meant, means, meantOf}
+use Rattle.events.specs.Event.{Event, meantOf}
 use Rattle.records.specs.declared.Read.{Read}
 use Rattle.records.specs.declared.Read.the-variants.{Record, Refused, Cut}
 use Rattle.records.specs.Record.{readOf, countsBeside}
@@ -20,14 +21,14 @@ use Rattle.records.specs.Sound.{first-setup, Meaning, later-means}
 use Rattle.registers.specs.Read.{statusByte}
 use Rattle.chip.specs.declared.Chip.{Chip}
 use Rattle.chip.specs.declared.Stepped.{Stepped}
-use Rattle.chip.specs.Chip.{inShip}
+use Rattle.chip.specs.Chip.{inShip, steppedAs}
 use Rattle.chip.specs.Outward.{pinsOf}
 use Rattle.stream.specs.declared.Entry.{Entry}
-use Rattle.stream.specs.Stream.{Turn, turned, turnOf, runs, stands, entries, lastChip}
+use Rattle.stream.specs.Stream.{Turn, acted, turned, turnOf, runs, stands, entries, lastChip}
 use Rattle.stream.specs.Standing.{acted-is, good-part, first-stands, first-entries}
 use Rattle.demands.specs.Demand.{chip}
 use Rattle.demands.specs.History.{setup-is}
-use Rattle.demands.specs.Aside.{withMeant}
+use Rattle.demands.specs.Aside.{withMeant, heard-as}
 
 -- what follows a record: after one that is cut short, nothing
 abbrev pub restAfter : List ℕ → Read → List ℕ
@@ -57,13 +58,19 @@ module _ (u : SetupValues) where
 
   -- ── one record ──
   module _ (p : u .part ≢ 0) where
+    -- what was read is stepped as what it means
+    pub answered-is : (r : List ℕ) (past : List Event) (e : Coded) (next : ℕ) → readOf (u .part) r ≡ Record e next
+        → acted e (countsBeside r (Record e next)) (chip u past) ≡ steppedAs (meantOf u e (countsBeside r (Record e next))) (chip u past)
+    answered-is r past e next q =
+        let k : Counts = countsBeside r (Record e next) in
+        acted-is e k (chip u past) (subst (λ (v : SetupValues). Meaning v e k) (sym (setup-is u past)) (later-means u r e next p q))
+        ∙ ap (λ (v : SetupValues). steppedAs (meantOf v e k) (chip u past)) (setup-is u past)
+
     pub next-is : (r : List ℕ) (past : List Event) (x : Read) → readOf (u .part) r ≡ x → turned (chip u past) r x .chip ≡ chip u (heardNext r x past)
     unfolding chip
     next-is r past (Record e next) q =
         let k : Counts = countsBeside r (Record e next) in
-        let m : Meaning u e k = later-means u r e next p q in
-        let same : meantOf (chip u past .setup) e k ≡ means (m .event) = ap (λ (v : SetupValues). meantOf v e k) (setup-is u past) ∙ m .meant in
-        ap (λ (s : Stepped). s .chip) (acted-is e k (chip u past) (m .event) same) ∙ sym (ap (λ (x : Meant). chip u (withMeant u x past)) (m .meant))
+        ap (λ (s : Stepped). s .chip) (answered-is r past e next q) ∙ heard-as u (meantOf u e k) past
     next-is r past (Refused k next) q = refl
     next-is r past Cut q = refl
 

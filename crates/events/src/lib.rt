@@ -34,6 +34,10 @@ pub enum Event {
     OnBus(BusEvent),
     // The outside level: a second protector holds ALERT up, or lets go.
     Level(bool),
+    // That many ticks of one value: request M-100.
+    Ticks(i32, u16),
+    // The same with a longer repeat number: request M-109.
+    Soak(i32, u32),
 }
 
 // How many counts there are, and the counts: input 1 first, 0 from the first place that is not used.

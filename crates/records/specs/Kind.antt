@@ -45,3 +45,11 @@ STOP = 0x0013
 
 abbrev pub LEVEL : ℕ
 LEVEL = 0x0015
+
+-- request M-100: ticks of one value
+abbrev pub TICKS : ℕ
+TICKS = 0x0014
+
+-- request M-109: ticks of one value with a longer repeat number
+abbrev pub SOAK : ℕ
+SOAK = 0x0017

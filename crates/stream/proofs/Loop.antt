@@ -19,14 +19,13 @@ use Rattle.records.specs.declared.Read.{Read}
 use Rattle.records.specs.declared.Read.the-variants.{Record, Refused, Cut}
 use Rattle.records.specs.Reading.{Placed, placed}
 use Rattle.events.specs.declared.Event.{Event}
-use Rattle.events.specs.declared.Event.the-variants.{Setup, Por, Boot, Scan, Temp, Count, Sense, Pin, Load, Xready, OnBus, Level}
+use Rattle.events.specs.declared.Event.the-variants.{Setup, Por, Boot, Scan, Temp, Count, Sense, Pin, Load, Xready, OnBus, Level, Ticks, Soak}
 use Rattle.events.specs.declared.Counts.{Counts}
-use Rattle.events.specs.Event.{Meant, means, unfit, meantOf}
+use Rattle.events.specs.Event.{meantOf}
 use Rattle.records.specs.Record.{countsBeside}
 use Rattle.chip.specs.declared.Chip.{Chip}
-use Rattle.chip.specs.declared.Stepped.{Stepped}
-use Rattle.chip.specs.Chip.{steppedAs, steppedBy}
-use Rattle.chip.specs.Calm.{Calmed, ship-calm, calm-next}
+use Rattle.chip.specs.Calm.{Calmed, ship-calm}
+use Rattle.chip.specs.Repeat.{calm-as}
 use Rattle.stream.specs.Stream.{Turn, turnOf, turned, runs, stands, entries, lastChip, none, entryBytes, bytesOf, noted, acted, Ran, Played}
 use Rattle.stream.specs.declared.Entry.{Entry}
 
@@ -124,24 +123,22 @@ unfolding turnOf
 turn-next chip rest l = turned-next chip rest (readOf (chip .setup .part) rest) (placed (chip .setup .part) rest) l
 
 -- the outside level and SYS_STAT at 0 do not stand together after a turn, where they did not before it
-meant-calm : (m : Meant) (c : Chip) → Calmed c → Calmed (steppedAs m c .chip)
-meant-calm (means e) c k = calm-next e c k
-meant-calm unfit c k = k
-
 acted-calm : (e : Event) (n : Counts) (c : Chip) → Calmed c → Calmed (acted e n c .chip)
 unfolding acted
 acted-calm (Setup v) n c k = ship-calm v
-acted-calm Por n c k = meant-calm (meantOf (c .setup) Por n) c k
-acted-calm Boot n c k = meant-calm (meantOf (c .setup) Boot n) c k
-acted-calm Scan n c k = meant-calm (meantOf (c .setup) Scan n) c k
-acted-calm Temp n c k = meant-calm (meantOf (c .setup) Temp n) c k
-acted-calm (Count w) n c k = meant-calm (meantOf (c .setup) (Count w) n) c k
-acted-calm (Sense v) n c k = meant-calm (meantOf (c .setup) (Sense v) n) c k
-acted-calm Pin n c k = meant-calm (meantOf (c .setup) Pin n) c k
-acted-calm (Load l) n c k = meant-calm (meantOf (c .setup) (Load l) n) c k
-acted-calm Xready n c k = meant-calm (meantOf (c .setup) Xready n) c k
-acted-calm (OnBus b) n c k = meant-calm (meantOf (c .setup) (OnBus b) n) c k
-acted-calm (Level l) n c k = meant-calm (meantOf (c .setup) (Level l) n) c k
+acted-calm Por n c k = calm-as (meantOf (c .setup) Por n) c k
+acted-calm Boot n c k = calm-as (meantOf (c .setup) Boot n) c k
+acted-calm Scan n c k = calm-as (meantOf (c .setup) Scan n) c k
+acted-calm Temp n c k = calm-as (meantOf (c .setup) Temp n) c k
+acted-calm (Count w) n c k = calm-as (meantOf (c .setup) (Count w) n) c k
+acted-calm (Sense v) n c k = calm-as (meantOf (c .setup) (Sense v) n) c k
+acted-calm Pin n c k = calm-as (meantOf (c .setup) Pin n) c k
+acted-calm (Load l) n c k = calm-as (meantOf (c .setup) (Load l) n) c k
+acted-calm Xready n c k = calm-as (meantOf (c .setup) Xready n) c k
+acted-calm (OnBus b) n c k = calm-as (meantOf (c .setup) (OnBus b) n) c k
+acted-calm (Level l) n c k = calm-as (meantOf (c .setup) (Level l) n) c k
+acted-calm (Ticks v w) n c k = calm-as (meantOf (c .setup) (Ticks v w) n) c k
+acted-calm (Soak v w) n c k = calm-as (meantOf (c .setup) (Soak v w) n) c k
 
 turned-calm : (chip : Chip) (rest : List ℕ) (x : Read) → Calmed chip → Calmed (turned chip rest x .chip)
 turned-calm chip rest (Record e n) k = acted-calm e (countsBeside rest (Record e n)) chip k

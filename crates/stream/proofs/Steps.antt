@@ -13,8 +13,8 @@ use Rattle.events.specs.declared.Setup.{Setup as SetupValues}
 use Rattle.events.specs.declared.Counts.{Counts}
 use Rattle.events.specs.declared.BusEvent.{BusEvent}
 use Rattle.events.specs.declared.Event.{Event}
-use Rattle.events.specs.declared.Event.the-variants.{Setup, Por, Boot, Scan, Temp, Count, Sense, Pin, Load, Xready, OnBus, Level}
-use Rattle.events.specs.Event.{Event as Happening, Boot as Booted, Scan as Scanned, Sense as Ticked, OnBus as Signalled, Level as Leveled, Meant, means, unfit, fits, eventOf, meantOf, countsFit, countsWanted}
+use Rattle.events.specs.declared.Event.the-variants.{Setup, Por, Boot, Scan, Temp, Count, Sense, Pin, Load, Xready, OnBus, Level, Ticks, Soak}
+use Rattle.events.specs.Event.{Event as Happening, Boot as Booted, Scan as Scanned, Sense as Ticked, OnBus as Signalled, Level as Leveled, Meant, means, ticks, unfit, fits, inRange, eventOf, meantOf, countsFit, countsWanted}
 use Rattle.events.proofs.Event.{the-type as event-type}
 use Rattle.records.specs.declared.Read.the-variants.{Record}
 use Rattle.records.specs.declared.Framed.the-variants.{Header, Short}
@@ -39,7 +39,7 @@ use Rattle.registers.specs.declared.Registers.{Registers}
 use Rattle.registers.specs.State.{withOutside}
 use Rattle.registers.specs.Judging.{held}
 use Rattle.registers.specs.Held.{Calm}
-use Rattle.chip.specs.Chip.{quiet, withAwake, withBus, withRegisters, withRuns, settled, normally, asleep, happened, stepped, steppedAs, steppedBy, happenedAs, happenedBy}
+use Rattle.chip.specs.Chip.{quiet, withAwake, withBus, withRegisters, withRuns, settled, normally, asleep, happened, stepped, ticked, steppedAs, steppedBy, happenedAs, happenedBy}
 use Rattle.stream.specs.Stream.{unanswered, answerOf, answerHeard, faceOf, entryWith, entryOf, saying, bornOf, acted, turn, turned, turnOf}
 use Rattle.stream.specs.declared.Answer.{Answer}
 use Rattle.stream.specs.declared.Entry.{Entry}
@@ -47,28 +47,31 @@ use Rattle.stream.specs.declared.Face.{Face}
 use Rattle.stream.specs.Often.{often, awakeWork, moved}
 use Rattle.stream.specs.declared.Work.the-variants.{Other}
 
--- an event whose meaning is known steps as it happens
-means-by : (t : Bool) (m : Meant) (e : Happening) → cond t m unfit ≡ means e → m ≡ means e
-means-by true m e h = h
-means-by false m e h = cc
-
+-- what is in range steps as it happens
 step-is : (e : Happening) (c : Chip) → fits e ≡ true → stepped e c ≡ happened e c
 unfolding stepped
 step-is e c f = simp f
 
+as-meant : (m : Meant) (c : Chip) → inRange m ≡ true → happenedAs m c ≡ steppedAs m c
+as-meant (means e) c f = sym (step-is e c f)
+as-meant (ticks most v n) c f = ap (λ (t : Bool). cond t (ticked n v c) (quiet 3 c)) (sym f)
+as-meant unfit c f = cc
+
+counts-by : (t : Bool) (m : Meant) (c : Chip) → inRange (cond t m unfit) ≡ true → happenedAs m c ≡ steppedAs (cond t m unfit) c
+counts-by true m c h = as-meant m c h
+counts-by false m c h = cc
+
 checked : (c : Chip) (e : Event) (k : Counts) → Meaning (c .setup) e k → happenedBy e (k .of) c ≡ steppedBy e k c
 unfolding meantOf
-checked c e k m =
-    let q : eventOf (c .setup) e (k .of) ≡ means (m .event) = means-by (countsFit (countsWanted (c .setup) e) k) _ (m .event) (m .meant) in
-    ap (λ (x : Meant). happenedAs x c) q ∙ sym (step-is (m .event) c (m .fit)) ∙ ap (λ (x : Meant). steppedAs x c) (sym (m .meant))
+checked c e k m = counts-by (countsFit (countsWanted (c .setup) e) k) (eventOf (c .setup) e (k .of)) c m
 
 -- no SETUP: what a record that was read does is what happens
 abbrev Later : Event → Type 0
-Later e = OneOf (1 ∷ 2 ∷ 3 ∷ 4 ∷ 5 ∷ 6 ∷ 7 ∷ 8 ∷ 9 ∷ 10 ∷ 11 ∷ []) (tagOf event-type e)
+Later e = OneOf (1 ∷ 2 ∷ 3 ∷ 4 ∷ 5 ∷ 6 ∷ 7 ∷ 8 ∷ 9 ∷ 10 ∷ 11 ∷ 12 ∷ 13 ∷ []) (tagOf event-type e)
 
 other-acted : (c : Chip) (e : Event) (k : Counts) → Later e → steppedBy e k c ≡ acted e k c
 unfolding acted
-other-acted c (Setup v) k o = absurd (⊎-elim (λ h. omega arith) (⊎-elim (λ h. omega arith) (⊎-elim (λ h. omega arith) (⊎-elim (λ h. omega arith) (⊎-elim (λ h. omega arith) (⊎-elim (λ h. omega arith) (⊎-elim (λ h. omega arith) (⊎-elim (λ h. omega arith) (⊎-elim (λ h. omega arith) (⊎-elim (λ h. omega arith) (λ h. omega arith)))))))))) o)
+other-acted c (Setup v) k o = absurd (⊎-elim (λ h. omega arith) (⊎-elim (λ h. omega arith) (⊎-elim (λ h. omega arith) (⊎-elim (λ h. omega arith) (⊎-elim (λ h. omega arith) (⊎-elim (λ h. omega arith) (⊎-elim (λ h. omega arith) (⊎-elim (λ h. omega arith) (⊎-elim (λ h. omega arith) (⊎-elim (λ h. omega arith) (⊎-elim (λ h. omega arith) (⊎-elim (λ h. omega arith) (λ h. omega arith)))))))))))) o)
 other-acted c Por k o = refl
 other-acted c Boot k o = refl
 other-acted c Scan k o = refl
@@ -80,9 +83,11 @@ other-acted c (Load l) k o = refl
 other-acted c Xready k o = refl
 other-acted c (OnBus b) k o = refl
 other-acted c (Level l) k o = refl
+other-acted c (Ticks v n) k o = refl
+other-acted c (Soak v n) k o = refl
 
 other-first : (e : Event) → IsSetup e → Later e → ⊥
-other-first (Setup v) f o = ⊎-elim (λ h. omega arith) (⊎-elim (λ h. omega arith) (⊎-elim (λ h. omega arith) (⊎-elim (λ h. omega arith) (⊎-elim (λ h. omega arith) (⊎-elim (λ h. omega arith) (⊎-elim (λ h. omega arith) (⊎-elim (λ h. omega arith) (⊎-elim (λ h. omega arith) (⊎-elim (λ h. omega arith) (λ h. omega arith)))))))))) o
+other-first (Setup v) f o = ⊎-elim (λ h. omega arith) (⊎-elim (λ h. omega arith) (⊎-elim (λ h. omega arith) (⊎-elim (λ h. omega arith) (⊎-elim (λ h. omega arith) (⊎-elim (λ h. omega arith) (⊎-elim (λ h. omega arith) (⊎-elim (λ h. omega arith) (⊎-elim (λ h. omega arith) (⊎-elim (λ h. omega arith) (⊎-elim (λ h. omega arith) (⊎-elim (λ h. omega arith) (λ h. omega arith)))))))))))) o
 other-first Por f o = f
 other-first Boot f o = f
 other-first Scan f o = f
@@ -94,6 +99,8 @@ other-first (Load l) f o = f
 other-first Xready f o = f
 other-first (OnBus b) f o = f
 other-first (Level l) f o = f
+other-first (Ticks v n) f o = f
+other-first (Soak v n) f o = f
 
 meaning : (c : Chip) (r : List ℕ) (e : Event) (next : ℕ) (t : Bool) → eqb (c .setup .part) 0 ≡ t → readOf (c .setup .part) r ≡ Record e next → Later e
     → Meaning (c .setup) e (countsBeside r (Record e next))
@@ -124,6 +131,8 @@ other-often (Load l) q = absurd (clash q)
 other-often Xready q = absurd (clash q)
 other-often (OnBus b) q = inr (inr (inr (inr (inr (inr (inr (inr (inr (inl refl)))))))))
 other-often (Level l) q = absurd (clash q)
+other-often (Ticks v n) q = absurd (clash q)
+other-often (Soak v n) q = absurd (clash q)
 
 pub as-event : {s : Stepped} {e e′ : Event} (xs : List ℕ) (c : Chip) → e ≡ e′ → s ≡ happenedBy e′ xs c → s ≡ happenedBy e xs c
 as-event xs c q h = h ∙ ap (λ (e : Event). happenedBy e xs c) (sym q)
@@ -133,19 +142,21 @@ pub often-is : {s : Stepped} (c : Chip) (r : List ℕ) (e e′ : Event) (next : 
 often-is c r e e′ next xs q t o b h = other-is c r e next xs q (other-often e (ap often t ∙ o)) b (as-event xs c t h)
 
 -- what is seldom done is other work
-pub seldom-work : (e : Event) → OneOf (0 ∷ 1 ∷ 2 ∷ 4 ∷ 5 ∷ 7 ∷ 8 ∷ 9 ∷ 11 ∷ []) (tagOf event-type e) → Other ≡ awakeWork e
+pub seldom-work : (e : Event) → OneOf (0 ∷ 1 ∷ 2 ∷ 4 ∷ 5 ∷ 7 ∷ 8 ∷ 9 ∷ 11 ∷ 12 ∷ 13 ∷ []) (tagOf event-type e) → Other ≡ awakeWork e
 seldom-work (Setup v) o = refl
 seldom-work Por o = refl
 seldom-work Boot o = refl
-seldom-work Scan o = absurd (⊎-elim (λ h. omega arith) (⊎-elim (λ h. omega arith) (⊎-elim (λ h. omega arith) (⊎-elim (λ h. omega arith) (⊎-elim (λ h. omega arith) (⊎-elim (λ h. omega arith) (⊎-elim (λ h. omega arith) (⊎-elim (λ h. omega arith) (λ h. omega arith)))))))) o)
+seldom-work Scan o = absurd (⊎-elim (λ h. omega arith) (⊎-elim (λ h. omega arith) (⊎-elim (λ h. omega arith) (⊎-elim (λ h. omega arith) (⊎-elim (λ h. omega arith) (⊎-elim (λ h. omega arith) (⊎-elim (λ h. omega arith) (⊎-elim (λ h. omega arith) (⊎-elim (λ h. omega arith) (⊎-elim (λ h. omega arith) (λ h. omega arith)))))))))) o)
 seldom-work Temp o = refl
 seldom-work (Count n) o = refl
-seldom-work (Sense v) o = absurd (⊎-elim (λ h. omega arith) (⊎-elim (λ h. omega arith) (⊎-elim (λ h. omega arith) (⊎-elim (λ h. omega arith) (⊎-elim (λ h. omega arith) (⊎-elim (λ h. omega arith) (⊎-elim (λ h. omega arith) (⊎-elim (λ h. omega arith) (λ h. omega arith)))))))) o)
+seldom-work (Sense v) o = absurd (⊎-elim (λ h. omega arith) (⊎-elim (λ h. omega arith) (⊎-elim (λ h. omega arith) (⊎-elim (λ h. omega arith) (⊎-elim (λ h. omega arith) (⊎-elim (λ h. omega arith) (⊎-elim (λ h. omega arith) (⊎-elim (λ h. omega arith) (⊎-elim (λ h. omega arith) (⊎-elim (λ h. omega arith) (λ h. omega arith)))))))))) o)
 seldom-work Pin o = refl
 seldom-work (Load l) o = refl
 seldom-work Xready o = refl
-seldom-work (OnBus b) o = absurd (⊎-elim (λ h. omega arith) (⊎-elim (λ h. omega arith) (⊎-elim (λ h. omega arith) (⊎-elim (λ h. omega arith) (⊎-elim (λ h. omega arith) (⊎-elim (λ h. omega arith) (⊎-elim (λ h. omega arith) (⊎-elim (λ h. omega arith) (λ h. omega arith)))))))) o)
+seldom-work (OnBus b) o = absurd (⊎-elim (λ h. omega arith) (⊎-elim (λ h. omega arith) (⊎-elim (λ h. omega arith) (⊎-elim (λ h. omega arith) (⊎-elim (λ h. omega arith) (⊎-elim (λ h. omega arith) (⊎-elim (λ h. omega arith) (⊎-elim (λ h. omega arith) (⊎-elim (λ h. omega arith) (⊎-elim (λ h. omega arith) (λ h. omega arith)))))))))) o)
 seldom-work (Level l) o = refl
+seldom-work (Ticks v n) o = refl
+seldom-work (Soak v n) o = refl
 
 -- in SHIP
 off : (a t : Bool) → (a && t) ≡ false → t ≡ true → a ≡ false

@@ -11,8 +11,7 @@ use borrow.Author.Tests.{ne-eqb, ltb-false}
 use Rattle.events.specs.declared.Setup.{Setup as SetupValues}
 use Rattle.events.specs.declared.Counts.{Counts}
 use Rattle.events.specs.declared.Event.{Event}
-use Rattle.events.specs.declared.Event.the-variants.{Setup, Por, Boot, Scan, Temp, Count, Sense, Pin, Load, Xready, OnBus, Level}
-use Rattle.events.specs.Event.{Event as Happening, means, meantOf}
+use Rattle.events.specs.declared.Event.the-variants.{Setup, Por, Boot, Scan, Temp, Count, Sense, Pin, Load, Xready, OnBus, Level, Ticks, Soak}
 use Rattle.records.specs.declared.Payload.{Payload}
 use Rattle.records.specs.declared.Payload.the-variants.{Whole, Unfit}
 use Rattle.records.specs.declared.Read.{Read}
@@ -22,12 +21,10 @@ use Rattle.records.specs.Frame.{frameOf}
 use Rattle.records.specs.Record.{setupGood, payloadOf, asRead, readOf, countsBeside}
 use Rattle.records.specs.Sound.{IsSetup, first-setup, Meaning, later-means}
 use Rattle.chip.specs.declared.Chip.{Chip}
-use Rattle.chip.specs.declared.Stepped.{Stepped}
 use Rattle.chip.specs.Chip.{inShip}
-use Rattle.chip.specs.Moves.{setup-next}
 use Rattle.stream.specs.Stream.{Turn, none, acted, turned, turnOf, runs, entries}
 use Rattle.stream.specs.Frames.{frames, framesAfter, framesOf}
-use Rattle.stream.specs.Standing.{acted-is, good-part}
+use Rattle.stream.specs.Standing.{setup-stays, good-part}
 
 -- ── the frame of what was read ──
 abbrev pub Framed : List ℕ → Read → Type 0
@@ -61,10 +58,6 @@ frame-place r h = by (readOf 0 r) (framed 0 r)
     by (Refused k next) f = (omega (arith, f .0, f .1), omega (arith, f .0, f .2))
     by Cut f = absurd (h f)
 
--- ── the part stays: no record that is read later is a SETUP ──
-stays : (e : Event) (k : Counts) (c : Chip) (ev : Happening) → meantOf (c .setup) e k ≡ means ev → acted e k c .chip .setup ≡ c .setup
-stays e k c ev m = ap (λ (s : Stepped). s .chip .setup) (acted-is e k c ev m) ∙ setup-next ev c
-
 -- ── once a part stands, there is an entry for each frame ──
 abbrev Stands : Chip → Type 0
 Stands c = c .setup .part ≢ 0
@@ -85,7 +78,7 @@ module _ (f : ℕ) (c : Chip) (r : List ℕ) (p : Stands c) (ih : (c : Chip) (s 
   turn-frames (Record e next) q g =
       let k : Counts = countsBeside r (Record e next) in
       let m : Meaning (c .setup) e k = later-means (c .setup) r e next p q in
-      let u : acted e k c .chip .setup ≡ c .setup = stays e k c (m .event) (m .meant) in
+      let u : acted e k c .chip .setup ≡ c .setup = setup-stays e k c m in
       ap suc (ih (acted e k c .chip) (drop next r) (λ z. p (ap (λ (v : SetupValues). v .part) (sym u) ∙ z))) ∙ sym (past next (g .0) (g .1))
   turn-frames (Refused k next) q g =
       simp (ne-eqb (c .setup .part) 0 p) (ap suc (ih c (drop next r) p) ∙ sym (past next (g .0) (g .1)))
@@ -121,6 +114,8 @@ first-frames b s (Record e next) q =
     by Xready g = absurd g
     by (OnBus x) g = absurd g
     by (Level l) g = absurd g
+    by (Ticks v n) g = absurd g
+    by (Soak v n) g = absurd g
 first-frames b s (Refused k next) q = refl
 first-frames b s Cut q = refl
 

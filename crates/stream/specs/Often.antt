@@ -8,7 +8,7 @@ use Rattle.chip.specs.declared.Stepped.{Stepped}
 use Rattle.chip.specs.Chip.{quiet, withRegisters}
 use Rattle.stream.specs.declared.Work.{Work}
 use Rattle.stream.specs.declared.Work.the-variants.{Scans, Ticks, Hears, Other}
-use Rattle.events.specs.declared.Event.the-variants.{Setup, Por, Boot, Scan, Temp, Count, Sense, Pin, Load, Xready, OnBus, Level}
+use Rattle.events.specs.declared.Event.the-variants.{Setup, Por, Boot, Scan, Temp, Count, Sense, Pin, Load, Xready, OnBus, Level, Ticks as Repeated, Soak}
 
 abbrev pub often : Event → Bool
 often (Setup v) = false
@@ -23,6 +23,8 @@ often (Load l) = false
 often Xready = false
 often (OnBus b) = true
 often (Level l) = false
+often (Repeated v n) = false
+often (Soak v n) = false
 
 -- ── and what each is to the loop, in NORMAL and in SHIP ──
 abbrev pub awakeWork : Event → Work
@@ -38,6 +40,8 @@ awakeWork (Load l) = Other
 awakeWork Xready = Other
 awakeWork (OnBus b) = Hears b
 awakeWork (Level l) = Other
+awakeWork (Repeated v n) = Other
+awakeWork (Soak v n) = Other
 
 unfoldable pub workOf : Bool → Event → Work
 workOf a e = cond a (awakeWork e) Other
@@ -68,3 +72,5 @@ sorted true (Load l) = refl
 sorted true Xready = refl
 sorted true (OnBus b) = (refl, refl)
 sorted true (Level l) = refl
+sorted true (Repeated v n) = refl
+sorted true (Soak v n) = refl

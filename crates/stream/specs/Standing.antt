@@ -1,7 +1,7 @@
 -- Whether a chip stands: a first record that is read with success makes one, whose part stays 1 to 3; else the first record's number is not 0,
 -- so that no reading is done with nothing given. Assumes nothing.
 use mathlib.Core.Path.{_≡_, refl, ap, sym, _∙_, subst}
-use mathlib.Core.Bool.{Bool, true, false, cond, _&&_, not}
+use mathlib.Core.Bool.{Bool, true, false, cond, _&&_, not, true≢false}
 use mathlib.Core.Logic.{_≢_}
 use mathlib.Core.List.{List, [], _∷_}
 use Prim.Native.Nat.{ℕ, zero, suc, _+_, _-_, _≤_}
@@ -14,9 +14,9 @@ use Rattle.events.specs.declared.Counts.{Counts}
 use Rattle.events.specs.declared.Checked.{Checked}
 use Rattle.events.specs.declared.Checked.the-variants.{Good, Bad}
 use Rattle.events.specs.declared.Event.{Event}
-use Rattle.events.specs.declared.Event.the-variants.{Setup, Por, Boot, Scan, Temp, Count, Sense, Pin, Load, Xready, OnBus, Level}
+use Rattle.events.specs.declared.Event.the-variants.{Setup, Por, Boot, Scan, Temp, Count, Sense, Pin, Load, Xready, OnBus, Level, Ticks, Soak}
 use Rattle.events.specs.Setup.{checkedOf}
-use Rattle.events.specs.Event.{Event as Happening, Meant, means, unfit, meantOf, countsFit}
+use Rattle.events.specs.Event.{unfit, meantOf, inRange, countsFit}
 use Rattle.records.specs.declared.Payload.{Payload}
 use Rattle.records.specs.declared.Payload.the-variants.{Whole, Unfit}
 use Rattle.records.specs.declared.Read.{Read}
@@ -28,43 +28,43 @@ use Rattle.records.specs.Reading.{cond-by}
 use Rattle.records.specs.Sound.{and-left, and-right, IsSetup, first-setup, Meaning, later-means}
 use Rattle.chip.specs.declared.Chip.{Chip}
 use Rattle.chip.specs.declared.Stepped.{Stepped}
-use Rattle.chip.specs.Chip.{inShip, stepped, steppedAs, steppedBy}
-use Rattle.chip.specs.Moves.{setup-next}
+use Rattle.chip.specs.Chip.{inShip, steppedBy}
+use Rattle.chip.specs.Repeat.{setup-as}
 use Rattle.stream.specs.Stream.{none, entryOf, bornOf, acted, turned, turnOf, runs, stands, entries, lastChip}
 use Rattle.stream.specs.Forecast.{readingNumber, isGiven}
 
--- ── a record that means an event steps the chip by it ──
-no-setup : (t : Bool) (e : Happening) → cond t unfit unfit ≡ means e → ⊥
-no-setup true e h = let z : _≡_ {A = ℕ} 0 1 = cc in omega arith
-no-setup false e h = let z : _≡_ {A = ℕ} 0 1 = cc in omega arith
+-- ── a record that means something in range steps the chip by it ──
+no-setup : (t : Bool) → inRange (cond t unfit unfit) ≡ true → ⊥
+no-setup true h = true≢false (sym h)
+no-setup false h = true≢false (sym h)
 
-no-setup-read : (v : SetupValues) (k : Counts) (c : Chip) (ev : Happening) → meantOf (c .setup) (Setup v) k ≡ means ev → ⊥
+no-setup-read : (v : SetupValues) (k : Counts) (c : Chip) → Meaning (c .setup) (Setup v) k → ⊥
 unfolding meantOf
-no-setup-read v k c ev m = no-setup (countsFit 0 k) ev m
+no-setup-read v k c m = no-setup (countsFit 0 k) m
 
-acted-by : (e : Event) (k : Counts) (c : Chip) (ev : Happening) → meantOf (c .setup) e k ≡ means ev → acted e k c ≡ steppedBy e k c
+pub acted-is : (e : Event) (k : Counts) (c : Chip) → Meaning (c .setup) e k → acted e k c ≡ steppedBy e k c
 unfolding acted
-acted-by (Setup v) k c ev m = absurd (no-setup-read v k c ev m)
-acted-by Por k c ev m = refl
-acted-by Boot k c ev m = refl
-acted-by Scan k c ev m = refl
-acted-by Temp k c ev m = refl
-acted-by (Count n) k c ev m = refl
-acted-by (Sense v) k c ev m = refl
-acted-by Pin k c ev m = refl
-acted-by (Load l) k c ev m = refl
-acted-by Xready k c ev m = refl
-acted-by (OnBus b) k c ev m = refl
-acted-by (Level l) k c ev m = refl
+acted-is (Setup v) k c m = absurd (no-setup-read v k c m)
+acted-is Por k c m = refl
+acted-is Boot k c m = refl
+acted-is Scan k c m = refl
+acted-is Temp k c m = refl
+acted-is (Count n) k c m = refl
+acted-is (Sense v) k c m = refl
+acted-is Pin k c m = refl
+acted-is (Load l) k c m = refl
+acted-is Xready k c m = refl
+acted-is (OnBus b) k c m = refl
+acted-is (Level l) k c m = refl
+acted-is (Ticks v n) k c m = refl
+acted-is (Soak v n) k c m = refl
 
-pub acted-is : (e : Event) (k : Counts) (c : Chip) (ev : Happening) → meantOf (c .setup) e k ≡ means ev → acted e k c ≡ stepped ev c
-acted-is e k c ev m = acted-by e k c ev m ∙ ap (λ (x : Meant). steppedAs x c) m
+pub setup-stays : (e : Event) (k : Counts) (c : Chip) → Meaning (c .setup) e k → acted e k c .chip .setup ≡ c .setup
+setup-stays e k c m = ap (λ (s : Stepped). s .chip .setup) (acted-is e k c m) ∙ setup-as (meantOf (c .setup) e k) c
 
 -- ── the setup of a chip that stands stays ──
 setup-turned : (c : Chip) (r : List ℕ) → c .setup .part ≢ 0 → (x : Read) → readOf (c .setup .part) r ≡ x → turned c r x .chip .setup ≡ c .setup
-setup-turned c r p (Record e next) q =
-    let m : Meaning (c .setup) e (countsBeside r (Record e next)) = later-means (c .setup) r e next p q in
-    ap (λ (s : Stepped). s .chip .setup) (acted-is e (countsBeside r (Record e next)) c (m .event) (m .meant)) ∙ setup-next (m .event) c
+setup-turned c r p (Record e next) q = setup-stays e (countsBeside r (Record e next)) c (later-means (c .setup) r e next p q)
 setup-turned c r p (Refused k next) q = refl
 setup-turned c r p Cut q = refl
 
@@ -178,6 +178,8 @@ made-by s (Record e next) q w h = by e q (first-setup s e next q)
     by Xready q g = absurd g
     by (OnBus x) q g = absurd g
     by (Level l) q g = absurd g
+    by (Ticks v n) q g = absurd g
+    by (Soak v n) q g = absurd g
 made-by s (Refused k next) q w h = absurd (w h)
 made-by s Cut q w h = absurd (omega (arith, h))
 

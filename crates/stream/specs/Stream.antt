@@ -10,7 +10,7 @@ use lib.IntN.{ℤ, pos, negsuc}
 use Rattle.events.specs.declared.Setup.{Setup as SetupValues}
 use Rattle.events.specs.declared.Counts.{Counts}
 use Rattle.events.specs.declared.Event.{Event}
-use Rattle.events.specs.declared.Event.the-variants.{Setup, Por, Boot, Scan, Temp, Count, Sense, Pin, Load, Xready, OnBus, Level}
+use Rattle.events.specs.declared.Event.the-variants.{Setup, Por, Boot, Scan, Temp, Count, Sense, Pin, Load, Xready, OnBus, Level, Ticks, Soak}
 use Rattle.records.specs.declared.Read.{Read}
 use Rattle.records.specs.declared.Read.the-variants.{Record, Refused, Cut}
 use Rattle.records.specs.Record.{standing, readOf, countsIn, countsBeside}
@@ -69,6 +69,8 @@ acted (Load l) k c = steppedBy (Load l) k c
 acted Xready k c = steppedBy Xready k c
 acted (OnBus b) k c = steppedBy (OnBus b) k c
 acted (Level l) k c = steppedBy (Level l) k c
+acted (Ticks v n) k c = steppedBy (Ticks v n) k c
+acted (Soak v n) k c = steppedBy (Soak v n) k c
 
 -- ── what a record makes of a chip: its entry, the next chip and place, and whether it is the last ──
 pub record Turn : Type 0 where

@@ -146,7 +146,9 @@ fn work_of(awake: bool, event: Event) -> Work
         | Event::Pin
         | Event::Load(_)
         | Event::Xready
-        | Event::Level(_) => Work::Other,
+        | Event::Level(_)
+        | Event::Ticks(_, _)
+        | Event::Soak(_, _) => Work::Other,
     }
 }
 
@@ -170,6 +172,8 @@ fn seldom(chip: Chip, event: Event, counts: [u16; 15]) -> Stepped
         Event::Xready => moved(chip, registers.unready()),
         Event::OnBus(bus) => chip.doze(bus),
         Event::Level(level) => moved(chip, leveled(registers, level)),
+        Event::Ticks(value, repeat) => chip.ticked(value, repeat as u32),
+        Event::Soak(value, repeat) => chip.ticked(value, repeat),
     }
 }
 

@@ -1,5 +1,8 @@
 -- What happens to a chip in SHIP, or seldom, by its case.
-use mathlib.Core.Path.{refl}
+use mathlib.Core.Path.{_≡_, refl, ap, _∙_}
+use mir.Syntax.{w32}
+use mir.Val.{toZ, ofZ}
+use Rattle.chip.specs.Chip.{ticked}
 use Rattle.events.specs.Event.{Count, Pin, Load, Xready}
 use Rattle.registers.specs.State.{withLoad}
 use Rattle.registers.specs.Judging.{coulombs, pulled, unready}
@@ -45,6 +48,20 @@ returns-11 c = let a = c .before .before .before .before .before in as-event (a 
 returns-12 : tie.Need-returns-12
 returns-12 c = let a = c .before .before .before .before .before .before in let l = c .before .before .before .event4 .given .0 .0 in as-event (a .args .counts) (a .args .chip) (c .before .before .before .event4 .given .1) (levels l (a .args .chip) (moved-to (a .args .chip) (c .before .leveled .ensures) (c .moved5 .ensures)))
 
+returns-13 : tie.Need-returns-13
+returns-13 c =
+    let a = c .before .before .before .before .before in
+    let z = c .before .before .event5 .given .0 .0 in
+    let e : toZ w32 (ofZ w32 z) ≡ z = search needs in
+    as-event (a .args .counts) (a .args .chip) (c .before .before .event5 .given .1) (c .ticked .ensures ∙ ap (λ v. ticked (c .before .before .event5 .given .0 .1 .0) v (a .args .chip)) e)
+
+returns-14 : tie.Need-returns-14
+returns-14 c =
+    let a = c .before .before .before .before .before in
+    let z = c .before .before .event6 .given .0 .0 in
+    let e : toZ w32 (ofZ w32 z) ≡ z = search needs in
+    as-event (a .args .counts) (a .args .chip) (c .before .before .event6 .given .1) (c .ticked2 .ensures ∙ ap (λ v. ticked (c .before .before .event6 .given .0 .1 .0) v (a .args .chip)) e)
+
 pub seldom-spec : {M : Type 1} → statement M
 seldom-spec =
     tie.close
@@ -78,6 +95,11 @@ seldom-spec =
     (λ c. search needs)
     (λ c κs. search needs)
     (λ c κs. search needs)
+    (λ c. search needs)
+    (λ c. search needs)
+    (λ c κs. search needs)
+    (λ c. search needs)
+    (λ c κs. search needs)
     returns
     returns-2
     returns-3
@@ -89,4 +111,6 @@ seldom-spec =
     returns-9
     returns-10
     returns-11
-    returns-12)
+    returns-12
+    returns-13
+    returns-14)
