@@ -1,3 +1,4 @@
 pub mod Words
 pub mod Reply
 pub mod Laws
+pub mod Worked
