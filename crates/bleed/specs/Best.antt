@@ -116,8 +116,10 @@ chosen-best e =
   where
     one : (d : Choice) → (mayIn e 0 (d .one) && mayIn e 5 (d .two) && mayIn e 10 (d .three)) ≡ true → mayIn e 0 (d .one) ≡ true
     one d a = left-of (mayIn e 0 (d .one)) _ (left-of _ _ a)
+
     two : (d : Choice) → (mayIn e 0 (d .one) && mayIn e 5 (d .two) && mayIn e 10 (d .three)) ≡ true → mayIn e 5 (d .two) ≡ true
     two d a = right-of (mayIn e 0 (d .one)) _ (left-of _ _ a)
+
     three : (d : Choice) → (mayIn e 0 (d .one) && mayIn e 5 (d .two) && mayIn e 10 (d .three)) ≡ true → mayIn e 10 (d .three) ≡ true
     three d a = right-of (mayIn e 0 (d .one) && mayIn e 5 (d .two)) (mayIn e 10 (d .three)) a
 

@@ -23,6 +23,7 @@ weights-up i h = up weights i refl h
     ups : List ℕ → Bool
     ups [] = true
     ups (w ∷ ws) = ltb 0 w && ups ws
+
     up : (ws : List ℕ) (i : ℕ) → ups ws ≡ true → i < length ws → 0 < getD ws i 0
     up [] i e h = absurd (omega arith)
     up (w ∷ ws) zero e h = ltb-true 0 w (left-of (ltb 0 w) (ups ws) e)

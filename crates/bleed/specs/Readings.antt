@@ -133,6 +133,7 @@ none-zero e h = same (chosen e) (chosen-best e .least noBytes (zero-may e) (tota
   where
     totals : (c : Choice) → total e c ≡ 0
     totals c = sums e h c
+
     same : (c : Choice) → number c ≤ 0 → c ≡ noBytes
     same c l =
         let p : c .one ≡ 0 = omega arith in

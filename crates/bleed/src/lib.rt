@@ -65,7 +65,11 @@ fn better_in(excess: [u16; 15], from: usize, byte: u8, best: u8) -> u8
     ensures { λ r. ⌜ r ≡ betterIn excess from byte best ⌝ }
 {
     let more = excess_in(excess, from, best) < excess_in(excess, from, byte);
-    if may_in(excess, from, byte) & more { byte } else { best }
+    if may_in(excess, from, byte) & more {
+        byte
+    } else {
+        best
+    }
 }
 
 // The best byte of a group.
@@ -96,7 +100,21 @@ fn linked_at(linked: u16, i: usize) -> bool
     ensures { λ r. ⌜ r ≡ linkedAt linked i ⌝ }
 {
     let weights: [u16; 15] = [
-        1, 2, 4, 8, 16, 32, 64, 128, 256, 512, 1024, 2048, 4096, 8192, 16384,
+        1,
+        2,
+        4,
+        8,
+        16,
+        32,
+        64,
+        128,
+        256,
+        512,
+        1024,
+        2048,
+        4096,
+        8192,
+        16384,
     ];
     linked / weights[i] % 2 == 1
 }
@@ -106,7 +124,11 @@ fn lower_at(cells: [u16; 15], linked: u16, i: usize, low: u16) -> u16
     ensures { λ r. ⌜ r ≡ lowerAt cells linked i low ⌝ }
 {
     let count = cells[i];
-    if linked_at(linked, i) & (count < low) { count } else { low }
+    if linked_at(linked, i) & (count < low) {
+        count
+    } else {
+        low
+    }
 }
 
 // The lowest connected cell.
