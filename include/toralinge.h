@@ -71,7 +71,10 @@ enum toralinge_reading_place {
  *
  * stream, length   the records: payload length (2 bytes), kind (2 bytes), payload, little-endian.
  *                  Kind 0015, one byte, is the outside level: while it is 1 a second protector holds
- *                  ALERT up, so a clearing write may end with OVRD_ALERT up again
+ *                  ALERT up, so a clearing write may end with OVRD_ALERT up again. Kinds 0000
+ *                  to 0013 are document 01's; 0014 is ticks of one value: 4 bytes signed as SENSE has them,
+ *                  and a repeat number of 2 bytes, 1 to 4,096, with one entry for the whole; 0017 is
+ *                  the same with a repeat number of 4 bytes, 1 to 16,777,216
  * entries, room    where the entries go, and how many bytes may stand there
  *
  * Returns how many entries there are. They stand one after the other from entries[0]; every later

@@ -387,13 +387,19 @@ static uint8_t step(struct chip *c, unsigned kind, const uint8_t *b, unsigned si
             raise(c, OVRD);
         return 0;
     case 0x08:
+    case 0x15:
         if (size != 1)
             return 2;
         if (b[0] > 1)
             return 3;
         if (!c->awake)
             return 4;
-        c->load = b[0];
+        if (kind == 0x08) {
+            c->load = b[0];
+        } else {
+            c->outside = b[0];
+            look_outside(c);
+        }
         return 0;
     case 0x09:
         if (size != 0)
@@ -428,16 +434,6 @@ static uint8_t step(struct chip *c, unsigned kind, const uint8_t *b, unsigned si
             return 2;
         if (c->awake)
             c->phase = IDLE;
-        return 0;
-    case 0x15:
-        if (size != 1)
-            return 2;
-        if (b[0] > 1)
-            return 3;
-        if (!c->awake)
-            return 4;
-        c->outside = b[0];
-        look_outside(c);
         return 0;
     default:
         return 2;

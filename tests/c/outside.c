@@ -6,7 +6,7 @@
 #include "guard.h"
 #include "toralinge.h"
 
-enum kind { SETUP = 0x00, POR, BOOT, SCAN, TEMP, COUNT, SENSE, PIN, LOAD, XREADY, START = 0x10, OUT, IN, STOP, LEVEL = 0x15, WIRES = 0x16 };
+enum kind { SETUP = 0x00, POR, BOOT, SCAN, TEMP, COUNT, SENSE, PIN, LOAD, XREADY, START = 0x10, OUT, IN, STOP, TICKS, LEVEL, WIRES, SOAK };
 
 /* ---- streams */
 
@@ -77,6 +77,19 @@ static void add_sense(struct stream *to, int32_t microvolts)
         payload[place] = (uint8_t)(bits >> (8 * place));
     }
     add(to, SENSE, payload, sizeof payload);
+}
+
+/* Ticks of one value: four bytes, and the repeat number in `size` bytes. */
+static void add_ticks(struct stream *to, unsigned kind, int32_t microvolts, uint32_t repeat, size_t size)
+{
+    uint32_t bits = (uint32_t)microvolts;
+    uint8_t payload[8];
+    size_t place;
+    for (place = 0; place < 4; place++) {
+        payload[place] = (uint8_t)(bits >> (8 * place));
+        payload[4 + place] = (uint8_t)(repeat >> (8 * place));
+    }
+    add(to, kind, payload, 4 + size);
 }
 
 static void add_write(struct stream *to, uint8_t pointer, uint8_t value)
@@ -351,6 +364,83 @@ static void outside_level(void)
     CHECK(entry_is(40, 0, 0, 0, 0x00, 0));
 }
 
+/* A record of ticks leaves what as many SENSE leave, in one entry; two of them leave what one of both together does. */
+static void repeated_ticks(void)
+{
+    struct stream made = awake(0);
+    int tick;
+    add_write(&made, 0x05, 0x02);               /* 2 to 6: discharge on */
+    add_ticks(&made, TICKS, -9501, 255, 2);     /* 7 */
+    add_ticks(&made, TICKS, -9501, 1, 2);       /* 8: OCD at 256 */
+    add_ticks(&made, TICKS, 0, 4096, 2);        /* 9: the run ends, the bit stays */
+    add_write(&made, 0x00, 0x01);               /* 10 to 14 */
+    add_ticks(&made, TICKS, -9501, 100, 2);     /* 15 */
+    for (tick = 0; tick < 155; tick++) {
+        add_sense(&made, -9501);                /* 16 to 170 */
+    }
+    add_ticks(&made, TICKS, -9501, 0, 2);       /* 171: 3 */
+    add_ticks(&made, TICKS, -9501, 4097, 2);    /* 172: 3 */
+    add_ticks(&made, TICKS, -500001, 1, 2);     /* 173: 3 */
+    add_ticks(&made, TICKS, -500001, 0, 1);     /* 174: 2 before 3 */
+    add_ticks(&made, TICKS, -9501, 1, 4);       /* 175: 2 */
+    add_sense(&made, -9501);                    /* 176: OCD */
+    add_bare(&made, POR);                       /* 177 */
+    add_ticks(&made, TICKS, -9501, 4096, 2);    /* 178: 4 */
+    add_ticks(&made, TICKS, -9501, 4097, 2);    /* 179: 3 before 4 */
+    CHECK(play(&made) == 180);
+    CHECK(entry_is(7, 0, 0, 0, 0x00, TORALINGE_PIN_DSG));
+    CHECK(entry_is(8, 0, 0, 0, 0x01, TORALINGE_PIN_ALERT));
+    CHECK(entry_is(9, 0, 0, 0, 0x01, TORALINGE_PIN_ALERT));
+    CHECK(entry_is(15, 0, 0, 0, 0x00, 0));
+    CHECK(entry_is(170, 0, 0, 0, 0x00, 0));
+    CHECK(entry_is(171, TORALINGE_BAD_VALUE, 0, 0, 0x00, 0));
+    CHECK(entry_is(172, TORALINGE_BAD_VALUE, 0, 0, 0x00, 0));
+    CHECK(entry_is(173, TORALINGE_BAD_VALUE, 0, 0, 0x00, 0));
+    CHECK(entry_is(174, TORALINGE_BAD_KIND, 0, 0, 0x00, 0));
+    CHECK(entry_is(175, TORALINGE_BAD_KIND, 0, 0, 0x00, 0));
+    CHECK(entry_is(176, 0, 0, 0, 0x01, TORALINGE_PIN_ALERT));
+    CHECK(entry_is(178, TORALINGE_ASLEEP, 0, 0, 0x00, 0));
+    CHECK(entry_is(179, TORALINGE_BAD_VALUE, 0, 0, 0x00, 0));
+}
+
+/* The same with four bytes of repeat number: an hour of ticks in one record. */
+static void ticks_by_the_hour(void)
+{
+    struct stream made = awake(0);
+    add_write(&made, 0x07, 0x70);                    /* 2 to 6: OCD delay 40,960 */
+    add_ticks(&made, SOAK, -9500, 16777216, 4);      /* 7: not over */
+    add_ticks(&made, SOAK, -9501, 40959, 4);         /* 8 */
+    add_ticks(&made, TICKS, -9501, 1, 2);            /* 9: OCD at 40,960 */
+    add_write(&made, 0x00, 0x01);                    /* 10 to 14 */
+    add_ticks(&made, SOAK, 0, 1, 4);                 /* 15: the run ends */
+    add_ticks(&made, SOAK, -9501, 16777216, 4);      /* 16 */
+    add_ticks(&made, SOAK, -9501, 0, 4);             /* 17: 3 */
+    add_ticks(&made, SOAK, -9501, 16777217, 4);      /* 18: 3 */
+    add_ticks(&made, SOAK, -9501, UINT32_MAX, 4);    /* 19: 3 */
+    add_ticks(&made, SOAK, -500001, 1, 4);           /* 20: 3 */
+    add_ticks(&made, SOAK, -9501, 1, 2);             /* 21: 2 */
+    add_ticks(&made, SOAK, -500001, 0, 3);           /* 22: 2 before 3 */
+    add_bare(&made, 0x15);                           /* 23: 2 */
+    add_bare(&made, POR);                            /* 24 */
+    add_ticks(&made, SOAK, -9501, 16777216, 4);      /* 25: 4 */
+    add_ticks(&made, SOAK, -9501, 0, 4);             /* 26: 3 before 4 */
+    CHECK(play(&made) == 27);
+    CHECK(entry_is(7, 0, 0, 0, 0x00, 0));
+    CHECK(entry_is(8, 0, 0, 0, 0x00, 0));
+    CHECK(entry_is(9, 0, 0, 0, 0x01, TORALINGE_PIN_ALERT));
+    CHECK(entry_is(15, 0, 0, 0, 0x00, 0));
+    CHECK(entry_is(16, 0, 0, 0, 0x01, TORALINGE_PIN_ALERT));
+    CHECK(entry_is(17, TORALINGE_BAD_VALUE, 0, 0, 0x01, TORALINGE_PIN_ALERT));
+    CHECK(entry_is(18, TORALINGE_BAD_VALUE, 0, 0, 0x01, TORALINGE_PIN_ALERT));
+    CHECK(entry_is(19, TORALINGE_BAD_VALUE, 0, 0, 0x01, TORALINGE_PIN_ALERT));
+    CHECK(entry_is(20, TORALINGE_BAD_VALUE, 0, 0, 0x01, TORALINGE_PIN_ALERT));
+    CHECK(entry_is(21, TORALINGE_BAD_KIND, 0, 0, 0x01, TORALINGE_PIN_ALERT));
+    CHECK(entry_is(22, TORALINGE_BAD_KIND, 0, 0, 0x01, TORALINGE_PIN_ALERT));
+    CHECK(entry_is(23, TORALINGE_BAD_KIND, 0, 0, 0x01, TORALINGE_PIN_ALERT));
+    CHECK(entry_is(25, TORALINGE_ASLEEP, 0, 0, 0x00, 0));
+    CHECK(entry_is(26, TORALINGE_BAD_VALUE, 0, 0, 0x00, 0));
+}
+
 static int doubles_are(const uint8_t *room, double least, double greatest, double total, double cc)
 {
     double wanted[TORALINGE_READING_SIZE];
@@ -595,6 +685,8 @@ int main(void)
     refused_later_records();
     both_sides_of_each_line();
     outside_level();
+    repeated_ticks();
+    ticks_by_the_hour();
     readings();
     not_connected();
     packs();

@@ -34,6 +34,20 @@ fn sense(value: i32) -> Vec<u8> {
     bytes
 }
 
+fn ticks(value: i32, repeat: u16) -> Vec<u8> {
+    let mut bytes = vec![6, 0, 0x14, 0];
+    bytes.extend(value.to_le_bytes());
+    bytes.extend(repeat.to_le_bytes());
+    bytes
+}
+
+fn soak(value: i32, repeat: u32) -> Vec<u8> {
+    let mut bytes = vec![8, 0, 0x17, 0];
+    bytes.extend(value.to_le_bytes());
+    bytes.extend(repeat.to_le_bytes());
+    bytes
+}
+
 /// SYS_STAT after the waking chip was given the same record some times.
 fn stat_after(record: &[u8], times: usize) -> u8 {
     let mut bytes = bytes_of_hex(AWAKE).unwrap();
@@ -76,6 +90,14 @@ pub fn check() -> usize {
     same("SENSE -18,500", stat_after(&sense(-18_500), 3).into(), 0x00);
     same("SENSE -18,501 twice", stat_after(&sense(-18_501), 2).into(), 0x00);
     same("SENSE -18,501", stat_after(&sense(-18_501), 3).into(), 0x02);
+    same("two ticks of -18,501", stat_after(&ticks(-18_501, 2), 1).into(), 0x00);
+    same("three ticks of -18,501", stat_after(&ticks(-18_501, 3), 1).into(), 0x02);
+    same("255 ticks of -9,501", stat_after(&ticks(-9_501, 255), 1).into(), 0x00);
+    same("256 ticks of -9,501", stat_after(&ticks(-9_501, 256), 1).into(), 0x01);
+    same("128 ticks of -9,501, twice", stat_after(&ticks(-9_501, 128), 2).into(), 0x01);
+    same("one soak of 255", stat_after(&soak(-9_501, 255), 1).into(), 0x00);
+    same("one soak of 256", stat_after(&soak(-9_501, 256), 1).into(), 0x01);
+    same("a soak of 16,777,216", stat_after(&soak(-9_501, 16_777_216), 1).into(), 0x01);
     let example = bytes_of_hex(EXAMPLE).unwrap();
     same("the printed example", (lines(&example) == PRINTED).into(), 1);
     same("no input", lines(&[]).len() as i128, 0);

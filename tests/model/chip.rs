@@ -423,7 +423,7 @@ impl Chip {
     fn raise_where_run_is_full(&mut self, fault: Fault) {
         let needed = self.needed(fault);
         let all = &self.verdicts[fault as usize];
-        if all.len() >= needed && all[all.len() - needed..].iter().all(|over| *over) {
+        if all.len() >= needed && all[all.len() - needed..].iter().rev().all(|over| *over) {
             self.raise(bit_of(fault));
         }
     }
@@ -518,11 +518,29 @@ impl Chip {
         self.judge(Fault::Ocd, drawn > self.ocd_limit());
     }
 
+    /// That many ticks, one after the other. After 41,000 alike every run is longer than any delay, and one more moves nothing.
+    pub fn ticks(&mut self, value: i32, repeat: u32) {
+        let many = match self.plant {
+            Plant::TicksCountedOnce => 1,
+            Plant::TicksOneFewer => repeat.saturating_sub(1),
+            Plant::TicksOneMore => repeat + 1,
+            _ => repeat,
+        };
+        if self.planted(Plant::TicksEndRuns) {
+            self.verdicts[Fault::Scd as usize].push(false);
+            self.verdicts[Fault::Ocd as usize].push(false);
+        }
+        for _ in 0..many.min(41_000) {
+            self.sense(value);
+        }
+    }
+
     /// For the plants in which a refused record touches the runs.
     pub fn refused(&mut self, kind: u16) {
         let ended = match (self.plant, kind) {
             (Plant::RefusedScanEndsRuns, 3) => [Fault::Ov, Fault::Uv],
             (Plant::RefusedSenseEndsRuns, 6) => [Fault::Scd, Fault::Ocd],
+            (Plant::RefusedTicksEndRuns, 0x14 | 0x17) => [Fault::Scd, Fault::Ocd],
             _ => return,
         };
         for fault in ended {

@@ -60,6 +60,8 @@ const OUT: u16 = 0x11;
 const IN: u16 = 0x12;
 const STOP: u16 = 0x13;
 const LEVEL: u16 = 0x15;
+const TICKS: u16 = 0x14;
+const SOAK: u16 = 0x17;
 const WIRES: u16 = 0x16;
 
 #[derive(Clone, Copy, PartialEq)]
@@ -467,11 +469,53 @@ impl Maker {
         self.push(SENSE, &(value as i32).to_le_bytes());
     }
 
-    fn some_sense(&mut self) {
+    fn some_value(&mut self) -> i64 {
         let (short, long) = (self.chip().scd_limit(), self.chip().ocd_limit());
         let any = self.rng.below(1_000_001) as i64 - 500_000;
-        let value = self.rng.pick(&[-short, -short - 1, -long, -long - 1, short + 1, 0, any, 500_000, -500_000]);
+        self.rng.pick(&[-short, -short - 1, -long, -long - 1, short + 1, 0, any, 500_000, -500_000])
+    }
+
+    fn some_sense(&mut self) {
+        let value = self.some_value();
         self.sense(value);
+    }
+
+    fn ticks(&mut self, value: i64, repeat: usize) {
+        let mut payload = (value as i32).to_le_bytes().to_vec();
+        payload.extend((repeat as u16).to_le_bytes());
+        self.push(TICKS, &payload);
+    }
+
+    fn soaked(&mut self, value: i64, repeat: usize) {
+        let mut payload = (value as i32).to_le_bytes().to_vec();
+        payload.extend((repeat as u32).to_le_bytes());
+        self.push(SOAK, &payload);
+    }
+
+    fn some_ticks(&mut self) {
+        let value = self.some_value();
+        let any = self.rng.between(1, 300);
+        let repeat = self.rng.pick(&[1, 2, 3, 4, 7, 13, 256, any]);
+        if self.rng.once_in(3) {
+            self.soaked(value, repeat);
+        } else {
+            self.ticks(value, repeat);
+        }
+    }
+
+    /// That many ticks in records of as many as there may be, or cut in two or three by chance.
+    fn ticks_in_parts(&mut self, value: i64, many: usize) {
+        let mut left = many;
+        while left > 0 {
+            let most = left.min(4_096);
+            let part = if self.rng.once_in(2) { most } else { self.rng.between(1, most) };
+            match self.rng.below(4) {
+                0 if part == 1 => self.sense(value),
+                1 => self.soaked(value, part),
+                _ => self.ticks(value, part),
+            }
+            left -= part;
+        }
     }
 
     fn some_scan(&mut self) {
@@ -506,7 +550,7 @@ impl Maker {
 
     /// Any event but a bus event.
     fn event(&mut self) {
-        match self.rng.below(16) {
+        match self.rng.below(17) {
             0..=3 => self.some_scan(),
             4 | 5 => self.temp(),
             6 | 7 => {
@@ -521,15 +565,17 @@ impl Maker {
             }
             13 => self.push(XREADY, &[]),
             14 => self.push(BOOT, &[]),
+            15 => self.some_ticks(),
             _ => self.hostile(),
         }
     }
 
     /// A record that is refused, but for a wiring record where it is taken.
     fn hostile(&mut self) {
-        match self.rng.below(14) {
+        match self.rng.below(16) {
             0..=3 => self.wrong_kind_or_length(),
-            13 => {
+            13 | 14 => self.wrong_ticks(),
+            15 => {
                 let cells = if self.rng.once_in(2) { self.row() } else { self.rng.below(17) as u8 };
                 self.push(WIRES, &[cells]);
             }
@@ -558,6 +604,34 @@ impl Maker {
         }
     }
 
+    fn wrong_ticks(&mut self) {
+        match self.rng.below(5) {
+            0 => {
+                let value = self.some_value();
+                let repeat = self.rng.pick(&[0, 4_097, 65_535]);
+                self.ticks(value, repeat);
+            }
+            3 => {
+                let value = self.rng.pick(&[0, -1, 0, 500_001]);
+                let repeat = self.rng.pick(&[0, 16_777_217, 16_777_217, 0xFFFF_FFFF]);
+                self.soaked(value, repeat);
+            }
+            4 => {
+                let payload = self.rng.pick(&[&[][..], &[0, 0, 0, 0, 1, 0], &[1; 7], &[1; 9]]);
+                self.push(SOAK, payload);
+            }
+            1 => {
+                let value = self.rng.pick(&[500_001, -500_001, i64::from(i32::MIN)]);
+                let repeat = self.rng.pick(&[0, 1, 4_096]);
+                self.ticks(value, repeat);
+            }
+            _ => {
+                let payload = self.rng.pick(&[&[][..], &[0, 0, 0, 0], &[0; 5], &[1, 0, 0, 0, 1, 0, 0], &[1; 8]]);
+                self.push(TICKS, payload);
+            }
+        }
+    }
+
     fn wrong_kind_or_length(&mut self) {
         let long: Vec<u8> = (0..self.rng.below(32)).map(|_| self.rng.below(2) as u8).collect();
         match self.rng.below(5) {
@@ -567,7 +641,7 @@ impl Maker {
                 self.push(kind + 256 * upper, &[]);
             }
             0 => {
-                let kind = self.rng.pick(&[0x0A, 0x0D, 0x0F, 0x14, 0x16, 0x18, 0x100, 0x1100, 0xFFFF, 0x0301]);
+                let kind = self.rng.pick(&[0x0A, 0x0D, 0x0F, 0x16, 0x18, 0x100, 0x1100, 0x1400, 0xFFFF, 0x0301]);
                 self.push(kind, &long);
             }
             1 => {
@@ -576,7 +650,7 @@ impl Maker {
                 self.push(kind, payload);
             }
             2 => {
-                let kind = self.rng.below(0x14) as u16;
+                let kind = self.rng.below(0x15) as u16;
                 self.push(kind, &long);
             }
             _ => {
@@ -707,10 +781,52 @@ impl Maker {
         }
     }
 
+    /// Repeated ticks on one side of a current limit, around any of its delays or with DELAY_DIS.
+    fn ticks_episode(&mut self, fault: Fault) {
+        let codes = if self.rng.once_in(6) { 8 } else { 5 };
+        let (delay, limits) = (self.rng.below(codes) as u8, self.rng.byte());
+        if fault == Fault::Scd {
+            self.write(0x06, &[(delay & 3) << 3 | limits & 0x87]);
+        } else {
+            self.write(0x07, &[delay << 4 | limits & 0x0F]);
+        }
+        let control = if self.rng.once_in(5) { 0x83 } else { 0x03 };
+        self.write(0x05, &[control]);
+        if self.rng.once_in(2) {
+            self.write(0x00, &[0xFF]);
+            self.drives_on();
+        }
+        match self.rng.below(3) {
+            0 => self.ticks(0, 4_096),
+            1 => self.soaked(0, 1),
+            _ => self.ticks(0, 40),
+        }
+        let limit = if fault == Fault::Scd { self.chip().scd_limit() } else { self.chip().ocd_limit() };
+        let needed = self.chip().needed(fault);
+        let many = self.rng.pick(&[needed - 1, needed, needed + 1, needed + 20]);
+        if self.rng.once_in(5) {
+            self.ticks_in_parts(-limit, many);
+        }
+        self.ticks_in_parts(-limit - 1, many / 2);
+        if self.rng.once_in(3) {
+            self.disturb_current(fault);
+        }
+        self.ticks_in_parts(-limit - 1, many - many / 2);
+        if self.rng.once_in(8) {
+            let long = self.rng.pick(&[4_097, 40_959, 65_536, 65_537, 16_777_216]);
+            self.soaked(-limit - 1, long);
+        }
+        self.write(0x00, &[if fault == Fault::Scd { 0x02 } else { 0x01 }]);
+        self.drives_on();
+        let more = self.rng.between(1, 3);
+        self.ticks(-limit - 1, more);
+    }
+
     fn disturb_current(&mut self, fault: Fault) {
-        match self.rng.below(7) {
+        match self.rng.below(9) {
             0 => self.write(0x00, &[0xFF]),
             1 => self.sense(-500_001),
+            7 => self.wrong_ticks(),
             2 => {
                 self.write(0x04, &[0x00]);
                 self.scan(Kind::Over);
@@ -803,9 +919,10 @@ impl Maker {
     }
 
     fn awaking_free_event(&mut self) {
-        match self.rng.below(6) {
+        match self.rng.below(7) {
             0 => self.some_scan(),
             1 => self.some_sense(),
+            5 => self.some_ticks(),
             2 => self.push(PIN, &[]),
             3 => self.push(LOAD, &[1]),
             4 => self.push(LEVEL, &[1]),
@@ -942,7 +1059,9 @@ impl Maker {
             if !self.chip().awake {
                 self.push(BOOT, &[]);
             }
-            match self.rng.below(29) {
+            match self.rng.below(32) {
+                29 | 30 => self.ticks_episode(Fault::Scd),
+                31 => self.ticks_episode(Fault::Ocd),
                 0..=2 => self.scan_episode(Fault::Ov),
                 3 | 4 => self.scan_episode(Fault::Uv),
                 5 | 6 => self.current_episode(Fault::Scd),
@@ -1144,7 +1263,7 @@ pub fn stream(seed: u64, stream: u64) -> Vec<u8> {
         32..=35 if ends_open => bytes.extend([0, 0, POR as u8, 0]),
         36 => {
             // the longest record there is, of a kind that is not
-            bytes.extend([0xFF, 0xFF, 0x14, 0x00]);
+            bytes.extend([0xFF, 0xFF, 0x1F, 0x00]);
             bytes.extend((0..0xFFFF).map(|_| rng.byte()));
             bytes.extend([0, 0, XREADY as u8, 0]);
         }

@@ -56,6 +56,8 @@ fn length_of(kind: u16, part: usize) -> Option<usize> {
         0x0005 => Some(2),
         0x0006 => Some(4),
         0x0008 | 0x0011 | 0x0012 | 0x0015 | 0x0016 => Some(1),
+        0x0014 => Some(6),
+        0x0017 => Some(8),
         _ => None,
     }
 }
@@ -63,14 +65,40 @@ fn length_of(kind: u16, part: usize) -> Option<usize> {
 fn in_range(kind: u16, payload: &[u8], plant: Plant) -> bool {
     match kind {
         0x0003 | 0x0004 => words(payload).iter().all(|count| *count <= 16_383) || plant == Plant::RangeNotChecked,
-        0x0006 => {
-            let value = i64::from(sensed(payload));
-            let most = if plant == Plant::SenseEndsLeftOut { 499_999 } else { 500_000 };
-            (-most..=most).contains(&value)
-        }
+        0x0006 => sense_in_range(payload, plant),
         0x0008 | 0x0012 | 0x0015 => payload[0] <= 1,
+        0x0014 | 0x0017 => sense_in_range(payload, plant) && repeat_in_range(kind, repeat_of(payload, plant), plant),
         _ => true,
     }
+}
+
+fn sense_in_range(payload: &[u8], plant: Plant) -> bool {
+    let value = i64::from(sensed(payload));
+    let most = if plant == Plant::SenseEndsLeftOut { 499_999 } else { 500_000 };
+    (-most..=most).contains(&value)
+}
+
+/// The number after the four bytes of a value: two bytes, or four.
+fn repeat_of(payload: &[u8], plant: Plant) -> u32 {
+    let low = u32::from(word(payload, 4));
+    if payload.len() == 6 || plant == Plant::SoakLowHalfOnly {
+        return low;
+    }
+    low + 65_536 * u32::from(word(payload, 6))
+}
+
+fn repeat_in_range(kind: u16, repeat: u32, plant: Plant) -> bool {
+    let most = match (kind, plant) {
+        (0x0014, Plant::TicksMostLower) => 4_095,
+        (0x0014, Plant::TicksMostHigher) => 4_097,
+        (0x0014, _) => 4_096,
+        (_, Plant::SoakMostLower) => 16_777_215,
+        (_, Plant::SoakMostHigher) => 16_777_217,
+        (_, Plant::SoakMostOfTicks) => 4_096,
+        _ => 16_777_216,
+    };
+    let least = if plant == Plant::NoTicksTaken { 0 } else { 1 };
+    (least..=most).contains(&repeat)
 }
 
 fn sensed(payload: &[u8]) -> i32 {
@@ -79,7 +107,9 @@ fn sensed(payload: &[u8]) -> i32 {
 
 /// The number for a record that follows SETUP: 2, then 3, then 4; or 0.
 fn refusal(chip: &Chip, kind: u16, payload: &[u8], plant: Plant) -> u8 {
-    let wants_waking = (3..=9).contains(&kind) || kind == 0x15 && plant != Plant::LevelTakenAsleep;
+    let wants_waking = (3..=9).contains(&kind)
+        || kind == 0x15 && plant != Plant::LevelTakenAsleep
+        || matches!(kind, 0x14 | 0x17) && plant != Plant::TicksTakenAsleep;
     let asleep = !chip.awake && wants_waking;
     if asleep && plant == Plant::AsleepBeforeLength {
         return 4;
@@ -115,7 +145,7 @@ fn wiring_refusal(chip: &Chip, fresh: bool, cells: u8, plant: Plant) -> u8 {
 }
 
 /// Gives the event to the chip; the bus's answer where it has one.
-fn act(chip: &mut Chip, kind: u16, payload: &[u8]) -> Option<u8> {
+fn act(chip: &mut Chip, kind: u16, payload: &[u8], plant: Plant) -> Option<u8> {
     match kind {
         0x0001 => chip.por(),
         0x0002 => chip.boot(),
@@ -130,6 +160,7 @@ fn act(chip: &mut Chip, kind: u16, payload: &[u8]) -> Option<u8> {
         0x0011 => return Some(if chip.out(payload[0]) { 0 } else { 1 }),
         0x0012 => return Some(chip.take(payload[0] == 0)),
         0x0015 => chip.level(payload[0] == 1),
+        0x0014 | 0x0017 => chip.ticks(sensed(payload), repeat_of(payload, plant)),
         0x0016 => chip.wire(payload[0]),
         _ => chip.stop(),
     }
@@ -236,7 +267,7 @@ impl Session {
         if number != 0 {
             return Err(number);
         }
-        let bus = act(chip, kind, payload);
+        let bus = act(chip, kind, payload, plant);
         chip.after(kind);
         Ok(bus)
     }

@@ -1,9 +1,10 @@
 -- Document 01, "Numbers given back", 2 and 3: the number of what an event made by hand means to a chip that stands. Assumes nothing.
 use Prim.Native.Nat.{ℕ}
 use mathlib.Core.Bool.{cond}
-use Rattle.events.specs.Event.{fits, Meant, means, unfit}
+use Rattle.events.specs.Event.{fits, ticksFit, Meant, means, ticks, unfit}
 
 -- 2 for one that means none, 3 for a value out of range, or 0
 abbrev pub refusalOf : Meant → ℕ
 refusalOf (means e) = cond (fits e) 0 3
+refusalOf (ticks most v n) = cond (ticksFit most v n) 0 3
 refusalOf unfit = 2

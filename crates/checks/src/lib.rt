@@ -1,7 +1,7 @@
 // The checks of an event made by hand, for the writer and the chip: counts that fit the part, and values in range.
 ghost use mathlib.Core.Path.{_≡_};
 ghost use lib.ListN.{take, drop};
-ghost use Rattle.events.specs.Event.{within, countMost, senseFits, countsWanted, countsFit, eventOf, meantOf};
+ghost use Rattle.events.specs.Event.{within, countMost, senseFits, ticksFit, countsWanted, countsFit, eventOf, meantOf};
 ghost use Rattle.checks.specs.Refusal.{refusalOf};
 use events::Counts;
 use events::Event;
@@ -12,6 +12,13 @@ pub fn sense_fits(v: i32) -> bool
     ensures { λ r. ⌜ r ≡ senseFits v ⌝ }
 {
     (-500000 <= v) & (v <= 500000)
+}
+
+// Whether a tick's value is in range, and how often it is repeated, up to the most that its kind allows.
+pub fn ticks_fit(most: u32, value: i32, repeat: u32) -> bool
+    ensures { λ r. ⌜ r ≡ ticksFit most value repeat ⌝ }
+{
+    sense_fits(value) & (1 <= repeat) & (repeat <= most)
 }
 
 // Whether each count from a place on is at most a number.
@@ -62,6 +69,8 @@ pub fn counts_wanted(setup: Setup, event: Event) -> u8
         Event::Xready => 0,
         Event::OnBus(_) => 0,
         Event::Level(_) => 0,
+        Event::Ticks(_, _) => 0,
+        Event::Soak(_, _) => 0,
         Event::Wires(_) => 0,
     }
 }
@@ -102,6 +111,8 @@ fn value_refusal(setup: Setup, event: Event, of: [u16; 15]) -> u8
         Event::Xready => 0,
         Event::OnBus(_) => 0,
         Event::Level(_) => 0,
+        Event::Ticks(v, n) => if ticks_fit(4096, v, n as u32) { 0 } else { 3 },
+        Event::Soak(v, n) => if ticks_fit(16777216, v, n) { 0 } else { 3 },
         Event::Wires(_) => 2,
     }
 }

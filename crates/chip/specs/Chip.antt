@@ -2,14 +2,14 @@
 -- "Bus" and "Judging" put together over the rooms below. Assumes nothing.
 use mathlib.Core.Bool.{Bool, true, false, cond}
 use mathlib.Core.List.{List, [], _∷_}
-use Prim.Native.Nat.{ℕ}
+use Prim.Native.Nat.{ℕ, zero, suc}
 use lib.IntN.{ℤ}
 use Rattle.events.specs.declared.Setup.{Setup}
 use Rattle.events.specs.declared.Counts.{Counts}
 use Rattle.events.specs.declared.BusEvent.{BusEvent}
 use Rattle.events.specs.declared.BusEvent.the-variants.{Start, Stop, Out, In}
 use Rattle.events.specs.declared.Event.{Event as Coded}
-use Rattle.events.specs.Event.{Event, Por, Boot, Pin, Xready, Scan, Temp, Count, Sense, Load, OnBus, Level, fits, Meant, means, unfit, eventOf, meantOf}
+use Rattle.events.specs.Event.{Event, Por, Boot, Pin, Xready, Scan, Temp, Count, Sense, Load, OnBus, Level, fits, ticksFit, Meant, means, ticks, unfit, eventOf, meantOf}
 use Rattle.events.specs.Fault.{Fault}
 use Rattle.bus.specs.declared.Line.{Line}
 use Rattle.bus.specs.declared.Bus.{Bus}
@@ -152,9 +152,18 @@ stepped e c = cond (fits e) (happened e c) (quiet 3 c)
 abbrev pub next : Event → Chip → Chip
 next e c = stepped e c .chip
 
+-- ── requests M-100 and M-109: that many SENSE of one value, one after the other; asleep 4, and one answer for the whole ──
+abbrev pub ticking : ℕ → ℤ → Chip → Chip
+ticking zero v c = c
+ticking (suc n) v c = happened (Sense v) (ticking n v c) .chip
+
+abbrev pub ticked : ℕ → ℤ → Chip → Stepped
+ticked n v c = cond (c .awake) (quiet 0 (ticking n v c)) (quiet 4 c)
+
 -- ── the code's event and the counts beside it: 2 before 3 ──
 abbrev pub steppedAs : Meant → Chip → Stepped
 steppedAs (means e) c = stepped e c
+steppedAs (ticks most v n) c = cond (ticksFit most v n) (ticked n v c) (quiet 3 c)
 steppedAs unfit c = quiet 2 c
 
 abbrev pub steppedBy : Coded → Counts → Chip → Stepped
@@ -162,6 +171,7 @@ steppedBy e k c = steppedAs (meantOf (c .setup) e k) c
 
 abbrev pub happenedAs : Meant → Chip → Stepped
 happenedAs (means e) c = happened e c
+happenedAs (ticks most v n) c = ticked n v c
 happenedAs unfit c = quiet 2 c
 
 abbrev pub happenedBy : Coded → List ℕ → Chip → Stepped

@@ -2,11 +2,13 @@
 ghost use mathlib.Core.Path.{_≡_};
 ghost use lib.ListN.{take};
 ghost use Rattle.events.specs.Setup.{groups, inputs};
-ghost use Rattle.events.specs.Event.{eventOf, Por, Boot, Pin, Xready, Scan, Temp, Count, Sense, Load, OnBus, Level};
+ghost use Rattle.events.specs.Event.{eventOf, ticks as ticksSpec, ticksMost, soakMost, Por, Boot, Pin, Xready, Scan, Temp, Count, Sense, Load, OnBus, Level};
 ghost use Rattle.events.specs.declared.BusEvent.the-variants.{Start, Out, In, Stop};
-ghost use Rattle.chip.specs.Chip.{quiet as quietSpec, answered as answeredSpec, inShip as inShipSpec, given as fetchedSpec, watched as watchedSpec, settled, normally, busAsleep, happened, stepped, steppedAs, steppedBy};
+ghost use Rattle.chip.specs.Chip.{quiet as quietSpec, answered as answeredSpec, inShip as inShipSpec, given as fetchedSpec, watched as watchedSpec, settled, normally, busAsleep, happened, stepped, ticked as tickedSpec, steppedAs, steppedBy};
 ghost use Rattle.chip.specs.Parts.{unheard as unheardSpec, sentOn as sentSpec, handedOver as handedSpec, heardOf, wrote as wroteSpec, landed as landedSpec, raisedBy};
 ghost use Rattle.protection.specs.Judged.{tickJudged};
+ghost use Rattle.protection.specs.Repeat.{ticksJudged};
+ghost use Rattle.chip.specs.Repeat.{tickedBy};
 ghost use Rattle.bus.specs.Bus.{wanted};
 use bus::Bus;
 use bus::Line;
@@ -74,7 +76,7 @@ fn watched(mut chip: Chip) -> Chip
 }
 
 // An event done in NORMAL: the outside level is looked at, number 0.
-pub fn done(chip: Chip) -> Stepped
+fn done(chip: Chip) -> Stepped
     ensures { λ r. ⌜ r ≡ settled (quietSpec 0 chip) ⌝ }
 {
     quiet(0, watched(chip))
@@ -237,6 +239,53 @@ impl Chip {
         self.runs = runs;
         let risen = judged.risen;
         done(self.raised(risen))
+    }
+
+    // In NORMAL: ticks of one value judged by their number, and what is due at the last of them shown.
+    fn judged_by(mut self, value: i32, repeat: u32) -> Self
+        ensures { λ r. ⌜ r ≡ tickedBy (ticksJudged repeat (self .registers .settings) value (self .runs)) self ⌝ }
+    {
+        let registers = self.registers;
+        let runs = self.runs;
+        let judged = runs.ticked(registers.settings, value, repeat);
+        let runs = judged.runs;
+        self.runs = runs;
+        let risen = judged.risen;
+        self.raised(risen)
+    }
+
+    // That many ticks of one value: their number is enough, whatever it is. After the first the outside level has nothing more to raise.
+    pub fn ticked(self, value: i32, repeat: u32) -> Stepped
+        ensures { λ r. ⌜ r ≡ tickedSpec repeat value self ⌝ }
+    {
+        if !self.awake {
+            return quiet(4, self);
+        }
+        if repeat == 0 {
+            return quiet(0, self);
+        }
+        let first = watched(self.judged_by(value, 1));
+        quiet(0, first.judged_by(value, repeat - 1))
+    }
+
+    // 1 to 4,096 ticks of one value.
+    pub fn ticks(self, value: i32, repeat: u16) -> Stepped
+        ensures { λ r. ⌜ r ≡ steppedAs (ticksSpec ticksMost value repeat) self ⌝ }
+    {
+        if !checks::ticks_fit(4096, value, repeat as u32) {
+            return quiet(3, self);
+        }
+        self.ticked(value, repeat as u32)
+    }
+
+    // 1 to 16,777,216 ticks of one value.
+    pub fn soak(self, value: i32, repeat: u32) -> Stepped
+        ensures { λ r. ⌜ r ≡ steppedAs (ticksSpec soakMost value repeat) self ⌝ }
+    {
+        if !checks::ticks_fit(16777216, value, repeat) {
+            return quiet(3, self);
+        }
+        self.ticked(value, repeat)
     }
 
     // In NORMAL: the counts of TEMP kept.
@@ -452,6 +501,8 @@ impl Chip {
             Event::Xready => self.xready(),
             Event::OnBus(bus) => self.on_bus(bus),
             Event::Level(level) => self.level(level),
+            Event::Ticks(value, repeat) => self.ticks(value, repeat),
+            Event::Soak(value, repeat) => self.soak(value, repeat),
             Event::Wires(_) => quiet(2, self),
         }
     }

@@ -3,19 +3,23 @@
 use mathlib.Core.Path.{_≡_, refl, sym, ap, _∙_}
 use mathlib.Core.Bool.{Bool, true, false, cond, true≢false}
 use mathlib.Core.List.{List, [], _∷_, _++_}
+use Prim.Native.Nat.{ℕ, zero, suc}
 use lib.Dec.{eqb}
+use lib.IntN.{ℤ}
+use lib.ListN.{replicate}
 use borrow.Author.Tests.{eq-eqb}
 use Rattle.events.specs.declared.Setup.{Setup}
 use Rattle.events.specs.declared.Counts.{Counts}
 use Rattle.events.specs.declared.Event.{Event as Coded}
-use Rattle.events.specs.Event.{Event, fits, Meant, means, unfit, meantOf}
+use Rattle.events.specs.Event.{Event, Sense, fits, ticksFit, Meant, means, ticks, unfit, meantOf, eventsIn}
 use Rattle.events.specs.Fault.{Fault}
 use Rattle.protection.specs.Rule.{rule, opinion}
 use Rattle.chip.specs.declared.Chip.{Chip}
 use Rattle.chip.specs.declared.Stepped.{Stepped}
-use Rattle.chip.specs.Chip.{inShip, stepped, next, steppedAs, steppedBy}
+use Rattle.chip.specs.Chip.{quiet, inShip, stepped, next, ticked, steppedAs, steppedBy}
 use Rattle.chip.specs.Core.{Core, coreOf, coreNext}
 use Rattle.chip.specs.Moves.{normal-is}
+use Rattle.chip.specs.Repeat.{senses, record-senses}
 use Rattle.demands.specs.Demand.{chip, core, verdicts}
 use Rattle.demands.specs.Refused.{normal-done, refused}
 use Rattle.demands.specs.History.{setup-is, core-is, awake-is, asleep-none}
@@ -84,9 +88,24 @@ module _ (u : Setup) where
   chipBy [] = inShip u
   chipBy (g ∷ past) = steppedBy (g .0) (g .1) (chipBy past) .chip
 
+  -- of ticks each tick is one
   abbrev pub withMeant : Meant → List Event → List Event
-  withMeant (means e) past = e ∷ past
-  withMeant unfit past = past
+  withMeant m past = eventsIn m ++ past
+
+  ticks-heard : (n : ℕ) (v : ℤ) (past : List Event) → senses n v (chip u past) ≡ chip u (replicate n (Sense v) ++ past)
+  unfolding chip
+  ticks-heard zero v past = refl
+  ticks-heard (suc n) v past = ap (next (Sense v)) (ticks-heard n v past)
+
+  pub heard-as : (m : Meant) (past : List Event) → steppedAs m (chip u past) .chip ≡ chip u (withMeant m past)
+  unfolding chip
+  heard-as (means e) past = refl
+  heard-as (ticks most v n) past = by (ticksFit most v n) refl
+    where
+      by : (t : Bool) → ticksFit most v n ≡ t → steppedAs (ticks most v n) (chip u past) .chip ≡ chip u (cond t (replicate n (Sense v)) [] ++ past)
+      by true f = record-senses most n v (chip u past) f ∙ ticks-heard n v past
+      by false f = ap (λ (t : Bool). cond t (ticked n v (chip u past)) (quiet 3 (chip u past)) .chip) f
+  heard-as unfit past = refl
 
   -- what they mean, those that do not fit the part left out
   unfoldable pub meant : List CodeEvent → List Event
@@ -100,8 +119,4 @@ module _ (u : Setup) where
   coded (g ∷ past) =
       (λ i. steppedAs (meantOf (coded past i .setup) (g .0) (g .1)) (coded past i) .chip)
       ∙ (λ i. steppedAs (meantOf (setup-is u (meant past) i) (g .0) (g .1)) (chip u (meant past)) .chip)
-      ∙ by (meantOf u (g .0) (g .1))
-    where
-      by : (m : Meant) → steppedAs m (chip u (meant past)) .chip ≡ chip u (withMeant m (meant past))
-      by (means e) = refl
-      by unfit = refl
+      ∙ heard-as (meantOf u (g .0) (g .1)) (meant past)

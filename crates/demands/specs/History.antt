@@ -66,7 +66,7 @@ module _ (u : Setup) where
   pub accepted-awake : (k : Fault) (past : List Event) (e : Event) → judges k e ≡ true → Accepted u past e → Awake u past
   accepted-awake k past e j n = sym (awake-is past) ∙ accepted-judged k e (chip u past) j n .1
 
-  judging-core : (k : Fault) (past : List Event) (e : Event) → judges k e ≡ true → Accepted u past e → core u (e ∷ past) ≡ core u past
+  pub judging-core : (k : Fault) (past : List Event) (e : Event) → judges k e ≡ true → Accepted u past e → core u (e ∷ past) ≡ core u past
   unfolding chip
   judging-core k past e j n =
       sym (core-is (e ∷ past))

@@ -20,7 +20,7 @@ use Rattle.registers.specs.declared.Status.{Status}
 use Rattle.registers.specs.declared.Shown.{Shown}
 use Rattle.registers.specs.State.{dark, alert, withStatus}
 use Rattle.registers.specs.Write.{statusOf, without, holdsChg, holdsDsg, driven, shownWith}
-use Rattle.registers.specs.Held.{heldAt}
+use Rattle.registers.specs.Judging.{heldAt}
 use Rattle.registers.specs.Fault.{bitOf, driveOf, raised, overridden, readied, counting}
 use Rattle.protection.specs.Rule.{risen}
 use Rattle.chip.specs.declared.Chip.{Chip}

@@ -20,7 +20,7 @@ use Rattle.registers.specs.State.{alert, withStatus}
 use Rattle.settings.specs.Bit.{bit}
 use Rattle.registers.specs.Write.{statusOf, without, driven, shownWith}
 use Rattle.registers.specs.Fault.{overridden, counting}
-use Rattle.registers.specs.Held.{heldAt}
+use Rattle.registers.specs.Judging.{heldAt}
 use Rattle.chip.specs.declared.Chip.{Chip}
 use Rattle.chip.specs.declared.Stepped.{Stepped}
 use Rattle.chip.specs.Chip.{withAwake, storedAt, stored, onBus, watched, normally, next}

@@ -22,3 +22,4 @@ pub mod Answered
 pub mod Latches
 pub mod Between
 pub mod Level
+pub mod Ticks

@@ -4,10 +4,10 @@ use mathlib.Core.Bool.{Bool, true, false, cond}
 use Rattle.events.specs.declared.Counts.{Counts}
 use Rattle.events.specs.declared.BusEvent.the-variants.{Start, Stop, Out, In}
 use Rattle.events.specs.declared.Event.{Event as Coded}
-use Rattle.events.specs.Event.{Event, Por, Boot, Pin, Xready, Scan, Temp, Count, Sense, Load, OnBus, Level, fits, Meant, means, unfit, meantOf}
+use Rattle.events.specs.Event.{Event, Por, Boot, Pin, Xready, Scan, Temp, Count, Sense, Load, OnBus, Level, fits, ticksFit, Meant, means, ticks, unfit, meantOf}
 use Rattle.chip.specs.declared.Chip.{Chip}
 use Rattle.chip.specs.declared.Stepped.{Stepped}
-use Rattle.chip.specs.Chip.{quiet, settled, normally, asleep, happened, stepped, next, steppedAs, steppedBy}
+use Rattle.chip.specs.Chip.{quiet, settled, normally, asleep, happened, stepped, next, ticking, steppedAs, steppedBy}
 
 -- in NORMAL nothing in range is refused
 pub normal-done : (e : Event) (c : Chip) → normally e c .number ≡ 0
@@ -64,10 +64,16 @@ refused e c h = by (fits e) h
     by true h = refused-happened e c h
     by false h = refl
 
--- and 2, of the code's event with the counts beside it
-pub refused-by : (e : Coded) (k : Counts) (c : Chip) → (steppedBy e k c .number ≡ 0 → ⊥) → steppedBy e k c .chip ≡ c
-refused-by e k c = by (meantOf (c .setup) e k)
+-- and 2, of what the code's event means
+pub refused-as : (m : Meant) (c : Chip) → (steppedAs m c .number ≡ 0 → ⊥) → steppedAs m c .chip ≡ c
+refused-as (means e) c h = refused e c h
+refused-as (ticks most v n) c h = in-ticks (ticksFit most v n) (c .awake) h
   where
-    by : (m : Meant) → (steppedAs m c .number ≡ 0 → ⊥) → steppedAs m c .chip ≡ c
-    by (means e) h = refused e c h
-    by unfit h = refl
+    in-ticks : (f a : Bool) → (cond f (cond a (quiet 0 (ticking n v c)) (quiet 4 c)) (quiet 3 c) .number ≡ 0 → ⊥) → cond f (cond a (quiet 0 (ticking n v c)) (quiet 4 c)) (quiet 3 c) .chip ≡ c
+    in-ticks true true h = absurd (h refl)
+    in-ticks true false h = refl
+    in-ticks false a h = refl
+refused-as unfit c h = refl
+
+pub refused-by : (e : Coded) (k : Counts) (c : Chip) → (steppedBy e k c .number ≡ 0 → ⊥) → steppedBy e k c .chip ≡ c
+refused-by e k c = refused-as (meantOf (c .setup) e k) c

@@ -1,6 +1,6 @@
 -- DEMAND 3 of streams: the chip at the end of a stream, and what each of its entries shows, are those of the events that its records mean.
 -- So every claim of Demand over events is one over the bytes of a stream. Assumes nothing.
-use mathlib.Core.Path.{_≡_, refl, sym, ap, ap₂, _∙_}
+use mathlib.Core.Path.{_≡_, refl, sym, ap, subst, ap₂, _∙_}
 use mathlib.Core.Bool.{Bool, true, false, cond, not, _&&_, _||_, true≢false}
 use mathlib.Core.Logic.{_≢_}
 use mathlib.Core.List.{List, [], _∷_, map}
@@ -14,7 +14,7 @@ use Rattle.events.specs.declared.Counts.{Counts}
 use Rattle.events.specs.declared.Event.{Event as Coded}
 use Rattle.events.specs.declared.Event.the-variants.{Setup, Wires}
 use Rattle.events.specs.Setup.{withCells}
-use Rattle.events.specs.Event.{Event, Meant, means, unfit, countsFit, meantOf}
+use Rattle.events.specs.Event.{Event, Meant, unfit, countsFit, meantOf, inRange}
 use Rattle.wiring.specs.Rows.{hasRow, wiredWith}
 use Rattle.wiring.specs.declared.Wiring.the-variants.{With, NoRow}
 use Rattle.records.specs.declared.Read.{Read}
@@ -24,16 +24,16 @@ use Rattle.records.specs.Sound.{first-setup, Meaning, isWires, wires-by, later-
 use Rattle.registers.specs.Read.{statusByte}
 use Rattle.chip.specs.declared.Chip.{Chip}
 use Rattle.chip.specs.declared.Stepped.{Stepped}
-use Rattle.chip.specs.Chip.{quiet, inShip, stepped, steppedAs}
+use Rattle.chip.specs.Chip.{quiet, inShip, steppedAs}
 use Rattle.chip.specs.Outward.{pinsOf}
 use Rattle.stream.specs.declared.Entry.{Entry}
 use Rattle.stream.specs.Stream.{Turn, entryOf, wiredAs, acted, staysFresh, turned, turnOf, runs, stands, entries, lastChip}
 use Rattle.stream.specs.Standing.{acted-is, good-part, first-stands, first-entries}
 use Rattle.demands.specs.Demand.{chip}
 use Rattle.demands.specs.History.{setup-is}
-use Rattle.demands.specs.Refused.{refused}
-use Rattle.demands.specs.Aside.{withMeant}
-use Rattle.demands.specs.Wired.{celled, celledIn, stepped-cells, same-but-cells, meant-cells}
+use Rattle.demands.specs.Refused.{refused-as}
+use Rattle.demands.specs.Aside.{withMeant, heard-as}
+use Rattle.demands.specs.Wired.{celled, celledIn, as-cells, same-but-cells, meant-cells}
 
 -- what follows a record: after one that is cut short, nothing
 abbrev pub restAfter : List ℕ → Read → List ℕ
@@ -152,14 +152,14 @@ module _ (u : SetupValues) where
     took-other o n r past h e next w q =
         let k : Counts = countsBeside r (Record e next) in
         let m : Meaning u e k = later-means u r e next p q w in
-        let same : meantOf (withCells n (chip u past .setup)) e k ≡ means (m .event) = ap (λ (v : SetupValues). meantOf (withCells n v) e k) (setup-is u past) ∙ meant-cells n u e k ∙ m .meant in
-        took-by o n n r past (m .event ∷ past) e next (stepped (m .event) (chip u past))
-        (acted-is o e k (celled n (chip u past)) (m .event) same ∙ stepped-cells n (m .event) (chip u past))
-        refl
-        (ap (λ (b : Bool). cond b (acted o e k (chip u past)) (steppedAs (meantOf u e k) (chip u past))) w ∙ ap (λ (x : Meant). steppedAs x (chip u past)) (m .meant))
+        let same : meantOf (withCells n (chip u past .setup)) e k ≡ meantOf u e k = ap (λ (v : SetupValues). meantOf (withCells n v) e k) (setup-is u past) ∙ meant-cells n u e k in
+        took-by o n n r past (withMeant u (meantOf u e k) past) e next (steppedAs (meantOf u e k) (chip u past))
+        (acted-is o e k (celled n (chip u past)) (subst (λ (x : Meant). inRange x ≡ true) (sym same) m) ∙ ap (λ (x : Meant). steppedAs x (celled n (chip u past))) same ∙ as-cells n (meantOf u e k) (chip u past))
+        (ap (celled n) (heard-as u (meantOf u e k) past))
+        (ap (λ (b : Bool). cond b (acted o e k (chip u past)) (steppedAs (meantOf u e k) (chip u past))) w)
         (ap (λ (b : Bool). cond b (acted o e k (celled n (chip u past)) .chip .setup .cells) n) w)
-        (ap (λ (x : Meant). withMeant u x past) (m .meant))
-        (λ o z. refused (m .event) (chip u past) z ∙ h o)
+        refl
+        (λ o z. sym (heard-as u (meantOf u e k) past) ∙ refused-as (meantOf u e k) (chip u past) z ∙ h o)
 
     pub took : (o : Bool) (n : ℕ) (r : List ℕ) (past : List Event) → Untouched o past → (x : Read) → readOf (u .part) r ≡ x → Took o n r past x
     took o n r past h (Record e next) q =

@@ -3,15 +3,16 @@
 use mathlib.Core.Path.{_≡_, refl, sym, ap, _∙_}
 use mathlib.Core.Bool.{Bool, true, false, cond}
 use mathlib.Core.List.{List, [], _∷_}
-use Prim.Native.Nat.{ℕ}
+use Prim.Native.Nat.{ℕ, zero, suc}
+use lib.IntN.{ℤ}
 use Rattle.events.specs.declared.Setup.{Setup}
 use Rattle.events.specs.declared.Counts.{Counts}
 use Rattle.events.specs.declared.BusEvent.{BusEvent}
 use Rattle.events.specs.declared.BusEvent.the-variants.{Start, Stop, Out, In}
 use Rattle.events.specs.declared.Event.{Event as Coded}
-use Rattle.events.specs.declared.Event.the-variants.{Setup as Setup-, Por as Por-, Boot as Boot-, Pin as Pin-, Xready as Xready-, Scan as Scan-, Temp as Temp-, Count as Count-, Sense as Sense-, Load as Load-, OnBus as OnBus-, Level as Level-, Wires as Wires-}
+use Rattle.events.specs.declared.Event.the-variants.{Setup as Setup-, Por as Por-, Boot as Boot-, Pin as Pin-, Xready as Xready-, Scan as Scan-, Temp as Temp-, Count as Count-, Sense as Sense-, Load as Load-, OnBus as OnBus-, Level as Level-, Ticks as Ticks-, Soak as Soak-, Wires as Wires-}
 use Rattle.events.specs.Setup.{groups, inputs, withCells}
-use Rattle.events.specs.Event.{Event, Por, Boot, Pin, Xready, Scan, Temp, Count, Sense, Load, OnBus, Level, fits, meantOf}
+use Rattle.events.specs.Event.{Event, Por, Boot, Pin, Xready, Scan, Temp, Count, Sense, Load, OnBus, Level, fits, ticksFit, Meant, means, ticks, unfit, meantOf}
 use Rattle.bus.specs.declared.Phase.{Phase}
 use Rattle.bus.specs.declared.Phase.the-variants.{Idle, Address, Pointing, Writing, Checking, Reading, Summing}
 use Rattle.bus.specs.declared.Line.{Line}
@@ -25,7 +26,7 @@ use Rattle.registers.specs.Write.{balanceWith}
 use Rattle.registers.specs.Read.{balanceByte, lowByte, wordAt, fixedByte, readAt}
 use Rattle.chip.specs.declared.Chip.{Chip}
 use Rattle.chip.specs.declared.Stepped.{Stepped}
-use Rattle.chip.specs.Chip.{quiet, inShip, accepted, storedAt, stored, sent, handed, reads, onBus, settled, normally, asleep, happened, stepped}
+use Rattle.chip.specs.Chip.{quiet, inShip, accepted, storedAt, stored, sent, handed, reads, onBus, settled, normally, asleep, happened, stepped, ticking, steppedAs}
 use Rattle.demands.specs.Demand.{chip}
 
 -- the chip, and an answer of it, with another number of cells
@@ -110,14 +111,36 @@ module _ (n : ℕ) where
   asleep-cells (OnBus (In nack)) c = refl
   asleep-cells (Level l) c = refl
 
-  pub stepped-cells : (e : Event) (c : Chip) → stepped e (celled n c) ≡ celledIn n (stepped e c)
-  unfolding stepped happened
-  stepped-cells e c = by (fits e) (c .awake)
+  happened-cells : (e : Event) (c : Chip) → happened e (celled n c) ≡ celledIn n (happened e c)
+  unfolding happened
+  happened-cells e c = by (c .awake)
     where
-      by : (f a : Bool) → cond f (cond a (settled (normally e (celled n c))) (asleep e (celled n c))) (quiet 3 (celled n c)) ≡ celledIn n (cond f (cond a (settled (normally e c)) (asleep e c)) (quiet 3 c))
-      by true true = ap settled (normal-cells e c)
-      by true false = asleep-cells e c
+      by : (a : Bool) → cond a (settled (normally e (celled n c))) (asleep e (celled n c)) ≡ celledIn n (cond a (settled (normally e c)) (asleep e c))
+      by true = ap settled (normal-cells e c)
+      by false = asleep-cells e c
+
+  stepped-cells : (e : Event) (c : Chip) → stepped e (celled n c) ≡ celledIn n (stepped e c)
+  unfolding stepped
+  stepped-cells e c = by (fits e)
+    where
+      by : (f : Bool) → cond f (happened e (celled n c)) (quiet 3 (celled n c)) ≡ celledIn n (cond f (happened e c) (quiet 3 c))
+      by true = happened-cells e c
+      by false = refl
+
+  ticking-cells : (m : ℕ) (v : ℤ) (c : Chip) → ticking m v (celled n c) ≡ celled n (ticking m v c)
+  ticking-cells zero v c = refl
+  ticking-cells (suc m) v c = ap (λ (d : Chip). happened (Sense v) d .chip) (ticking-cells m v c) ∙ ap (λ (s : Stepped). s .chip) (happened-cells (Sense v) (ticking m v c))
+
+  -- whatever the code's event means
+  pub as-cells : (m : Meant) (c : Chip) → steppedAs m (celled n c) ≡ celledIn n (steppedAs m c)
+  as-cells (means e) c = stepped-cells e c
+  as-cells (ticks most v m) c = by (ticksFit most v m) (c .awake)
+    where
+      by : (f a : Bool) → cond f (cond a (quiet 0 (ticking m v (celled n c))) (quiet 4 (celled n c))) (quiet 3 (celled n c)) ≡ celledIn n (cond f (cond a (quiet 0 (ticking m v c)) (quiet 4 c)) (quiet 3 c))
+      by true true = ap (quiet 0) (ticking-cells m v c)
+      by true false = refl
       by false a = refl
+  as-cells unfit c = refl
 
   -- ── any events ──
   pub same-but-cells : (u : Setup) (past : List Event) → chip (withCells n u) past ≡ celled n (chip u past)
@@ -140,4 +163,6 @@ module _ (n : ℕ) where
   meant-cells u (Load- l) k = refl
   meant-cells u (OnBus- b) k = refl
   meant-cells u (Level- l) k = refl
+  meant-cells u (Ticks- v n) k = refl
+  meant-cells u (Soak- v n) k = refl
   meant-cells u (Wires- n) k = refl

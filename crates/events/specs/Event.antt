@@ -6,13 +6,13 @@ use Prim.Native.Nat.{ℕ}
 use lib.Dec.{leb, eqb}
 use lib.IntN.{ℤ, pos, negℤ}
 use lib.Signed.{ltZ}
-use lib.ListN.{take, drop}
+use lib.ListN.{take, drop, replicate}
 use Rattle.events.specs.Setup.{groups, inputs}
 use Rattle.events.specs.declared.Setup.{Setup}
 use Rattle.events.specs.declared.Counts.{Counts}
 use Rattle.events.specs.declared.BusEvent.{BusEvent}
 use Rattle.events.specs.declared.Event.{Event as Coded}
-use Rattle.events.specs.declared.Event.the-variants.{Setup as Setup-, Por as Por-, Boot as Boot-, Pin as Pin-, Xready as Xready-, Scan as Scan-, Temp as Temp-, Count as Count-, Sense as Sense-, Load as Load-, OnBus as OnBus-, Level as Level-, Wires as Wires-}
+use Rattle.events.specs.declared.Event.the-variants.{Setup as Setup-, Por as Por-, Boot as Boot-, Pin as Pin-, Xready as Xready-, Scan as Scan-, Temp as Temp-, Count as Count-, Sense as Sense-, Load as Load-, OnBus as OnBus-, Level as Level-, Ticks as Ticks-, Soak as Soak-, Wires as Wires-}
 
 -- an event of a chip that stands: SCAN has a count for each input, TEMP one for each five
 pub data Event : Type 0 where
@@ -53,6 +53,18 @@ fits (Load l) = true
 fits (OnBus b) = true
 fits (Level l) = true
 
+-- request M-100: kind 0014 repeats a tick 1 to 4,096 times, its value being one of SENSE
+abbrev pub ticksMost : ℕ
+ticksMost = 4096
+
+-- request M-109: kind 0017 repeats it 1 to 16,777,216 times
+abbrev pub soakMost : ℕ
+soakMost = 16777216
+
+-- a value, and how often it is repeated: 1 to the most that its kind allows
+unfoldable pub ticksFit : ℕ → ℤ → ℕ → Bool
+ticksFit most v n = senseFits v && leb 1 n && leb n most
+
 -- ── number 2: SETUP not first, or counts that do not fit the part ──
 -- how many counts stand beside an event of the code
 abbrev pub countsWanted : Setup → Coded → ℕ
@@ -68,15 +80,18 @@ countsWanted u (Sense- v) = 0
 countsWanted u (Load- l) = 0
 countsWanted u (OnBus- b) = 0
 countsWanted u (Level- l) = 0
+countsWanted u (Ticks- v n) = 0
+countsWanted u (Soak- v n) = 0
 countsWanted u (Wires- n) = 0
 
 -- as many as wanted, and 0 in every place after them
 unfoldable pub countsFit : ℕ → Counts → Bool
 countsFit n k = eqb (k .many) n && within 0 (drop n (k .of))
 
--- what the code's event means to a chip that stands: an event, or the number 2, which SETUP and a wiring record have there
+-- what the code's event means to a chip that stands: an event, ticks of one value with the most that their kind allows, or the number 2, which SETUP and a wiring record have there
 pub data Meant : Type 0 where
   means : Event → Meant
+  ticks : ℕ → ℤ → ℕ → Meant
   unfit : Meant
 
 abbrev pub eventOf : Setup → Coded → List ℕ → Meant
@@ -92,7 +107,21 @@ eventOf u (Sense- v) xs = means (Sense v)
 eventOf u (Load- l) xs = means (Load l)
 eventOf u (OnBus- b) xs = means (OnBus b)
 eventOf u (Level- l) xs = means (Level l)
+eventOf u (Ticks- v n) xs = ticks ticksMost v n
+eventOf u (Soak- v n) xs = ticks soakMost v n
 eventOf u (Wires- n) xs = unfit
 
 unfoldable pub meantOf : Setup → Coded → Counts → Meant
 meantOf u e k = cond (countsFit (countsWanted u e) k) (eventOf u e (k .of)) unfit
+
+-- ── the numbers 2 and 3 of what was meant, or neither ──
+abbrev pub inRange : Meant → Bool
+inRange (means e) = fits e
+inRange (ticks most v n) = ticksFit most v n
+inRange unfit = false
+
+-- the events that it is, newest first: of ticks, each tick
+abbrev pub eventsIn : Meant → List Event
+eventsIn (means e) = e ∷ []
+eventsIn (ticks most v n) = cond (ticksFit most v n) (replicate n (Sense v)) []
+eventsIn unfit = []

@@ -36,6 +36,10 @@ pub enum Event {
     OnBus(BusEvent),
     // The outside level: a second protector holds ALERT up, or lets go.
     Level(bool),
+    // That many ticks of one value: request M-100.
+    Ticks(i32, u16),
+    // The same with a longer repeat number: request M-109.
+    Soak(i32, u32),
     // The number of cells of a pack.
     Wires(u8),
 }

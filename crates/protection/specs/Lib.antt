@@ -6,3 +6,4 @@ pub mod Judged
 pub mod Ticks
 pub mod Tables
 pub mod Laws
+pub mod Repeat

@@ -1,13 +1,14 @@
 // Limits and delays by register code, the verdict of a tick, and the four runs.
 ghost use mathlib.Core.Path.{_≡_};
 ghost use Prim.Native.Nat.{_%_, _<_};
-ghost use lib.ListN.{getD};
+ghost use lib.ListN.{getD, replicate};
 ghost use Rattle.events.specs.Fault.{Ov, Uv, Scd, Ocd};
 ghost use Rattle.settings.specs.Bit.{bit};
-ghost use Rattle.protection.specs.Streak.{bump};
+ghost use Rattle.protection.specs.Streak.{bump, bumps};
 ghost use Rattle.protection.specs.Fault.{noRuns};
 ghost use Rattle.protection.specs.Rule.{ocdTicks, scdLimit, ocdLimit, rule, beyond};
 ghost use Rattle.protection.specs.Judged.{scanJudged, tickJudged};
+ghost use Rattle.protection.specs.Repeat.{ticksJudged};
 ghost use Rattle.protection.specs.Sag.{sag};
 use events::Faults;
 use settings::Settings;
@@ -209,6 +210,24 @@ fn bumped(longest: u16, verdict: bool, run: u16) -> u16
     }
 }
 
+// A run after more verdicts that are all alike.
+fn bumped_by(longest: u16, verdict: bool, run: u16, more: u32) -> u16
+    ensures { λ r. ⌜ r ≡ bumps longest (replicate more verdict) run ⌝ }
+{
+    if more == 0 {
+        return run;
+    }
+    if !verdict {
+        return 0;
+    }
+    let sum = run as u64 + more as u64;
+    if sum < longest as u64 {
+        sum as u16
+    } else {
+        longest
+    }
+}
+
 impl Runs {
     // SCAN: whether some count was above the line, and some between the floor and its line.
     pub fn scanned(self, s: Settings, above: bool, between: bool) -> Judged
@@ -237,6 +256,22 @@ impl Runs {
             uv: false,
             scd: scd_ticks(s) <= scd,
             ocd: ocd_ticks(s) <= ocd,
+        };
+        let runs = Runs { scd, ocd, ..self };
+        Judged { runs, risen }
+    }
+    // Ticks of any value, one after the other: their number is enough, none is counted by itself.
+    pub fn ticked(self, s: Settings, value: i32, repeat: u32) -> Judged
+        ensures { λ r. ⌜ r ≡ ticksJudged repeat s value self ⌝ }
+    {
+        let scd = bumped_by(13, beyond_scd(s, value), self.scd, repeat);
+        let ocd = bumped_by(40960, beyond_ocd(s, value), self.ocd, repeat);
+        let some = 0 < repeat;
+        let risen = Faults {
+            ov: false,
+            uv: false,
+            scd: some & (scd_ticks(s) <= scd),
+            ocd: some & (ocd_ticks(s) <= ocd),
         };
         let runs = Runs { scd, ocd, ..self };
         Judged { runs, risen }

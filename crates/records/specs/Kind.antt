@@ -46,6 +46,14 @@ STOP = 0x0013
 abbrev pub LEVEL : ℕ
 LEVEL = 0x0015
 
+-- request M-100: ticks of one value
+abbrev pub TICKS : ℕ
+TICKS = 0x0014
+
+-- request M-109: ticks of one value with a longer repeat number
+abbrev pub SOAK : ℕ
+SOAK = 0x0017
+
 -- request M-107: the wiring record
 abbrev pub WIRES : ℕ
 WIRES = 0x0016

@@ -11,8 +11,8 @@ use lib.ListN.{length, take, drop, length-append}
 use lib.Seq.{drop-append-seam}
 use borrow.Author.Tests.{ltb-false, le-ltb, eqb-true, ne-eqb}
 use Rattle.records.specs.Numbers.{le16}
-use Rattle.records.specs.Kind.{SETUP, POR, BOOT, SCAN, TEMP, COUNT, SENSE, PIN, LOAD, XREADY, START, OUT, IN, STOP, LEVEL, WIRES}
-use Rattle.records.specs.Record.{bareIn, countedIn, countIn, senseIn, switchIn, loadOf, levelOf, inOf, outIn, wiresIn, groupsAt, inputsAt, laterOf, payloadOf, asRead, readOf, numberOf, takenFrom, takenAt}
+use Rattle.records.specs.Kind.{SETUP, POR, BOOT, SCAN, TEMP, COUNT, SENSE, PIN, LOAD, XREADY, START, OUT, IN, STOP, LEVEL, TICKS, SOAK, WIRES}
+use Rattle.records.specs.Record.{bareIn, countedIn, countIn, senseIn, switchIn, loadOf, levelOf, inOf, outIn, ticksIn, soakIn, wiresIn, groupsAt, inputsAt, laterOf, payloadOf, asRead, readOf, numberOf, takenFrom, takenAt}
 use Rattle.events.specs.declared.BusEvent.the-variants.{Start, Stop}
 use Rattle.events.specs.declared.Event.{Event}
 use Rattle.events.specs.declared.Event.the-variants.{Por, Boot, Scan, Temp, Pin, Xready, OnBus}
@@ -86,10 +86,11 @@ module _ (P : ℕ → Payload → Type 0) where
       → P POR (bareIn Por b) → P BOOT (bareIn Boot b) → P SCAN (countedIn Scan (inputsAt part) b) → P TEMP (countedIn Temp (groupsAt part) b)
       → P COUNT (countIn b) → P SENSE (senseIn b) → P PIN (bareIn Pin b) → P LOAD (switchIn loadOf b) → P XREADY (bareIn Xready b)
       → P START (bareIn (OnBus Start) b) → P OUT (outIn b) → P IN (switchIn inOf b) → P STOP (bareIn (OnBus Stop) b)
-      → P LEVEL (switchIn levelOf b) → P WIRES (wiresIn b)
+      → P LEVEL (switchIn levelOf b)
+      → P TICKS (ticksIn b) → P SOAK (soakIn b) → P WIRES (wiresIn b)
       → ((kind : ℕ) → P kind (Unfit 2)) → (kind : ℕ) → P kind (laterOf kind part b)
   unfolding laterOf
-  later-by part b por boot scan temp count sense pin load xready start out in′ stop level wires other kind =
+  later-by part b por boot scan temp count sense pin load xready start out in′ stop level ticks soak wires other kind =
       kind-by kind POR _ _ por
       (kind-by kind BOOT _ _ boot
       (kind-by kind SCAN _ _ scan
@@ -104,7 +105,9 @@ module _ (P : ℕ → Payload → Type 0) where
       (kind-by kind IN _ _ in′
       (kind-by kind STOP _ _ stop
       (kind-by kind LEVEL _ _ level
-      (kind-by kind WIRES _ _ wires (other kind)))))))))))))))
+      (kind-by kind TICKS _ _ ticks
+      (kind-by kind SOAK _ _ soak
+      (kind-by kind WIRES _ _ wires (other kind)))))))))))))))))
 
 -- a test that a definition picks its case by, passed or not
 pub cond-by : (P : Payload → Type 0) (t : Bool) (x y : Payload) → (t ≡ true → P x) → P y → P (cond t x y)
@@ -122,7 +125,7 @@ nine-by part r false false et eu h = absurd (omega (arith, ltb-false (length r) 
 pub nine-first : (part : ℕ) (r : List ℕ) → length r < 4 + le16 r 0 → numberOf (readOf part r) ≡ 9
 nine-first part r h = nine-by part r (ltb (length r) 4) (ltb (length r - 4) (le16 r 0)) refl refl h
 
--- a first record that is no SETUP is 2, and so is a second SETUP, good or bad, and every unknown kind: 000A to 000F, and from 0014 up but for 0015 and 0016
+-- a first record that is no SETUP is 2, and so is a second SETUP, good or bad, and every unknown kind: 000A to 000F, and from 0018 up
 pub first-other : (kind : ℕ) (b : List ℕ) → kind ≢ SETUP → payloadOf kind 0 b ≡ Unfit 2
 unfolding payloadOf
 first-other kind b h = simp (ne-eqb kind SETUP h)
@@ -131,9 +134,9 @@ pub second-setup : (part : ℕ) (b : List ℕ) → part ≢ 0 → payloadOf SETU
 unfolding payloadOf laterOf
 second-setup part b h = simp (ne-eqb part 0 h)
 
-pub unknown-kind : (kind part : ℕ) (b : List ℕ) → part ≢ 0 → XREADY < kind → (kind < START) ⊎ (STOP < kind) → kind ≢ LEVEL → kind ≢ WIRES → payloadOf kind part b ≡ Unfit 2
+pub unknown-kind : (kind part : ℕ) (b : List ℕ) → part ≢ 0 → XREADY < kind → (kind < START) ⊎ (SOAK < kind) → payloadOf kind part b ≡ Unfit 2
 unfolding payloadOf laterOf
-unknown-kind kind part b h l m n w =
+unknown-kind kind part b h l m =
     simp (
       ne-eqb part 0 h,
       ne-eqb kind POR (λ e. omega (arith, e)),
@@ -149,9 +152,11 @@ unknown-kind kind part b h l m n w =
       ne-eqb kind OUT (λ e. apart OUT (omega arith) (omega arith) e),
       ne-eqb kind IN (λ e. apart IN (omega arith) (omega arith) e),
       ne-eqb kind STOP (λ e. apart STOP (omega arith) (omega arith) e),
-      ne-eqb kind LEVEL n,
-      ne-eqb kind WIRES w,
+      ne-eqb kind LEVEL (λ e. apart LEVEL (omega arith) (omega arith) e),
+      ne-eqb kind TICKS (λ e. apart TICKS (omega arith) (omega arith) e),
+      ne-eqb kind SOAK (λ e. apart SOAK (omega arith) (omega arith) e),
+      ne-eqb kind WIRES (λ e. apart WIRES (omega arith) (omega arith) e),
     )
   where
-    apart : (k : ℕ) → START ≤ k → k ≤ STOP → kind ≡ k → ⊥
+    apart : (k : ℕ) → START ≤ k → k ≤ SOAK → kind ≡ k → ⊥
     apart k a z e = ⊎-elim (λ g. omega (arith, g, e)) (λ g. omega (arith, g, e)) m

@@ -4,17 +4,18 @@ use mathlib.Core.List.{List}
 use mathlib.Core.Bool.{Bool, false, cond, _&&_}
 use lib.ListN.{length, getD, take, drop, replicate}
 use lib.Dec.{ltb, leb, eqb}
+use lib.IntN.{ℤ}
 use Rattle.events.specs.Setup.{setupFits, checkedOf, setupNumber, groups, inputs}
-use Rattle.events.specs.Event.{countMost, within, senseFits}
+use Rattle.events.specs.Event.{countMost, within, senseFits, ticksMost, soakMost, ticksFit}
 use Rattle.events.specs.declared.Setup.{Setup as SetupValues}
 use Rattle.events.specs.declared.Counts.{Counts}
 use Rattle.events.specs.declared.Checked.{Checked}
 use Rattle.events.specs.declared.Checked.the-variants.{Good, Bad}
 use Rattle.events.specs.declared.BusEvent.the-variants.{Start, Out, In, Stop}
 use Rattle.events.specs.declared.Event.{Event}
-use Rattle.events.specs.declared.Event.the-variants.{Setup, Por, Boot, Scan, Temp, Count, Sense, Pin, Load, Xready, OnBus, Level, Wires}
+use Rattle.events.specs.declared.Event.the-variants.{Setup, Por, Boot, Scan, Temp, Count, Sense, Pin, Load, Xready, OnBus, Level, Ticks, Soak, Wires}
 use Rattle.records.specs.Numbers.{le16, le32, signed32, bitOf, words, filled}
-use Rattle.records.specs.Kind.{SETUP, POR, BOOT, SCAN, TEMP, COUNT, SENSE, PIN, LOAD, XREADY, START, OUT, IN, STOP, LEVEL, WIRES}
+use Rattle.records.specs.Kind.{SETUP, POR, BOOT, SCAN, TEMP, COUNT, SENSE, PIN, LOAD, XREADY, START, OUT, IN, STOP, LEVEL, TICKS, SOAK, WIRES}
 use Rattle.records.specs.declared.Payload.{Payload}
 use Rattle.records.specs.declared.Payload.the-variants.{Whole, Unfit}
 use Rattle.records.specs.declared.Read.{Read}
@@ -54,6 +55,22 @@ senseOf u = cond (senseFits (signed32 u)) (Whole (Sense (signed32 u))) (Unfit 3)
 
 abbrev pub senseIn : List ℕ → Payload
 senseIn b = cond (eqb (length b) 4) (senseOf (le32 b 0)) (Unfit 2)
+
+-- request M-100: a value as SENSE has it, and a repeat number (2 bytes), 1 to 4,096; request M-109: one of 4 bytes, 1 to 16,777,216
+unfoldable pub repeatOf : (ℤ → ℕ → Event) → ℕ → ℕ → ℕ → Payload
+repeatOf e most u n = cond (ticksFit most (signed32 u) n) (Whole (e (signed32 u) n)) (Unfit 3)
+
+abbrev pub ticksOf : ℤ → ℕ → Event
+ticksOf v n = Ticks v n
+
+abbrev pub ticksIn : List ℕ → Payload
+ticksIn b = cond (eqb (length b) 6) (repeatOf ticksOf ticksMost (le32 b 0) (le16 b 4)) (Unfit 2)
+
+abbrev pub soakOf : ℤ → ℕ → Event
+soakOf v n = Soak v n
+
+abbrev pub soakIn : List ℕ → Payload
+soakIn b = cond (eqb (length b) 8) (repeatOf soakOf soakMost (le32 b 0) (le32 b 4)) (Unfit 2)
 
 -- 1 byte, 0 or 1: LOAD, the outside level (document 02, M-103), and IN, where 1 says that the host does not acknowledge
 abbrev pub switchIn : (Bool → Event) → List ℕ → Payload
@@ -104,7 +121,9 @@ laterOf kind part b =
     (cond (eqb kind IN) (switchIn inOf b)
     (cond (eqb kind STOP) (bareIn (OnBus Stop) b)
     (cond (eqb kind LEVEL) (switchIn levelOf b)
-    (cond (eqb kind WIRES) (wiresIn b) (Unfit 2)))))))))))))))
+    (cond (eqb kind TICKS) (ticksIn b)
+    (cond (eqb kind SOAK) (soakIn b)
+    (cond (eqb kind WIRES) (wiresIn b) (Unfit 2)))))))))))))))))
 
 -- part 0: none stands yet, and SETUP alone is first
 unfoldable pub payloadOf : ℕ → ℕ → List ℕ → Payload
@@ -150,6 +169,8 @@ countsIn (Load l) b = noCounts
 countsIn Xready b = noCounts
 countsIn (OnBus e) b = noCounts
 countsIn (Level l) b = noCounts
+countsIn (Ticks v n) b = noCounts
+countsIn (Soak v n) b = noCounts
 countsIn (Wires n) b = noCounts
 
 -- the counts beside what was read at the start of r

@@ -1,4 +1,4 @@
--- What was read with success fits: the first record is a SETUP with its values in range, and every later one means an event
+-- What was read with success fits: the first record is a SETUP with its values in range, and every later one means an event, or ticks,
 -- whose counts fit the part and whose values are in range, so that a chip has nothing to check again; but for the wiring record, which is
 -- taken before a chip moves. Assumes nothing.
 use mathlib.Core.Path.{_≡_, refl, ap, sym, _∙_, subst}
@@ -12,15 +12,15 @@ use lib.ListN.{length, getD, take, drop}
 use lib.IntN.{ℤ}
 use borrow.Author.Tests.{eqb-true, leb-true, ne-eqb}
 use Rattle.events.specs.Setup.{setupFits, setupOf, checkedOf, groups, inputs}
-use Rattle.events.specs.Event.{Event as Meant-event, Por as Por-, Boot as Boot-, Pin as Pin-, Xready as Xready-, Scan as Scan-, Temp as Temp-, Count as Count-, Sense as Sense-, Load as Load-, OnBus as OnBus-, Level as Level-, within, countMost, senseFits, fits, countsFit, means, meantOf}
+use Rattle.events.specs.Event.{Level as Level-, within, countMost, senseFits, ticksMost, soakMost, ticksFit, fits, countsFit, inRange, meantOf}
 use Rattle.events.specs.declared.Setup.{Setup as SetupValues}
 use Rattle.events.specs.declared.Counts.{Counts}
 use Rattle.events.specs.declared.BusEvent.the-variants.{Start, Out, In, Stop}
 use Rattle.events.specs.declared.Event.{Event}
-use Rattle.events.specs.declared.Event.the-variants.{Setup, Por, Boot, Scan, Temp, Count, Sense, Pin, Load, Xready, OnBus, Level, Wires}
+use Rattle.events.specs.declared.Event.the-variants.{Setup, Por, Boot, Scan, Temp, Count, Sense, Pin, Load, Xready, OnBus, Level, Ticks, Soak, Wires}
 use Rattle.records.specs.Numbers.{le16, le32, signed32, bitOf, words}
 use Rattle.records.specs.Kind.{SETUP}
-use Rattle.records.specs.Record.{setupGood, checkedIn, setupIn, countedIn, senseOf, payloadOf, laterOf, readOf, groupsAt, inputsAt, countsOf, countsIn, countsBeside}
+use Rattle.records.specs.Record.{setupGood, checkedIn, setupIn, countedIn, senseOf, repeatOf, ticksOf, soakOf, payloadOf, laterOf, readOf, groupsAt, inputsAt, countsOf, countsIn, countsBeside}
 use Rattle.records.specs.Counted.{counts-fit, counts-taken, few-groups, few-inputs}
 use Rattle.records.specs.Reading.{WholeAt, read-whole, later-by, cond-by}
 use Rattle.records.specs.declared.Payload.{Payload}
@@ -68,6 +68,8 @@ IsSetup (Load l) = ⊥
 IsSetup Xready = ⊥
 IsSetup (OnBus b) = ⊥
 IsSetup (Level l) = ⊥
+IsSetup (Ticks v n) = ⊥
+IsSetup (Soak v n) = ⊥
 IsSetup (Wires n) = ⊥
 
 abbrev FirstOk : Payload → Type 0
@@ -92,10 +94,9 @@ first-setup r e next h =
     subst FirstOk (w .payload) (first-ok (le16 r 2) (take (le16 r 0) (drop 4 r)))
 
 -- ── the later ones ──
-pub record Meaning (u : SetupValues) (e : Event) (k : Counts) : Type 0 where
-  pub event : Meant-event
-  pub meant : meantOf u e k ≡ means event
-  pub fit : fits event ≡ true
+-- neither 2 nor 3 is the number of what such a record means
+abbrev pub Meaning : SetupValues → Event → Counts → Type 0
+Meaning u e k = inRange (meantOf u e k) ≡ true
 
 -- a wiring record means no event of a chip
 abbrev pub isWires : Event → Bool
@@ -111,6 +112,8 @@ isWires (Load l) = false
 isWires Xready = false
 isWires (OnBus b) = false
 isWires (Level l) = false
+isWires (Ticks v n) = false
+isWires (Soak v n) = false
 isWires (Wires n) = true
 
 -- to know something of every event, it is enough to know it of a wiring record and of every other
@@ -127,6 +130,8 @@ wires-by P w f (Load l) = f (Load l) refl
 wires-by P w f Xready = f Xready refl
 wires-by P w f (OnBus b) = f (OnBus b) refl
 wires-by P w f (Level l) = f (Level l) refl
+wires-by P w f (Ticks v n) = f (Ticks v n) refl
+wires-by P w f (Soak v n) = f (Soak v n) refl
 wires-by P w f (Wires n) = w n
 
 abbrev LaterOk : SetupValues → List ℕ → Payload → Type 0
@@ -149,11 +154,7 @@ module _ (u : SetupValues) (b : List ℕ) where
       let n : length b ≡ 2 * inputs u = eqb-true _ _ l ∙ ap (λ (n : ℕ). 2 * n) (sym (inputs-at u)) in
       let few : inputs u ≤ 15 = subst (λ (n : ℕ). n ≤ 15) (sym (inputs-at u)) (few-inputs (u .part)) in
       let f : countsFit (inputs u) (countsOf b) ≡ true = counts-fit b (inputs u) n few in
-      record {
-        event = Scan- (take (inputs u) (countsOf b .of));
-        meant = simp f;
-        fit = ap (within countMost) (counts-taken b (inputs u) n few) ∙ w;
-      }
+      simp f (ap (within countMost) (counts-taken b (inputs u) n few) ∙ w)
 
   temp-ok : eqb (length b) (2 * groupsAt (u .part)) ≡ true → within countMost (words b) ≡ true → Meaning u Temp (countsIn Temp b)
   unfolding meantOf countsIn fits
@@ -162,30 +163,28 @@ module _ (u : SetupValues) (b : List ℕ) where
       let three : groups u ≤ 3 = subst (λ (n : ℕ). n ≤ 3) (sym (groups-at u)) (few-groups (u .part)) in
       let few : groups u ≤ 15 = omega arith in
       let f : countsFit (groups u) (countsOf b) ≡ true = counts-fit b (groups u) n few in
-      record {
-        event = Temp- (take (groups u) (countsOf b .of));
-        meant = simp f;
-        fit = ap (within countMost) (counts-taken b (groups u) n few) ∙ w;
-      }
+      simp f (ap (within countMost) (counts-taken b (groups u) n few) ∙ w)
 
 later-ok : (u : SetupValues) (kind : ℕ) (b : List ℕ) → LaterOk u b (laterOf kind (u .part) b)
-unfolding countedIn senseOf meantOf countsFit countsIn fits
+unfolding countedIn senseOf repeatOf meantOf countsFit countsIn fits
 later-ok u kind b =
     later-by (λ (kind : ℕ) (p : Payload). LaterOk u b p) (u .part) b
-    (sized 0 (Whole Por) (λ l w. record { event = Por-; meant = refl; fit = refl }))
-    (sized 0 (Whole Boot) (λ l w. record { event = Boot-; meant = refl; fit = refl }))
+    (sized 0 (Whole Por) (λ l w. refl))
+    (sized 0 (Whole Boot) (λ l w. refl))
     (sized (2 * inputsAt (u .part)) (cond counts (Whole Scan) (Unfit 3)) (λ l. ranged counts (Whole Scan) (λ f w. scan-ok u b l f)))
     (sized (2 * groupsAt (u .part)) (cond counts (Whole Temp) (Unfit 3)) (λ l. ranged counts (Whole Temp) (λ f w. temp-ok u b l f)))
-    (sized 2 (Whole (Count (le16 b 0))) (λ l w. record { event = Count- (le16 b 0); meant = refl; fit = refl }))
-    (sized 4 (senseOf (le32 b 0)) (λ l. ranged (senseFits value) (Whole (Sense value)) (λ f w. record { event = Sense- value; meant = refl; fit = f })))
-    (sized 0 (Whole Pin) (λ l w. record { event = Pin-; meant = refl; fit = refl }))
-    (sized 1 (cond bit (Whole (Load level)) (Unfit 3)) (λ l. ranged bit (Whole (Load level)) (λ f w. record { event = Load- level; meant = refl; fit = refl })))
-    (sized 0 (Whole Xready) (λ l w. record { event = Xready-; meant = refl; fit = refl }))
-    (sized 0 (Whole (OnBus Start)) (λ l w. record { event = OnBus- Start; meant = refl; fit = refl }))
-    (sized 1 (Whole (OnBus (Out (getD b 0 0)))) (λ l w. record { event = OnBus- (Out (getD b 0 0)); meant = refl; fit = refl }))
-    (sized 1 (cond bit (Whole (OnBus (In level))) (Unfit 3)) (λ l. ranged bit (Whole (OnBus (In level))) (λ f w. record { event = OnBus- (In level); meant = refl; fit = refl })))
-    (sized 0 (Whole (OnBus Stop)) (λ l w. record { event = OnBus- Stop; meant = refl; fit = refl }))
-    (sized 1 (cond bit (Whole (Level level)) (Unfit 3)) (λ l. ranged bit (Whole (Level level)) (λ f w. record { event = Level- level; meant = refl; fit = refl })))
+    (sized 2 (Whole (Count (le16 b 0))) (λ l w. refl))
+    (sized 4 (senseOf (le32 b 0)) (λ l. ranged (senseFits value) (Whole (Sense value)) (λ f w. f)))
+    (sized 0 (Whole Pin) (λ l w. refl))
+    (sized 1 (cond bit (Whole (Load level)) (Unfit 3)) (λ l. ranged bit (Whole (Load level)) (λ f w. refl)))
+    (sized 0 (Whole Xready) (λ l w. refl))
+    (sized 0 (Whole (OnBus Start)) (λ l w. refl))
+    (sized 1 (Whole (OnBus (Out (getD b 0 0)))) (λ l w. refl))
+    (sized 1 (cond bit (Whole (OnBus (In level))) (Unfit 3)) (λ l. ranged bit (Whole (OnBus (In level))) (λ f w. refl)))
+    (sized 0 (Whole (OnBus Stop)) (λ l w. refl))
+    (sized 1 (cond bit (Whole (Level level)) (Unfit 3)) (λ l. ranged bit (Whole (Level level)) (λ f w. refl)))
+    (sized 6 (repeatOf ticksOf ticksMost (le32 b 0) (le16 b 4)) (λ l. ranged (ticksFit ticksMost value (le16 b 4)) (Whole (Ticks value (le16 b 4))) (λ f w. f)))
+    (sized 8 (repeatOf soakOf soakMost (le32 b 0) (le32 b 4)) (λ l. ranged (ticksFit soakMost value (le32 b 4)) (Whole (Soak value (le32 b 4))) (λ f w. f)))
     (sized 1 (Whole (Wires (getD b 0 0))) (λ l w. absurd (true≢false w)))
     (λ (k : ℕ). tt)
     kind

@@ -1,11 +1,12 @@
 // Records, read: the record that bytes begin with, or the number it is refused with.
 ghost use mathlib.Core.Path.{_≡_};
+ghost use mathlib.Core.Bool.{true};
 ghost use Prim.Native.Nat.{_+_, _<_, _≤_};
 ghost use lib.ListN.{length};
-ghost use Rattle.events.specs.Event.{countMost, within};
-ghost use Rattle.records.specs.Numbers.{le16, le32, words, wordOr, filled};
+ghost use Rattle.events.specs.Event.{countMost, senseFits, ticksMost, soakMost, within};
+ghost use Rattle.records.specs.Numbers.{le16, le32, signed32, words, wordOr, filled};
 ghost use Rattle.records.specs.Frame.{frameOf, headerOf};
-ghost use Rattle.records.specs.Record.{senseOf, setupIn, bareIn, countedIn, countIn, senseIn, switchIn, loadOf, levelOf, inOf, outIn, wiresIn, groupsAt, inputsAt, laterOf, payloadOf, readOf, numberOf, noCounts, countsOf, countsIn, takenAt};
+ghost use Rattle.records.specs.Record.{senseOf, repeatOf, ticksOf, ticksIn, soakOf, soakIn, setupIn, bareIn, countedIn, countIn, senseIn, switchIn, loadOf, levelOf, inOf, outIn, wiresIn, groupsAt, inputsAt, laterOf, payloadOf, readOf, numberOf, noCounts, countsOf, countsIn, takenAt};
 use events::BusEvent;
 use events::Checked;
 use events::Counts;
@@ -53,15 +54,49 @@ fn get32(b: &[u8], at: usize) -> u32
     (get16(b, at) as u32) + 65536 * (get16(b, at + 2) as u32)
 }
 
-// A number of 32 bits read with its sign, where it is within 500,000 of 0.
+// Whether a number of 32 bits, read with its sign, is within 500,000 of 0.
+fn near(u: u32) -> bool
+    ensures { λ r. ⌜ r ≡ senseFits (signed32 u) ⌝ }
+{
+    (u <= 500000) | (4294467296 <= u)
+}
+
+// Such a number, read with its sign.
+fn signed(u: u32) -> i32
+    requires { ⌜ senseFits (signed32 u) ≡ true ⌝ }
+    ensures { λ r. ⌜ r ≡ signed32 u ⌝ }
+{
+    if u <= 500000 {
+        return u as i32;
+    }
+    -((4294967295 - u + 1) as i32)
+}
+
 fn sense(u: u32) -> Payload
     ensures { λ r. ⌜ r ≡ senseOf u ⌝ }
 {
-    if u <= 500000 {
-        return Payload::Whole(Event::Sense(u as i32));
+    if near(u) {
+        return Payload::Whole(Event::Sense(signed(u)));
     }
-    if 4294467296 <= u {
-        return Payload::Whole(Event::Sense(-((4294967295 - u + 1) as i32)));
+    Payload::Unfit(3)
+}
+
+// The same, to be repeated 1 to 4,096 times.
+fn ticks(u: u32, n: u16) -> Payload
+    ensures { λ r. ⌜ r ≡ repeatOf ticksOf ticksMost u n ⌝ }
+{
+    if near(u) & (1 <= n) & (n <= 4096) {
+        return Payload::Whole(Event::Ticks(signed(u), n));
+    }
+    Payload::Unfit(3)
+}
+
+// Or 1 to 16,777,216 times.
+fn soak(u: u32, n: u32) -> Payload
+    ensures { λ r. ⌜ r ≡ repeatOf soakOf soakMost u n ⌝ }
+{
+    if near(u) & (1 <= n) & (n <= 16777216) {
+        return Payload::Whole(Event::Soak(signed(u), n));
     }
     Payload::Unfit(3)
 }
@@ -134,6 +169,24 @@ fn sense_in(b: &[u8]) -> Payload
         return Payload::Unfit(2);
     }
     sense(get32(b, 0))
+}
+
+fn ticks_in(b: &[u8]) -> Payload
+    ensures { λ r. ⌜ r ≡ ticksIn (now (b .entry)) ⌝ }
+{
+    if b.len() != 6 {
+        return Payload::Unfit(2);
+    }
+    ticks(get32(b, 0), get16(b, 4))
+}
+
+fn soak_in(b: &[u8]) -> Payload
+    ensures { λ r. ⌜ r ≡ soakIn (now (b .entry)) ⌝ }
+{
+    if b.len() != 8 {
+        return Payload::Unfit(2);
+    }
+    soak(get32(b, 0), get32(b, 4))
 }
 
 fn load_in(b: &[u8]) -> Payload
@@ -226,6 +279,8 @@ fn later_of(kind: u16, part: u8, b: &[u8]) -> Payload
         0x0012 => host_in(b),
         0x0013 => bare_in(Event::OnBus(BusEvent::Stop), b),
         0x0015 => level_in(b),
+        0x0014 => ticks_in(b),
+        0x0017 => soak_in(b),
         0x0016 => wires_in(b),
         _ => Payload::Unfit(2),
     }
@@ -334,6 +389,8 @@ pub fn counts_in(event: Event, payload: &[u8]) -> Counts
         Event::Xready => no_counts(),
         Event::OnBus(_) => no_counts(),
         Event::Level(_) => no_counts(),
+        Event::Ticks(_, _) => no_counts(),
+        Event::Soak(_, _) => no_counts(),
         Event::Wires(_) => no_counts(),
     }
 }

@@ -2,21 +2,18 @@
 -- raises OVRD_ALERT alone, and where a bit is up, or the level is 0, it does nothing. Assumes nothing.
 use mathlib.Core.Path.{_≡_, refl, sym, ap, _∙_}
 use mathlib.Core.Bool.{Bool, true, false, _||_, cond, true≢false}
+use Prim.Native.Nat.{ℕ}
 use Rattle.events.specs.Fault.{Fault, Ov, Uv, Scd, Ocd}
 use Rattle.registers.specs.declared.Status.{Status}
 use Rattle.registers.specs.declared.Shown.{Shown}
 use Rattle.registers.specs.declared.Registers.{Registers}
 use Rattle.registers.specs.State.{alert, reset, withShown}
-use Rattle.registers.specs.Fault.{bitOf, raised, overridden}
-use Rattle.registers.specs.Judging.{held}
+use Rattle.registers.specs.Fault.{bitOf, raised, overridden, counting}
+use Rattle.registers.specs.Judging.{heldAt, coulombs, pulled, held, unready}
 
 -- the level 1 and SYS_STAT 0 do not stand together
 abbrev pub Calm : Registers → Type 0
 Calm r = r .outside ≡ true → alert (r .shown .status) ≡ true
-
--- what is shown after the level was looked at, by the level
-abbrev pub heldAt : Bool → Shown → Shown
-heldAt l s = cond l (cond (alert (s .status)) s (overridden s)) s
 
 or-true : (b : Bool) → (b || true) ≡ true
 or-true true = refl
@@ -68,6 +65,20 @@ held-bit k true s = by k (alert (s .status))
 -- with the level 1 and SYS_STAT 0 it raises OVRD_ALERT and puts both drives off
 pub held-rises : (r : Registers) → r .outside ≡ true → alert (r .shown .status) ≡ false → held r .shown ≡ overridden (r .shown)
 held-rises r h a = simp (h, a)
+
+-- PIN and XREADY leave a bit up, and so does COUNT where it moves anything
+pub pulled-calm : (r : Registers) → Calm (pulled r)
+pulled-calm r h = heldAt-alerts true (r .shown) refl
+
+pub unready-calm : (r : Registers) → Calm (unready r)
+unready-calm r h = simp or-true
+
+pub coulombs-calm : (n : ℕ) (r : Registers) → Calm r → Calm (coulombs n r)
+coulombs-calm n r k h = by (r .settings .counter || r .shown .oneshot)
+  where
+    by : (b : Bool) → alert (cond b (counting (r .shown)) (r .shown) .status) ≡ true
+    by true = refl
+    by false = k h
 
 -- what rises leaves a bit up
 pub raised-calm : (f : Fault → Bool) (r : Registers) → Calm r → Calm (withShown (raised f (r .shown)) r)

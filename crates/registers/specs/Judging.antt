@@ -1,8 +1,9 @@
 -- Document 01, "Judging": what the events of a chip in NORMAL leave in the registers. Assumes nothing.
-use mathlib.Core.Bool.{Bool, _||_, cond}
+use mathlib.Core.Bool.{Bool, true, _||_, cond}
 use mathlib.Core.List.{List}
 use Prim.Native.Nat.{ℕ, _/_, _%_}
 use Rattle.scan.specs.Scan.{total, padded, cellPlaces, tsPlaces}
+use Rattle.registers.specs.declared.Shown.{Shown}
 use Rattle.registers.specs.declared.Measured.{Measured}
 use Rattle.registers.specs.declared.Registers.{Registers}
 use Rattle.registers.specs.State.{noBalance, withShown, withBalance, withMeasured, alert}
@@ -47,13 +48,17 @@ coulombs n r =
     let on : Bool = r .settings .counter || r .shown .oneshot in
     withShown (cond on (counting (r .shown)) (r .shown)) (withMeasured (cond on (ccOf n (r .measured)) (r .measured)) r)
 
--- ── PIN raises OVRD_ALERT, only with SYS_STAT 0 ──
-abbrev pub pulled : Registers → Registers
-pulled r = withShown (cond (alert (r .shown .status)) (r .shown) (overridden (r .shown))) r
+-- ── ALERT pulled up from outside raises OVRD_ALERT, only with SYS_STAT 0 ──
+abbrev pub heldAt : Bool → Shown → Shown
+heldAt l s = cond l (cond (alert (s .status)) s (overridden s)) s
 
--- ── document 02, M-103: while the outside level is 1, the same after every event that leaves the chip in NORMAL ──
+-- PIN: an edge
+abbrev pub pulled : Registers → Registers
+pulled r = withShown (heldAt true (r .shown)) r
+
+-- document 02, M-103: the outside level, after every event that leaves the chip in NORMAL
 abbrev pub held : Registers → Registers
-held r = withShown (cond (r .outside) (pulled r .shown) (r .shown)) r
+held r = withShown (heldAt (r .outside) (r .shown)) r
 
 -- ── XREADY its own bit, and clears all of CELLBAL ──
 abbrev pub unready : Registers → Registers

@@ -4,7 +4,7 @@ ghost use Rattle.events.specs.Fault.{among};
 ghost use Rattle.registers.specs.State.{withStatus, withShown, withLoad, withOutside, alert as alertSpec, reset as resetSpec};
 ghost use Rattle.registers.specs.Write.{statusOf, without, driven, shownWith, balanceWith, written};
 ghost use Rattle.registers.specs.Fault.{raised as raisedSpec, overridden as overriddenSpec, readied as readiedSpec, counting as countingSpec};
-ghost use Rattle.registers.specs.Judging.{scanKept, tempKept, coulombs as coulombsSpec, pulled as pulledSpec, held as heldSpec, unready as unreadySpec};
+ghost use Rattle.registers.specs.Judging.{scanKept, tempKept, heldAt, coulombs as coulombsSpec, pulled as pulledSpec, held as heldSpec, unready as unreadySpec};
 use events::Faults;
 use events::Setup;
 use settings::Settings;
@@ -151,6 +151,20 @@ impl Shown {
             chg: false,
             ..self
         }
+    }
+
+    // ALERT pulled up from outside, or not: OVRD_ALERT rises only with SYS_STAT 0.
+    fn pressed(self, level: bool) -> Self
+        ensures { λ r. ⌜ r ≡ heldAt level self ⌝ }
+    {
+        if !level {
+            return self;
+        }
+        let status = self.status;
+        if status.alert() {
+            return self;
+        }
+        self.overridden()
     }
 
     fn readied(self) -> Self
@@ -318,11 +332,7 @@ impl Registers {
         ensures { λ r. ⌜ r ≡ pulledSpec self ⌝ }
     {
         let shown = self.shown;
-        let status = shown.status;
-        if status.alert() {
-            return self;
-        }
-        let shown = shown.overridden();
+        let shown = shown.pressed(true);
         Registers { shown, ..self }
     }
 
@@ -358,13 +368,12 @@ impl Registers {
         Registers { outside, ..self }
     }
 
-    // What the outside level does after an event: while it is 1, as PIN does.
-    pub fn held(self) -> Self
+    // What the outside level does after an event.
+    pub fn held(mut self) -> Self
         ensures { λ r. ⌜ r ≡ heldSpec self ⌝ }
     {
-        if self.outside {
-            return self.pulled();
-        }
+        let shown = self.shown;
+        self.shown = shown.pressed(self.outside);
         self
     }
 }

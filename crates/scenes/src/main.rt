@@ -155,13 +155,21 @@ fn refused(chip: Chip) -> Chip {
     let chip = counted(chip, Event::Temp, 1, 16384, 0);
     let chip = plain(chip, Event::Sense(500001));
     let chip = plain(chip, Event::Sense(-500001));
-    plain(chip, Event::Sense(-2147483648))
+    let chip = plain(chip, Event::Sense(-2147483648));
+    let chip = counted(chip, Event::Ticks(0, 0), 1, 0, 0);
+    let chip = plain(chip, Event::Ticks(0, 0));
+    let chip = plain(chip, Event::Ticks(0, 4097));
+    let chip = plain(chip, Event::Ticks(-500001, 1));
+    let chip = plain(chip, Event::Soak(0, 0));
+    plain(chip, Event::Soak(0, 16777217))
 }
 
 // Number 4, and a bus that stays idle.
 fn asleep(chip: Chip) -> Chip {
     let chip = counted(chip, Event::Scan, 5, 16383, 0);
     let chip = plain(chip, Event::Sense(-500000));
+    let chip = plain(chip, Event::Ticks(-500000, 4096));
+    let chip = plain(chip, Event::Soak(-500000, 16777216));
     let chip = plain(chip, Event::Xready);
     let chip = plain(chip, Event::Level(true));
     let chip = on_bus(chip, BusEvent::Start);
@@ -181,6 +189,25 @@ fn fault(chip: Chip) -> Chip {
     let chip = counted(chip, Event::Scan, 5, 10761, 0);
     voltages(chip);
     chip
+}
+
+// 255 ticks and one more raise OCD, with a refused record between them that changes nothing; then two and one raise SCD; then 40,959 and one more
+// raise OCD at its longest delay.
+fn drawn(chip: Chip) -> Chip {
+    let chip = plain(chip, Event::Ticks(-9500, 4096));
+    let chip = plain(chip, Event::Ticks(-9501, 255));
+    let chip = plain(chip, Event::Ticks(-9501, 0));
+    let chip = plain(chip, Event::Ticks(-9501, 1));
+    let chip = write(chip, 0x00, 0x01, 0);
+    let chip = plain(chip, Event::Ticks(-18501, 2));
+    let chip = plain(chip, Event::Sense(-18501));
+    let chip = write(chip, 0x00, 0x03, 0);
+    let chip = write(chip, 0x07, 0x70, 0);
+    let chip = plain(chip, Event::Soak(0, 16777216));
+    let chip = plain(chip, Event::Soak(-9501, 40959));
+    let chip = plain(chip, Event::Soak(-9501, 1));
+    let chip = write(chip, 0x00, 0x03, 0);
+    write(chip, 0x05, 0x03, 0)
 }
 
 // The drive stays off till the bit is cleared and the host asks again.
@@ -212,7 +239,7 @@ fn scene(crc: bool) {
     let chip = write(chip, 0x05, 0x03, 0);
     let chip = write(chip, 0x05, 0x00, 1);
     let chip = write(chip, 0x05, 0x03, 0);
-    let chip = held(cleared(fault(chip)));
+    let chip = held(cleared(fault(drawn(chip))));
     let chip = write(chip, 0x04, 0x11, 0);
     let chip = write(chip, 0x04, 0x12, 0);
     voltages(chip);

@@ -19,18 +19,19 @@ use Rattle.records.specs.declared.Read.{Read}
 use Rattle.records.specs.declared.Read.the-variants.{Record, Refused, Cut}
 use Rattle.records.specs.Reading.{Placed, placed}
 use Rattle.events.specs.declared.Event.{Event}
-use Rattle.events.specs.declared.Event.the-variants.{Setup, Por, Boot, Scan, Temp, Count, Sense, Pin, Load, Xready, OnBus, Level, Wires}
+use Rattle.events.specs.declared.Event.the-variants.{Setup, Por, Boot, Scan, Temp, Count, Sense, Pin, Load, Xready, OnBus, Level, Ticks, Soak, Wires}
 use Rattle.events.specs.declared.Setup.{Setup as SetupValues}
 use Rattle.events.specs.declared.Counts.{Counts}
 use Rattle.events.specs.Setup.{withCells}
 use Rattle.wiring.specs.Rows.{hasRow, wiredWith}
 use Rattle.wiring.specs.declared.Wiring.the-variants.{With, NoRow}
-use Rattle.events.specs.Event.{Meant, means, unfit, meantOf}
+use Rattle.events.specs.Event.{meantOf}
 use Rattle.records.specs.Record.{countsBeside}
 use Rattle.chip.specs.declared.Chip.{Chip}
 use Rattle.chip.specs.declared.Stepped.{Stepped}
-use Rattle.chip.specs.Chip.{quiet, steppedAs, steppedBy}
-use Rattle.chip.specs.Calm.{Calmed, ship-calm, calm-next}
+use Rattle.chip.specs.Chip.{quiet}
+use Rattle.chip.specs.Calm.{Calmed, ship-calm}
+use Rattle.chip.specs.Repeat.{calm-as}
 use Rattle.stream.specs.Stream.{Turn, turnOf, turned, runs, stands, entries, lastChip, none, entryBytes, bytesOf, noted, wiredAs, acted, Ran, Played}
 use Rattle.stream.specs.declared.Entry.{Entry}
 
@@ -128,10 +129,6 @@ unfolding turnOf
 turn-next o chip rest l = turned-next o chip rest (readOf (chip .setup .part) rest) (placed (chip .setup .part) rest) l
 
 -- the outside level and SYS_STAT at 0 do not stand together after a turn, where they did not before it
-meant-calm : (m : Meant) (c : Chip) → Calmed c → Calmed (steppedAs m c .chip)
-meant-calm (means e) c k = calm-next e c k
-meant-calm unfit c k = k
-
 wires-calm : (o t : Bool) (u : SetupValues) (c : Chip) → Calmed c → Calmed (cond o (wiredAs (cond t (With u) NoRow) c) (quiet 2 c) .chip)
 wires-calm true true u c k = ship-calm u
 wires-calm true false u c k = k
@@ -140,17 +137,19 @@ wires-calm false t u c k = k
 acted-calm : (o : Bool) (e : Event) (n : Counts) (c : Chip) → Calmed c → Calmed (acted o e n c .chip)
 unfolding acted wiredWith
 acted-calm o (Setup v) n c k = ship-calm v
-acted-calm o Por n c k = meant-calm (meantOf (c .setup) Por n) c k
-acted-calm o Boot n c k = meant-calm (meantOf (c .setup) Boot n) c k
-acted-calm o Scan n c k = meant-calm (meantOf (c .setup) Scan n) c k
-acted-calm o Temp n c k = meant-calm (meantOf (c .setup) Temp n) c k
-acted-calm o (Count w) n c k = meant-calm (meantOf (c .setup) (Count w) n) c k
-acted-calm o (Sense v) n c k = meant-calm (meantOf (c .setup) (Sense v) n) c k
-acted-calm o Pin n c k = meant-calm (meantOf (c .setup) Pin n) c k
-acted-calm o (Load l) n c k = meant-calm (meantOf (c .setup) (Load l) n) c k
-acted-calm o Xready n c k = meant-calm (meantOf (c .setup) Xready n) c k
-acted-calm o (OnBus b) n c k = meant-calm (meantOf (c .setup) (OnBus b) n) c k
-acted-calm o (Level l) n c k = meant-calm (meantOf (c .setup) (Level l) n) c k
+acted-calm o Por n c k = calm-as (meantOf (c .setup) Por n) c k
+acted-calm o Boot n c k = calm-as (meantOf (c .setup) Boot n) c k
+acted-calm o Scan n c k = calm-as (meantOf (c .setup) Scan n) c k
+acted-calm o Temp n c k = calm-as (meantOf (c .setup) Temp n) c k
+acted-calm o (Count w) n c k = calm-as (meantOf (c .setup) (Count w) n) c k
+acted-calm o (Sense v) n c k = calm-as (meantOf (c .setup) (Sense v) n) c k
+acted-calm o Pin n c k = calm-as (meantOf (c .setup) Pin n) c k
+acted-calm o (Load l) n c k = calm-as (meantOf (c .setup) (Load l) n) c k
+acted-calm o Xready n c k = calm-as (meantOf (c .setup) Xready n) c k
+acted-calm o (OnBus b) n c k = calm-as (meantOf (c .setup) (OnBus b) n) c k
+acted-calm o (Level l) n c k = calm-as (meantOf (c .setup) (Level l) n) c k
+acted-calm o (Ticks v w) n c k = calm-as (meantOf (c .setup) (Ticks v w) n) c k
+acted-calm o (Soak v w) n c k = calm-as (meantOf (c .setup) (Soak v w) n) c k
 acted-calm o (Wires w) n c k = wires-calm o (hasRow (c .setup .part) w) (withCells w (c .setup)) c k
 
 turned-calm : (o : Bool) (chip : Chip) (rest : List ℕ) (x : Read) → Calmed chip → Calmed (turned o chip rest x .chip)

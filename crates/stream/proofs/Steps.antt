@@ -13,8 +13,8 @@ use Rattle.events.specs.declared.Setup.{Setup as SetupValues}
 use Rattle.events.specs.declared.Counts.{Counts}
 use Rattle.events.specs.declared.BusEvent.{BusEvent}
 use Rattle.events.specs.declared.Event.{Event}
-use Rattle.events.specs.declared.Event.the-variants.{Setup, Por, Boot, Scan, Temp, Count, Sense, Pin, Load, Xready, OnBus, Level, Wires}
-use Rattle.events.specs.Event.{Event as Happening, Scan as Scanned, Sense as Ticked, OnBus as Signalled, Meant, means, unfit, fits, eventOf, meantOf, countsFit, countsWanted}
+use Rattle.events.specs.declared.Event.the-variants.{Setup, Por, Boot, Scan, Temp, Count, Sense, Pin, Load, Xready, OnBus, Level, Ticks, Soak, Wires}
+use Rattle.events.specs.Event.{Event as Happening, Boot as Booted, Scan as Scanned, Sense as Ticked, OnBus as Signalled, Level as Leveled, Meant, means, ticks, unfit, fits, inRange, eventOf, meantOf, countsFit, countsWanted}
 use Rattle.events.proofs.Event.{the-type as event-type}
 use Rattle.records.specs.declared.Read.the-variants.{Record}
 use Rattle.records.specs.declared.Framed.the-variants.{Header, Short}
@@ -36,37 +36,44 @@ use Rattle.protection.specs.Judged.{tickJudged}
 use Rattle.chip.specs.declared.Heard.{Heard}
 use Rattle.chip.specs.Parts.{raisedBy, heardOf, landed, told, tick-parts, still-tick, bus-parts}
 use Rattle.chip.proofs.Modes.{in-normal}
-use Rattle.chip.specs.Calm.{Calmed, calm-scan, calm-tick}
-use Rattle.chip.specs.Chip.{quiet, withBus, withRuns, settled, normally, asleep, happened, stepped, steppedAs, steppedBy, happenedAs, happenedBy}
+use Rattle.chip.specs.Calm.{Calmed, settles, calm-scan, calm-tick}
+use Rattle.registers.specs.declared.Registers.{Registers}
+use Rattle.registers.specs.State.{withOutside}
+use Rattle.registers.specs.Judging.{held}
+use Rattle.registers.specs.Held.{Calm}
+use Rattle.chip.specs.Chip.{quiet, withAwake, withBus, withRegisters, withRuns, settled, normally, asleep, happened, stepped, ticked, steppedAs, steppedBy, happenedAs, happenedBy}
 use Rattle.stream.specs.Stream.{unanswered, answerOf, answerHeard, faceOf, entryWith, entryOf, saying, bornOf, wiredAs, wires, acted, staysFresh, turn, turned, turnOf}
 use Rattle.stream.specs.declared.Answer.{Answer}
 use Rattle.stream.specs.declared.Entry.{Entry}
 use Rattle.stream.specs.declared.Face.{Face}
-use Rattle.stream.specs.Often.{often, awakeWork}
+use Rattle.stream.specs.Often.{often, awakeWork, moved}
 use Rattle.stream.specs.declared.Work.the-variants.{Other}
 
--- an event whose meaning is known steps as it happens
-means-by : (t : Bool) (m : Meant) (e : Happening) → cond t m unfit ≡ means e → m ≡ means e
-means-by true m e h = h
-means-by false m e h = cc
-
+-- what is in range steps as it happens
 step-is : (e : Happening) (c : Chip) → fits e ≡ true → stepped e c ≡ happened e c
 unfolding stepped
 step-is e c f = simp f
 
+as-meant : (m : Meant) (c : Chip) → inRange m ≡ true → happenedAs m c ≡ steppedAs m c
+as-meant (means e) c f = sym (step-is e c f)
+as-meant (ticks most v n) c f = ap (λ (t : Bool). cond t (ticked n v c) (quiet 3 c)) (sym f)
+as-meant unfit c f = cc
+
+counts-by : (t : Bool) (m : Meant) (c : Chip) → inRange (cond t m unfit) ≡ true → happenedAs m c ≡ steppedAs (cond t m unfit) c
+counts-by true m c h = as-meant m c h
+counts-by false m c h = cc
+
 checked : (c : Chip) (e : Event) (k : Counts) → Meaning (c .setup) e k → happenedBy e (k .of) c ≡ steppedBy e k c
 unfolding meantOf
-checked c e k m =
-    let q : eventOf (c .setup) e (k .of) ≡ means (m .event) = means-by (countsFit (countsWanted (c .setup) e) k) _ (m .event) (m .meant) in
-    ap (λ (x : Meant). happenedAs x c) q ∙ sym (step-is (m .event) c (m .fit)) ∙ ap (λ (x : Meant). steppedAs x c) (sym (m .meant))
+checked c e k m = counts-by (countsFit (countsWanted (c .setup) e) k) (eventOf (c .setup) e (k .of)) c m
 
 -- no SETUP: what a record that was read does is what happens
 abbrev Later : Event → Type 0
-Later e = OneOf (1 ∷ 2 ∷ 3 ∷ 4 ∷ 5 ∷ 6 ∷ 7 ∷ 8 ∷ 9 ∷ 10 ∷ 11 ∷ []) (tagOf event-type e)
+Later e = OneOf (1 ∷ 2 ∷ 3 ∷ 4 ∷ 5 ∷ 6 ∷ 7 ∷ 8 ∷ 9 ∷ 10 ∷ 11 ∷ 12 ∷ 13 ∷ []) (tagOf event-type e)
 
 other-acted : (o : Bool) (c : Chip) (e : Event) (k : Counts) → Later e → steppedBy e k c ≡ acted o e k c
 unfolding acted
-other-acted op c (Setup v) k o = absurd (⊎-elim (λ h. omega arith) (⊎-elim (λ h. omega arith) (⊎-elim (λ h. omega arith) (⊎-elim (λ h. omega arith) (⊎-elim (λ h. omega arith) (⊎-elim (λ h. omega arith) (⊎-elim (λ h. omega arith) (⊎-elim (λ h. omega arith) (⊎-elim (λ h. omega arith) (⊎-elim (λ h. omega arith) (λ h. omega arith)))))))))) o)
+other-acted op c (Setup v) k o = absurd (⊎-elim (λ h. omega arith) (⊎-elim (λ h. omega arith) (⊎-elim (λ h. omega arith) (⊎-elim (λ h. omega arith) (⊎-elim (λ h. omega arith) (⊎-elim (λ h. omega arith) (⊎-elim (λ h. omega arith) (⊎-elim (λ h. omega arith) (⊎-elim (λ h. omega arith) (⊎-elim (λ h. omega arith) (⊎-elim (λ h. omega arith) (⊎-elim (λ h. omega arith) (λ h. omega arith)))))))))))) o)
 other-acted op c Por k o = refl
 other-acted op c Boot k o = refl
 other-acted op c Scan k o = refl
@@ -78,10 +85,12 @@ other-acted op c (Load l) k o = refl
 other-acted op c Xready k o = refl
 other-acted op c (OnBus b) k o = refl
 other-acted op c (Level l) k o = refl
-other-acted op c (Wires n) k o = absurd (⊎-elim (λ h. omega arith) (⊎-elim (λ h. omega arith) (⊎-elim (λ h. omega arith) (⊎-elim (λ h. omega arith) (⊎-elim (λ h. omega arith) (⊎-elim (λ h. omega arith) (⊎-elim (λ h. omega arith) (⊎-elim (λ h. omega arith) (⊎-elim (λ h. omega arith) (⊎-elim (λ h. omega arith) (λ h. omega arith)))))))))) o)
+other-acted op c (Ticks v n) k o = refl
+other-acted op c (Soak v n) k o = refl
+other-acted op c (Wires n) k o = absurd (⊎-elim (λ h. omega arith) (⊎-elim (λ h. omega arith) (⊎-elim (λ h. omega arith) (⊎-elim (λ h. omega arith) (⊎-elim (λ h. omega arith) (⊎-elim (λ h. omega arith) (⊎-elim (λ h. omega arith) (⊎-elim (λ h. omega arith) (⊎-elim (λ h. omega arith) (⊎-elim (λ h. omega arith) (⊎-elim (λ h. omega arith) (⊎-elim (λ h. omega arith) (λ h. omega arith)))))))))))) o)
 
 other-first : (e : Event) → IsSetup e → Later e → ⊥
-other-first (Setup v) f o = ⊎-elim (λ h. omega arith) (⊎-elim (λ h. omega arith) (⊎-elim (λ h. omega arith) (⊎-elim (λ h. omega arith) (⊎-elim (λ h. omega arith) (⊎-elim (λ h. omega arith) (⊎-elim (λ h. omega arith) (⊎-elim (λ h. omega arith) (⊎-elim (λ h. omega arith) (⊎-elim (λ h. omega arith) (λ h. omega arith)))))))))) o
+other-first (Setup v) f o = ⊎-elim (λ h. omega arith) (⊎-elim (λ h. omega arith) (⊎-elim (λ h. omega arith) (⊎-elim (λ h. omega arith) (⊎-elim (λ h. omega arith) (⊎-elim (λ h. omega arith) (⊎-elim (λ h. omega arith) (⊎-elim (λ h. omega arith) (⊎-elim (λ h. omega arith) (⊎-elim (λ h. omega arith) (⊎-elim (λ h. omega arith) (⊎-elim (λ h. omega arith) (λ h. omega arith)))))))))))) o
 other-first Por f o = f
 other-first Boot f o = f
 other-first Scan f o = f
@@ -93,6 +102,8 @@ other-first (Load l) f o = f
 other-first Xready f o = f
 other-first (OnBus b) f o = f
 other-first (Level l) f o = f
+other-first (Ticks v n) f o = f
+other-first (Soak v n) f o = f
 other-first (Wires n) f o = f
 
 -- and no wiring record
@@ -109,7 +120,9 @@ other-wires (Load l) o = refl
 other-wires Xready o = refl
 other-wires (OnBus b) o = refl
 other-wires (Level l) o = refl
-other-wires (Wires n) o = absurd (⊎-elim (λ h. omega arith) (⊎-elim (λ h. omega arith) (⊎-elim (λ h. omega arith) (⊎-elim (λ h. omega arith) (⊎-elim (λ h. omega arith) (⊎-elim (λ h. omega arith) (⊎-elim (λ h. omega arith) (⊎-elim (λ h. omega arith) (⊎-elim (λ h. omega arith) (⊎-elim (λ h. omega arith) (λ h. omega arith)))))))))) o)
+other-wires (Ticks v n) o = refl
+other-wires (Soak v n) o = refl
+other-wires (Wires n) o = absurd (⊎-elim (λ h. omega arith) (⊎-elim (λ h. omega arith) (⊎-elim (λ h. omega arith) (⊎-elim (λ h. omega arith) (⊎-elim (λ h. omega arith) (⊎-elim (λ h. omega arith) (⊎-elim (λ h. omega arith) (⊎-elim (λ h. omega arith) (⊎-elim (λ h. omega arith) (⊎-elim (λ h. omega arith) (⊎-elim (λ h. omega arith) (⊎-elim (λ h. omega arith) (λ h. omega arith)))))))))))) o)
 
 meaning : (c : Chip) (r : List ℕ) (e : Event) (next : ℕ) (t : Bool) → eqb (c .setup .part) 0 ≡ t → readOf (c .setup .part) r ≡ Record e next → Later e
     → Meaning (c .setup) e (countsBeside r (Record e next))
@@ -138,9 +151,11 @@ other-often (Sense v) q = inr (inr (inr (inr (inr (inl refl)))))
 other-often Pin q = absurd (clash q)
 other-often (Load l) q = absurd (clash q)
 other-often Xready q = absurd (clash q)
-other-often (Wires n) q = absurd (clash q)
 other-often (OnBus b) q = inr (inr (inr (inr (inr (inr (inr (inr (inr (inl refl)))))))))
 other-often (Level l) q = absurd (clash q)
+other-often (Ticks v n) q = absurd (clash q)
+other-often (Soak v n) q = absurd (clash q)
+other-often (Wires n) q = absurd (clash q)
 
 pub as-event : {s : Stepped} {e e′ : Event} (xs : List ℕ) (c : Chip) → e ≡ e′ → s ≡ happenedBy e′ xs c → s ≡ happenedBy e xs c
 as-event xs c q h = h ∙ ap (λ (e : Event). happenedBy e xs c) (sym q)
@@ -150,20 +165,22 @@ pub often-is : {s : Stepped} (op : Bool) (c : Chip) (r : List ℕ) (e e′ : Eve
 often-is op c r e e′ next xs q t o b h = other-is op c r e next xs q (other-often e (ap often t ∙ o)) b (as-event xs c t h)
 
 -- what is seldom done is other work
-pub seldom-work : (e : Event) → OneOf (0 ∷ 1 ∷ 2 ∷ 4 ∷ 5 ∷ 7 ∷ 8 ∷ 9 ∷ 11 ∷ 12 ∷ []) (tagOf event-type e) → Other ≡ awakeWork e
+pub seldom-work : (e : Event) → OneOf (0 ∷ 1 ∷ 2 ∷ 4 ∷ 5 ∷ 7 ∷ 8 ∷ 9 ∷ 11 ∷ 12 ∷ 13 ∷ 14 ∷ []) (tagOf event-type e) → Other ≡ awakeWork e
 seldom-work (Setup v) o = refl
 seldom-work Por o = refl
 seldom-work Boot o = refl
-seldom-work Scan o = absurd (⊎-elim (λ h. omega arith) (⊎-elim (λ h. omega arith) (⊎-elim (λ h. omega arith) (⊎-elim (λ h. omega arith) (⊎-elim (λ h. omega arith) (⊎-elim (λ h. omega arith) (⊎-elim (λ h. omega arith) (⊎-elim (λ h. omega arith) (⊎-elim (λ h. omega arith) (λ h. omega arith))))))))) o)
+seldom-work Scan o = absurd (⊎-elim (λ h. omega arith) (⊎-elim (λ h. omega arith) (⊎-elim (λ h. omega arith) (⊎-elim (λ h. omega arith) (⊎-elim (λ h. omega arith) (⊎-elim (λ h. omega arith) (⊎-elim (λ h. omega arith) (⊎-elim (λ h. omega arith) (⊎-elim (λ h. omega arith) (⊎-elim (λ h. omega arith) (⊎-elim (λ h. omega arith) (λ h. omega arith))))))))))) o)
 seldom-work Temp o = refl
 seldom-work (Count n) o = refl
-seldom-work (Sense v) o = absurd (⊎-elim (λ h. omega arith) (⊎-elim (λ h. omega arith) (⊎-elim (λ h. omega arith) (⊎-elim (λ h. omega arith) (⊎-elim (λ h. omega arith) (⊎-elim (λ h. omega arith) (⊎-elim (λ h. omega arith) (⊎-elim (λ h. omega arith) (⊎-elim (λ h. omega arith) (λ h. omega arith))))))))) o)
+seldom-work (Sense v) o = absurd (⊎-elim (λ h. omega arith) (⊎-elim (λ h. omega arith) (⊎-elim (λ h. omega arith) (⊎-elim (λ h. omega arith) (⊎-elim (λ h. omega arith) (⊎-elim (λ h. omega arith) (⊎-elim (λ h. omega arith) (⊎-elim (λ h. omega arith) (⊎-elim (λ h. omega arith) (⊎-elim (λ h. omega arith) (⊎-elim (λ h. omega arith) (λ h. omega arith))))))))))) o)
 seldom-work Pin o = refl
 seldom-work (Load l) o = refl
 seldom-work Xready o = refl
-seldom-work (Wires n) o = refl
-seldom-work (OnBus b) o = absurd (⊎-elim (λ h. omega arith) (⊎-elim (λ h. omega arith) (⊎-elim (λ h. omega arith) (⊎-elim (λ h. omega arith) (⊎-elim (λ h. omega arith) (⊎-elim (λ h. omega arith) (⊎-elim (λ h. omega arith) (⊎-elim (λ h. omega arith) (⊎-elim (λ h. omega arith) (λ h. omega arith))))))))) o)
+seldom-work (OnBus b) o = absurd (⊎-elim (λ h. omega arith) (⊎-elim (λ h. omega arith) (⊎-elim (λ h. omega arith) (⊎-elim (λ h. omega arith) (⊎-elim (λ h. omega arith) (⊎-elim (λ h. omega arith) (⊎-elim (λ h. omega arith) (⊎-elim (λ h. omega arith) (⊎-elim (λ h. omega arith) (⊎-elim (λ h. omega arith) (⊎-elim (λ h. omega arith) (λ h. omega arith))))))))))) o)
 seldom-work (Level l) o = refl
+seldom-work (Ticks v n) o = refl
+seldom-work (Soak v n) o = refl
+seldom-work (Wires n) o = refl
 
 -- in SHIP
 off : (a t : Bool) → (a && t) ≡ false → t ≡ true → a ≡ false
@@ -181,6 +198,45 @@ in-sleep e c a h = h ∙ sym (by (c .awake) a)
     by : (b : Bool) → b ≡ false → cond b (settled (normally e c)) (asleep e c) ≡ asleep e c
     by true q = cc
     by false q = refl
+
+-- the registers moved, by the mode
+pub moved-awake : {s : Stepped} (r : Registers) (c : Chip) → c .awake ≡ true → s ≡ quiet 0 (withRegisters r c) → s ≡ moved r c
+unfolding moved
+moved-awake r c a h = h ∙ ap (λ (b : Bool). cond b (quiet 0 (withRegisters r c)) (quiet 4 c)) (sym a)
+
+pub moved-asleep : {s : Stepped} (r : Registers) (c : Chip) → c .awake ≡ false → s ≡ quiet 4 c → s ≡ moved r c
+unfolding moved
+moved-asleep r c a h = h ∙ ap (λ (b : Bool). cond b (quiet 0 (withRegisters r c)) (quiet 4 c)) (sym a)
+
+pub moved-to : {s : Stepped} {q r : Registers} (c : Chip) → q ≡ r → s ≡ moved q c → s ≡ moved r c
+moved-to c e h = h ∙ ap (λ (q : Registers). moved q c) e
+
+-- an event that moves registers alone, and leaves the outside level no work
+pub moves : {s : Stepped} (e : Happening) (c : Chip) (r : Registers) → normally e c ≡ quiet 0 (withRegisters r c) → asleep e c ≡ quiet 4 c → Calm r → s ≡ moved r c → s ≡ happened e c
+unfolding happened moved
+moves e c r n z k h = h ∙ sym (by (c .awake))
+  where
+    by : (b : Bool) → cond b (settled (normally e c)) (asleep e c) ≡ cond b (quiet 0 (withRegisters r c)) (quiet 4 c)
+    by true = ap settled n ∙ settles (quiet 0 (withRegisters r c)) k
+    by false = z
+
+-- the outside level itself
+pub levels : {s : Stepped} (l : Bool) (c : Chip) → s ≡ moved (held (withOutside l (c .registers))) c → s ≡ happened (Leveled l) c
+unfolding happened moved
+levels l c h = h ∙ sym (by (c .awake))
+  where
+    by : (b : Bool) → cond b (settled (normally (Leveled l) c)) (asleep (Leveled l) c) ≡ cond b (quiet 0 (withRegisters (held (withOutside l (c .registers))) c)) (quiet 4 c)
+    by true = refl
+    by false = refl
+
+-- BOOT
+pub boots : {s : Stepped} (c : Chip) → Calmed c → s ≡ quiet 0 (withAwake true c) → s ≡ happened Booted c
+unfolding happened
+boots c k h = h ∙ sym (by (c .awake) refl)
+  where
+    by : (b : Bool) → c .awake ≡ b → cond b (settled (normally Booted c)) (asleep Booted c) ≡ quiet 0 (withAwake true c)
+    by true e = settles (quiet 0 c) k ∙ ap (λ (a : Bool). quiet 0 (withAwake a c)) e
+    by false e = settles (quiet 0 (withAwake true c)) k
 
 -- SETUP
 pub setup-is : {s : Stepped} (op : Bool) (c : Chip) (e : Event) (v : SetupValues) (k : Counts) → e ≡ Setup v → s ≡ bornOf v → s ≡ acted op e k c

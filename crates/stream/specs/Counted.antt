@@ -11,7 +11,7 @@ use borrow.Author.Tests.{ne-eqb, ltb-false}
 use Rattle.events.specs.declared.Setup.{Setup as SetupValues}
 use Rattle.events.specs.declared.Counts.{Counts}
 use Rattle.events.specs.declared.Event.{Event}
-use Rattle.events.specs.declared.Event.the-variants.{Setup, Por, Boot, Scan, Temp, Count, Sense, Pin, Load, Xready, OnBus, Level, Wires}
+use Rattle.events.specs.declared.Event.the-variants.{Setup, Por, Boot, Scan, Temp, Count, Sense, Pin, Load, Xready, OnBus, Level, Ticks, Soak, Wires}
 use Rattle.events.specs.Setup.{withCells}
 use Rattle.records.specs.declared.Payload.{Payload}
 use Rattle.records.specs.declared.Payload.the-variants.{Whole, Unfit}
@@ -114,6 +114,8 @@ first-frames b s (Record e next) q =
     by Xready g = absurd g
     by (OnBus x) g = absurd g
     by (Level l) g = absurd g
+    by (Ticks v n) g = absurd g
+    by (Soak v n) g = absurd g
     by (Wires n) g = absurd g
 first-frames b s (Refused k next) q = refl
 first-frames b s Cut q = refl

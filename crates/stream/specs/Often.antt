@@ -2,9 +2,13 @@
 use mathlib.Core.Path.{_≡_, refl}
 use mathlib.Core.Bool.{Bool, true, false, cond, _&&_}
 use Rattle.events.specs.declared.Event.{Event}
+use Rattle.registers.specs.declared.Registers.{Registers}
+use Rattle.chip.specs.declared.Chip.{Chip}
+use Rattle.chip.specs.declared.Stepped.{Stepped}
+use Rattle.chip.specs.Chip.{quiet, withRegisters}
 use Rattle.stream.specs.declared.Work.{Work}
 use Rattle.stream.specs.declared.Work.the-variants.{Scans, Ticks, Hears, Other}
-use Rattle.events.specs.declared.Event.the-variants.{Setup, Por, Boot, Scan, Temp, Count, Sense, Pin, Load, Xready, OnBus, Level, Wires}
+use Rattle.events.specs.declared.Event.the-variants.{Setup, Por, Boot, Scan, Temp, Count, Sense, Pin, Load, Xready, OnBus, Level, Ticks as Repeated, Soak, Wires}
 
 abbrev pub often : Event → Bool
 often (Setup v) = false
@@ -19,6 +23,8 @@ often (Load l) = false
 often Xready = false
 often (OnBus b) = true
 often (Level l) = false
+often (Repeated v n) = false
+often (Soak v n) = false
 often (Wires n) = false
 
 -- ── and what each is to the loop, in NORMAL and in SHIP ──
@@ -35,10 +41,16 @@ awakeWork (Load l) = Other
 awakeWork Xready = Other
 awakeWork (OnBus b) = Hears b
 awakeWork (Level l) = Other
+awakeWork (Repeated v n) = Other
+awakeWork (Soak v n) = Other
 awakeWork (Wires n) = Other
 
 unfoldable pub workOf : Bool → Event → Work
 workOf a e = cond a (awakeWork e) Other
+
+-- an event that moves registers alone, to these; number 4 in SHIP
+unfoldable pub moved : Registers → Chip → Stepped
+moved r c = cond (c .awake) (quiet 0 (withRegisters r c)) (quiet 4 c)
 
 -- what is known of an event by its work
 abbrev pub Sorted : Bool → Event → Work → Type 0
@@ -62,4 +74,6 @@ sorted true (Load l) = refl
 sorted true Xready = refl
 sorted true (OnBus b) = (refl, refl)
 sorted true (Level l) = refl
+sorted true (Repeated v n) = refl
+sorted true (Soak v n) = refl
 sorted true (Wires n) = refl

@@ -1,7 +1,7 @@
 -- Whether a chip stands: a first record that is read with success makes one, whose setup stays, but for the cells, and its part 1 to 3; else the first record's number is not 0,
 -- so that no reading is done with nothing given. Assumes nothing.
 use mathlib.Core.Path.{_≡_, refl, ap, sym, _∙_, subst}
-use mathlib.Core.Bool.{Bool, true, false, cond, _&&_, not}
+use mathlib.Core.Bool.{Bool, true, false, cond, _&&_, not, true≢false}
 use mathlib.Core.Logic.{_≢_}
 use mathlib.Core.List.{List, [], _∷_}
 use Prim.Native.Nat.{ℕ, zero, suc, _+_, _-_, _≤_}
@@ -14,11 +14,11 @@ use Rattle.events.specs.declared.Counts.{Counts}
 use Rattle.events.specs.declared.Checked.{Checked}
 use Rattle.events.specs.declared.Checked.the-variants.{Good, Bad}
 use Rattle.events.specs.declared.Event.{Event}
-use Rattle.events.specs.declared.Event.the-variants.{Setup, Por, Boot, Scan, Temp, Count, Sense, Pin, Load, Xready, OnBus, Level, Wires}
+use Rattle.events.specs.declared.Event.the-variants.{Setup, Por, Boot, Scan, Temp, Count, Sense, Pin, Load, Xready, OnBus, Level, Ticks, Soak, Wires}
 use Rattle.events.specs.Setup.{setupFits, checkedOf, withCells}
 use Rattle.wiring.specs.Rows.{hasRow, wiredWith}
 use Rattle.wiring.specs.declared.Wiring.the-variants.{With, NoRow}
-use Rattle.events.specs.Event.{Event as Happening, Meant, means, unfit, meantOf, countsFit}
+use Rattle.events.specs.Event.{unfit, meantOf, inRange, countsFit}
 use Rattle.records.specs.declared.Payload.{Payload}
 use Rattle.records.specs.declared.Payload.the-variants.{Whole, Unfit}
 use Rattle.records.specs.declared.Read.{Read}
@@ -30,43 +30,45 @@ use Rattle.records.specs.Reading.{cond-by}
 use Rattle.records.specs.Sound.{and-left, and-right, IsSetup, first-setup, Meaning, wires-by, later-means}
 use Rattle.chip.specs.declared.Chip.{Chip}
 use Rattle.chip.specs.declared.Stepped.{Stepped}
-use Rattle.chip.specs.Chip.{quiet, inShip, stepped, steppedAs, steppedBy}
-use Rattle.chip.specs.Moves.{setup-next}
+use Rattle.chip.specs.Chip.{quiet, inShip, steppedBy}
+use Rattle.chip.specs.Repeat.{setup-as}
 use Rattle.chip.specs.Outward.{forecastNumber}
 use Rattle.stream.specs.Stream.{Turn, none, entryOf, bornOf, wiredAs, acted, turned, turnOf, runs, stands, entries, lastChip}
 use Rattle.stream.specs.Forecast.{readingNumber, isGiven}
 
--- ── a record that means an event steps the chip by it ──
-no-setup : (t : Bool) (e : Happening) → cond t unfit unfit ≡ means e → ⊥
-no-setup true e h = let z : _≡_ {A = ℕ} 0 1 = cc in omega arith
-no-setup false e h = let z : _≡_ {A = ℕ} 0 1 = cc in omega arith
+-- ── a record that means something in range steps the chip by it ──
+no-setup : (t : Bool) → inRange (cond t unfit unfit) ≡ true → ⊥
+no-setup true h = true≢false (sym h)
+no-setup false h = true≢false (sym h)
 
-no-setup-read : (v : SetupValues) (k : Counts) (c : Chip) (ev : Happening) → meantOf (c .setup) (Setup v) k ≡ means ev → ⊥
+no-setup-read : (v : SetupValues) (k : Counts) (c : Chip) → Meaning (c .setup) (Setup v) k → ⊥
 unfolding meantOf
-no-setup-read v k c ev m = no-setup (countsFit 0 k) ev m
+no-setup-read v k c m = no-setup (countsFit 0 k) m
 
-no-wires-read : (n : ℕ) (k : Counts) (c : Chip) (ev : Happening) → meantOf (c .setup) (Wires n) k ≡ means ev → ⊥
+no-wires-read : (n : ℕ) (k : Counts) (c : Chip) → Meaning (c .setup) (Wires n) k → ⊥
 unfolding meantOf
-no-wires-read n k c ev m = no-setup (countsFit 0 k) ev m
+no-wires-read n k c m = no-setup (countsFit 0 k) m
 
-acted-by : (o : Bool) (e : Event) (k : Counts) (c : Chip) (ev : Happening) → meantOf (c .setup) e k ≡ means ev → acted o e k c ≡ steppedBy e k c
+pub acted-is : (o : Bool) (e : Event) (k : Counts) (c : Chip) → Meaning (c .setup) e k → acted o e k c ≡ steppedBy e k c
 unfolding acted
-acted-by o (Setup v) k c ev m = absurd (no-setup-read v k c ev m)
-acted-by o Por k c ev m = refl
-acted-by o Boot k c ev m = refl
-acted-by o Scan k c ev m = refl
-acted-by o Temp k c ev m = refl
-acted-by o (Count n) k c ev m = refl
-acted-by o (Sense v) k c ev m = refl
-acted-by o Pin k c ev m = refl
-acted-by o (Load l) k c ev m = refl
-acted-by o Xready k c ev m = refl
-acted-by o (OnBus b) k c ev m = refl
-acted-by o (Level l) k c ev m = refl
-acted-by o (Wires n) k c ev m = absurd (no-wires-read n k c ev m)
+acted-is o (Setup v) k c m = absurd (no-setup-read v k c m)
+acted-is o Por k c m = refl
+acted-is o Boot k c m = refl
+acted-is o Scan k c m = refl
+acted-is o Temp k c m = refl
+acted-is o (Count n) k c m = refl
+acted-is o (Sense v) k c m = refl
+acted-is o Pin k c m = refl
+acted-is o (Load l) k c m = refl
+acted-is o Xready k c m = refl
+acted-is o (OnBus b) k c m = refl
+acted-is o (Level l) k c m = refl
+acted-is o (Ticks v n) k c m = refl
+acted-is o (Soak v n) k c m = refl
+acted-is o (Wires n) k c m = absurd (no-wires-read n k c m)
 
-pub acted-is : (o : Bool) (e : Event) (k : Counts) (c : Chip) (ev : Happening) → meantOf (c .setup) e k ≡ means ev → acted o e k c ≡ stepped ev c
-acted-is o e k c ev m = acted-by o e k c ev m ∙ ap (λ (x : Meant). steppedAs x c) m
+setup-stays : (o : Bool) (e : Event) (k : Counts) (c : Chip) → Meaning (c .setup) e k → acted o e k c .chip .setup ≡ c .setup
+setup-stays o e k c m = ap (λ (s : Stepped). s .chip .setup) (acted-is o e k c m) ∙ setup-as (meantOf (c .setup) e k) c
 
 -- ── the setup of a chip that stands stays, but for the number of cells ──
 wired-keeps : (o t : Bool) (n : ℕ) (c : Chip) → withCells 0 (cond o (wiredAs (cond t (With (withCells n (c .setup))) NoRow) c) (quiet 2 c) .chip .setup) ≡ withCells 0 (c .setup)
@@ -81,8 +83,7 @@ acted-keeps o c r e next p =
     wires-by (λ (e : Event). readOf (c .setup .part) r ≡ Record e next → withCells 0 (acted o e (countsBeside r (Record e next)) c .chip .setup) ≡ withCells 0 (c .setup))
     (λ n q. wired-keeps o (hasRow (c .setup .part) n) n c)
     (λ e w q.
-    let m : Meaning (c .setup) e (countsBeside r (Record e next)) = later-means (c .setup) r e next p q w in
-    ap (λ (s : Stepped). withCells 0 (s .chip .setup)) (acted-is o e (countsBeside r (Record e next)) c (m .event) (m .meant)) ∙ ap (withCells 0) (setup-next (m .event) c)) e
+    ap (withCells 0) (setup-stays o e (countsBeside r (Record e next)) c (later-means (c .setup) r e next p q w))) e
 
 setup-turned : (o : Bool) (c : Chip) (r : List ℕ) → c .setup .part ≢ 0 → (x : Read) → readOf (c .setup .part) r ≡ x → withCells 0 (turned o c r x .chip .setup) ≡ withCells 0 (c .setup)
 setup-turned o c r p (Record e next) q = acted-keeps o c r e next p q
@@ -199,6 +200,8 @@ made-by s (Record e next) q w h = by e q (first-setup s e next q)
     by Xready q g = absurd g
     by (OnBus x) q g = absurd g
     by (Level l) q g = absurd g
+    by (Ticks v n) q g = absurd g
+    by (Soak v n) q g = absurd g
     by (Wires n) q g = absurd g
 made-by s (Refused k next) q w h = absurd (w h)
 made-by s Cut q w h = absurd (omega (arith, h))

@@ -10,7 +10,7 @@ use lib.IntN.{ℤ, pos, negsuc}
 use Rattle.events.specs.declared.Setup.{Setup as SetupValues}
 use Rattle.events.specs.declared.Counts.{Counts}
 use Rattle.events.specs.declared.Event.{Event}
-use Rattle.events.specs.declared.Event.the-variants.{Setup, Por, Boot, Scan, Temp, Count, Sense, Pin, Load, Xready, OnBus, Level, Wires}
+use Rattle.events.specs.declared.Event.the-variants.{Setup, Por, Boot, Scan, Temp, Count, Sense, Pin, Load, Xready, OnBus, Level, Ticks, Soak, Wires}
 use Rattle.records.specs.declared.Read.{Read}
 use Rattle.records.specs.declared.Read.the-variants.{Record, Refused, Cut}
 use Rattle.records.specs.Record.{standing, readOf, countsIn, countsBeside}
@@ -81,6 +81,8 @@ acted o (Load l) k c = steppedBy (Load l) k c
 acted o Xready k c = steppedBy Xready k c
 acted o (OnBus b) k c = steppedBy (OnBus b) k c
 acted o (Level l) k c = steppedBy (Level l) k c
+acted o (Ticks v n) k c = steppedBy (Ticks v n) k c
+acted o (Soak v n) k c = steppedBy (Soak v n) k c
 acted o (Wires n) k c = wires o n c
 
 -- .. and after a record: after SETUP, which alone meets no part, and after a refused one

@@ -5,12 +5,15 @@ ghost use lib.ListN.{length, take};
 ghost use Rattle.records.specs.Record.{readOf, countsBeside};
 ghost use Rattle.records.specs.declared.Read.the-variants.{Record};
 ghost use Rattle.stream.specs.Stream.{none, faceOf, answerOf, unanswered as unansweredSpec, answerHeard, entryWith, bornOf, wires, acted, noted, Ran, Played};
-ghost use mathlib.Core.Bool.{false, _&&_};
-ghost use Rattle.chip.specs.Chip.{quiet as quietSpec, happened, happenedBy};
+ghost use mathlib.Core.Bool.{true, false, _&&_};
+ghost use Rattle.registers.specs.State.{withOutside};
+ghost use Rattle.registers.specs.Judging.{held};
+ghost use Rattle.chip.specs.Chip.{quiet as quietSpec, withAwake, happened, happenedBy};
+ghost use Rattle.chip.specs.Calm.{Calmed};
 ghost use Rattle.events.specs.Event.{Temp};
 ghost use Rattle.events.specs.Setup.{groups};
 ghost use Rattle.stream.specs.Frames.{framesOf};
-ghost use Rattle.stream.specs.Often.{often, workOf};
+ghost use Rattle.stream.specs.Often.{often, workOf, moved as movedSpec};
 use bus::Store;
 use chip::Chip;
 use chip::Heard;
@@ -20,6 +23,7 @@ use events::Event;
 use events::Setup;
 use records::Framed;
 use records::Payload;
+use registers::Registers;
 use wiring::Wiring;
 
 mod convert;
@@ -145,40 +149,74 @@ fn work_of(awake: bool, event: Event) -> Work
         | Event::Load(_)
         | Event::Xready
         | Event::Level(_)
+        | Event::Ticks(_, _)
+        | Event::Soak(_, _)
         | Event::Wires(_) => Work::Other,
     }
 }
 
-// What happens to a chip in SHIP, or seldom.
+// What happens to a chip in SHIP, or seldom. The outside level has work after its own event alone: what else stands here lowers no bit.
 fn seldom(chip: Chip, event: Event, counts: [u16; 15]) -> Stepped
     requires { ⌜ (chip .awake && often event) ≡ false ⌝ }
+    requires { ⌜ Calmed chip ⌝ }
     ensures { λ r. ⌜ r ≡ happenedBy event counts chip ⌝ }
 {
+    let registers = chip.registers;
     match event {
         Event::Setup(_) => quiet(2, chip),
         Event::Por => chip.por(),
-        Event::Boot => chip.boot(),
+        Event::Boot => roused(chip),
         Event::Scan => quiet(4, chip),
         Event::Temp => heated(chip, counts),
-        Event::Count(cc) => chip.count(cc),
+        Event::Count(cc) => moved(chip, registers.coulombs(cc)),
         Event::Sense(_) => quiet(4, chip),
-        Event::Pin => chip.pin(),
-        Event::Load(level) => chip.load(level),
-        Event::Xready => chip.xready(),
+        Event::Pin => moved(chip, registers.pulled()),
+        Event::Load(level) => moved(chip, registers.loaded(level)),
+        Event::Xready => moved(chip, registers.unready()),
         Event::OnBus(bus) => chip.doze(bus),
-        Event::Level(level) => chip.level(level),
+        Event::Level(level) => moved(chip, leveled(registers, level)),
+        Event::Ticks(value, repeat) => chip.ticked(value, repeat as u32),
+        Event::Soak(value, repeat) => chip.ticked(value, repeat),
         Event::Wires(_) => quiet(2, chip),
     }
 }
 
+// BOOT.
+fn roused(mut chip: Chip) -> Stepped
+    ensures { λ r. ⌜ r ≡ quietSpec 0 (withAwake true chip) ⌝ }
+{
+    chip.awake = true;
+    quiet(0, chip)
+}
+
+// The registers moved, in NORMAL.
+fn moved(mut chip: Chip, registers: Registers) -> Stepped
+    ensures { λ r. ⌜ r ≡ movedSpec registers chip ⌝ }
+{
+    if !chip.awake {
+        return quiet(4, chip);
+    }
+    chip.registers = registers;
+    quiet(0, chip)
+}
+
+// The outside level, kept and looked at.
+fn leveled(registers: Registers, level: bool) -> Registers
+    ensures { λ r. ⌜ r ≡ held (withOutside level registers) ⌝ }
+{
+    let registers = registers.leveled(level);
+    registers.held()
+}
+
 // TEMP, whose counts the reader has judged.
 fn heated(chip: Chip, counts: [u16; 15]) -> Stepped
+    requires { ⌜ Calmed chip ⌝ }
     ensures { λ r. ⌜ r ≡ happened (Temp (take (groups (chip .setup)) counts)) chip ⌝ }
 {
     if !chip.awake {
         return quiet(4, chip);
     }
-    chip::done(chip.warmed(counts))
+    quiet(0, chip.warmed(counts))
 }
 
 // The counts beside an event that was read.
@@ -194,6 +232,7 @@ fn counted(part: u8, event: Event, rest: &[u8], next: usize) -> [u16; 15]
 fn act(chip: Chip, fresh: bool, event: Event, rest: &[u8], next: usize) -> Stepped
     requires { ⌜ readOf (chip .setup .part) (now rest) ≡ Record event next ⌝ }
     requires { ⌜ (chip .awake && often event) ≡ false ⌝ }
+    requires { ⌜ Calmed chip ⌝ }
     ensures { λ r. ⌜ r ≡ acted fresh event (countsBeside (now (rest .entry)) (Record event next)) chip ⌝ }
 {
     match event {
@@ -209,7 +248,9 @@ fn act(chip: Chip, fresh: bool, event: Event, rest: &[u8], next: usize) -> Stepp
         | Event::Load(_)
         | Event::Xready
         | Event::OnBus(_)
-        | Event::Level(_) => {
+        | Event::Level(_)
+        | Event::Ticks(_, _)
+        | Event::Soak(_, _) => {
             let setup = chip.setup;
             let counts = counted(setup.part, event, rest, next);
             seldom(chip, event, counts)

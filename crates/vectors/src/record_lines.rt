@@ -88,6 +88,8 @@ fn kind_of(event: Event) -> usize {
         Event::Xready => 9,
         Event::OnBus(bus) => kind_of_bus(bus),
         Event::Level(_) => 0x15,
+        Event::Ticks(_, _) => 0x14,
+        Event::Soak(_, _) => 0x17,
         Event::Wires(_) => 0x16,
     }
 }
@@ -200,6 +202,12 @@ fn write_kinds() {
     plain(Event::OnBus(BusEvent::Stop), 1);
     plain(Event::Level(false), 1);
     plain(Event::Level(true), 1);
+    plain(Event::Ticks(500000, 1), 1);
+    plain(Event::Ticks(-500000, 4096), 1);
+    plain(Event::Ticks(-1, 0x0203), 1);
+    plain(Event::Soak(500000, 1), 1);
+    plain(Event::Soak(-500000, 16777216), 1);
+    plain(Event::Soak(-1, 0x00020304), 1);
     plain(Event::Wires(13), 3);
 }
 
@@ -260,6 +268,17 @@ fn refuse_values() {
     put(Event::Scan, five(), 1, 14);
     put(setup(1, 0x08, 0, 0), no_counts(), 1, 10);
     put(Event::OnBus(BusEvent::Out(1)), no_counts(), 1, 4);
+    plain(Event::Ticks(0, 0), 1);
+    plain(Event::Ticks(0, 4097), 1);
+    plain(Event::Ticks(500001, 1), 1);
+    put(Event::Ticks(0, 0), few(1, 0, 0), 1, 36);
+    put(Event::Ticks(1, 2), no_counts(), 1, 9);
+    put(Event::Ticks(1, 2), no_counts(), 1, 10);
+    plain(Event::Soak(0, 0), 1);
+    plain(Event::Soak(0, 16777217), 1);
+    plain(Event::Soak(-500001, 1), 1);
+    put(Event::Soak(1, 2), no_counts(), 1, 11);
+    put(Event::Soak(1, 2), no_counts(), 1, 12);
 }
 
 // Each kind, read.
@@ -306,6 +325,10 @@ fn read_kinds() {
     take(&[9, 9, 9, 0, 0, 0x13, 0], 3, 1);
     take(&[1, 0, 0x15, 0, 0], 0, 1);
     take(&[1, 0, 0x15, 0, 1], 0, 1);
+    take(&[6, 0, 0x14, 0, 0x20, 0xA1, 0x07, 0x00, 1, 0], 0, 1);
+    take(&[6, 0, 0x14, 0, 0xE0, 0x5E, 0xF8, 0xFF, 0, 0x10], 0, 1);
+    take(&[8, 0, 0x17, 0, 0x20, 0xA1, 0x07, 0x00, 1, 0, 0, 0], 0, 1);
+    take(&[8, 0, 0x17, 0, 0xE0, 0x5E, 0xF8, 0xFF, 0, 0, 0, 1], 0, 1);
     take(&[1, 0, 0x16, 0, 13], 0, 3);
     take(&[1, 0, 0x16, 0, 13], 0, 1);
 }
@@ -331,6 +354,9 @@ fn read_refusals() {
     take(&[2, 0, 6, 0, 0, 0], 0, 1);
     take(&[2, 0, 0x12, 0, 9, 9], 0, 1);
     take(&[2, 0, 0x15, 0, 9, 9], 0, 1);
+    take(&[4, 0, 0x14, 0, 0, 0, 0, 0], 0, 1);
+    take(&[0, 0, 0x15, 0], 0, 1);
+    take(&[6, 0, 0x17, 0, 0, 0, 0, 0, 1, 0], 0, 1);
     take(&[0, 0, 0x16, 0], 0, 1);
     take(&[2, 0, 0x16, 0, 3, 3], 0, 1);
     take(&[1, 0, 0x16, 0, 3], 0, 0);
@@ -345,6 +371,12 @@ fn read_ranges() {
     take(&[1, 0, 8, 0, 2], 0, 1);
     take(&[1, 0, 0x12, 0, 2], 0, 1);
     take(&[1, 0, 0x15, 0, 2], 0, 1);
+    take(&[6, 0, 0x14, 0, 0, 0, 0, 0, 0, 0], 0, 1);
+    take(&[6, 0, 0x14, 0, 0, 0, 0, 0, 1, 0x10], 0, 1);
+    take(&[6, 0, 0x14, 0, 0x21, 0xA1, 0x07, 0x00, 1, 0], 0, 1);
+    take(&[8, 0, 0x17, 0, 0, 0, 0, 0, 0, 0, 0, 0], 0, 1);
+    take(&[8, 0, 0x17, 0, 0, 0, 0, 0, 1, 0, 0, 1], 0, 1);
+    take(&[8, 0, 0x17, 0, 0, 0, 0, 0x80, 1, 0, 0, 0], 0, 1);
 }
 
 pub fn lines() {

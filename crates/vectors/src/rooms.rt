@@ -289,6 +289,53 @@ fn odd_tick_lines() {
     end_line();
 }
 
+// Both runs after so many ticks beyond every threshold, and whether each fault is due.
+fn say_repeat(s: Settings, n: u32) {
+    let runs = protection::no_runs();
+    let judged = runs.ticked(s, -500000, n);
+    let next = judged.runs;
+    let up = judged.risen;
+    say(next.scd as u64);
+    say(next.ocd as u64);
+    say_bool(up.scd);
+    say_bool(up.ocd);
+}
+
+fn repeat_lines(scd: u8, ocd: u8, control: u8) {
+    let s = wrote(0x06, scd);
+    let s = s.write(0x07, ocd);
+    let s = s.write(0x05, control);
+    io::write_all(1, b"repeat");
+    say_repeat(s, 0);
+    say_repeat(s, 1);
+    say_repeat(s, 3);
+    say_repeat(s, 13);
+    say_repeat(s, 255);
+    say_repeat(s, 256);
+    say_repeat(s, 40959);
+    say_repeat(s, 40960);
+    say_repeat(s, 4294967295);
+    end_line();
+}
+
+// A run that goes on with repeated ticks, and one that they end.
+fn again_lines(first: u32, second: u32) {
+    let s = settings::reset();
+    let none = protection::no_runs();
+    let judged = none.ticked(s, -500000, first);
+    let runs = judged.runs;
+    let more = runs.ticked(s, -500000, second);
+    let next = more.runs;
+    let ended = runs.ticked(s, 0, second);
+    let over = ended.runs;
+    io::write_all(1, b"again");
+    say(next.scd as u64);
+    say(next.ocd as u64);
+    say(over.scd as u64);
+    say(over.ocd as u64);
+    end_line();
+}
+
 // Whether the last of three writes of SYS_CTRL1 ships.
 fn ship_lines(first: u8, second: u8, third: u8) {
     let s = wrote(0x04, first);
@@ -424,6 +471,13 @@ pub fn run() {
     scd_limit_lines();
     ocd_limit_lines();
     odd_tick_lines();
+    repeat_lines(0x00, 0x00, 0x00);
+    repeat_lines(0x18, 0x70, 0x00);
+    repeat_lines(0x18, 0x70, 0x80);
+    again_lines(0, 0);
+    again_lines(5, 7);
+    again_lines(40959, 1);
+    again_lines(16777216, 16777216);
     ship_lines(0x00, 0x01, 0x02);
     ship_lines(0x01, 0x01, 0x02);
     ship_lines(0x11, 0x10, 0x12);

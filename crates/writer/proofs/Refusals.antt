@@ -2,7 +2,7 @@
 -- Assumes nothing.
 use mathlib.Core.Path.{_≡_, refl, ap, sym, _∙_, subst}
 use Prim.Native.Nat.{ℕ}
-use mathlib.Core.List.{List, [], _∷_}
+use mathlib.Core.List.{List, [], _∷_, _++_}
 use mathlib.Core.Bool.{Bool, true, false, cond, _&&_}
 use lib.IntN.{ℤ}
 use lib.Dec.{leb, eqb}
@@ -43,6 +43,10 @@ at-record k old {r} {new} q p = subst (λ (e : Event). Writes (recordFor e k) ol
 
 pub at-bits : {old new : List ℕ} {r : Wrote} {u : ℕ} {y z : ℤ} → u ≡ bits32 y → y ≡ z → Writes (recordOf 6 (bytes32 u)) old r new → Writes (recordOf 6 (bytes32 (bits32 z))) old r new
 at-bits {old} {new} {r} q e p = subst (λ (u : ℕ). Writes (recordOf 6 (bytes32 u)) old r new) (q ∙ ap bits32 e) p
+
+pub at-ticks : (kind : ℕ) (tail : List ℕ) {old new : List ℕ} {r : Wrote} {u : ℕ} {y z : ℤ} → u ≡ bits32 y → y ≡ z
+    → Writes (recordOf kind (bytes32 u ++ tail)) old r new → Writes (recordOf kind (bytes32 (bits32 z) ++ tail)) old r new
+at-ticks kind tail {old} {new} {r} q e p = subst (λ (u : ℕ). Writes (recordOf kind (bytes32 u ++ tail)) old r new) (q ∙ ap bits32 e) p
 
 pub at-bit : (kind : ℕ) (t : Bool) {old new : List ℕ} {r : Wrote} {n : ℕ} → n ≡ bitOf t → Writes (recordOf kind (n ∷ [])) old r new → Writes (recordOf kind (bitOf t ∷ [])) old r new
 at-bit kind t {old} {new} {r} q p = subst (λ (n : ℕ). Writes (recordOf kind (n ∷ [])) old r new) q p

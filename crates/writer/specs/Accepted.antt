@@ -8,7 +8,7 @@ use lib.Dec.{leb}
 use Rattle.events.specs.Event.{countsWanted, countsFit}
 use Rattle.events.specs.declared.Counts.{Counts}
 use Rattle.events.specs.declared.Event.{Event}
-use Rattle.events.specs.declared.Event.the-variants.{Setup as Setup-, Por, Boot, Scan, Temp, Count, Sense, Pin, Load, Xready, OnBus, Level, Wires}
+use Rattle.events.specs.declared.Event.the-variants.{Setup as Setup-, Por, Boot, Scan, Temp, Count, Sense, Pin, Load, Xready, OnBus, Level, Ticks, Soak, Wires}
 use Rattle.checks.specs.Counted.{fit-is}
 use Rattle.records.specs.Record.{standing}
 use Rattle.records.specs.Counted.{few-groups, few-inputs}
@@ -28,6 +28,8 @@ wanted-few part (Load l) = omega arith
 wanted-few part Xready = omega arith
 wanted-few part (OnBus b) = omega arith
 wanted-few part (Level l) = omega arith
+wanted-few part (Ticks v n) = omega arith
+wanted-few part (Soak v n) = omega arith
 wanted-few part (Wires n) = omega arith
 
 pub record Accepted (e : Event) (k : Counts) (part : ℕ) : Type 0 where

@@ -3,7 +3,7 @@
 use mathlib.Core.Path.{_≡_, refl, ap, ap₂, sym, _∙_, subst}
 use Prim.Native.Nat.{ℕ, suc, zero, _+_, _-_, _*_, _/_, _%_, _<_, _≤_}
 use mathlib.Core.List.{List, [], _∷_}
-use mathlib.Core.Bool.{Bool, true, false, cond, _&&_}
+use mathlib.Core.Bool.{Bool, true, false, cond, _&&_, true≢false}
 use native.Mathlib.Omega.{arith}
 use lib.Dec.{leb, eqb}
 use lib.IntN.{ℤ}
@@ -11,17 +11,16 @@ use lib.ListN.{length, getD, take, drop, length-drop}
 use lib.Seq.{length-take-le}
 use borrow.Author.Tests.{le-leb, eqb-true, ne-eqb}
 use Rattle.events.specs.Setup.{setupFits, checkedOf}
-use Rattle.events.specs.Event.{within, countMost, senseFits, fits, countsWanted, countsFit, Meant, means, unfit, eventOf, meantOf}
-use Rattle.events.specs.Event.{Event as Meant-event}
+use Rattle.events.specs.Event.{within, countMost, senseFits, ticksMost, soakMost, ticksFit, fits, countsWanted, countsFit, Meant, unfit, eventOf, meantOf, inRange}
 use Rattle.events.specs.declared.Setup.{Setup as SetupValues}
 use Rattle.events.specs.declared.Counts.{Counts}
 use Rattle.events.specs.declared.BusEvent.the-variants.{Start, Out, In, Stop}
 use Rattle.events.specs.declared.Event.{Event}
-use Rattle.events.specs.declared.Event.the-variants.{Setup, Por, Boot, Scan, Temp, Count, Sense, Pin, Load, Xready, OnBus, Level, Wires}
+use Rattle.events.specs.declared.Event.the-variants.{Setup, Por, Boot, Scan, Temp, Count, Sense, Pin, Load, Xready, OnBus, Level, Ticks, Soak, Wires}
 use Rattle.wiring.specs.Rows.{hasRow}
-use Rattle.records.specs.Kind.{SETUP, POR, BOOT, SCAN, TEMP, COUNT, SENSE, PIN, LOAD, XREADY, START, OUT, IN, STOP, LEVEL, WIRES}
+use Rattle.records.specs.Kind.{SETUP, POR, BOOT, SCAN, TEMP, COUNT, SENSE, PIN, LOAD, XREADY, START, OUT, IN, STOP, LEVEL, TICKS, SOAK, WIRES}
 use Rattle.records.specs.Numbers.{le16, le32, signed32, bitOf, words}
-use Rattle.records.specs.Record.{setupGood, checkedIn, setupIn, countedIn, senseOf, groupsAt, inputsAt, standing, laterOf, payloadOf, readOf, countsOf, countsIn, countsBeside}
+use Rattle.records.specs.Record.{setupGood, checkedIn, setupIn, countedIn, senseOf, repeatOf, ticksOf, soakOf, groupsAt, inputsAt, standing, laterOf, payloadOf, readOf, countsOf, countsIn, countsBeside}
 use Rattle.records.specs.Counted.{many-is, counts-taken, few-groups, few-inputs}
 use Rattle.records.specs.Reading.{WholeAt, read-whole, later-by, cond-by}
 use Rattle.records.specs.Sound.{bit-back, crc-back, and-left, IsSetup, first-setup, Meaning, isWires, later-means}
@@ -29,7 +28,7 @@ use Rattle.records.specs.declared.Payload.{Payload}
 use Rattle.records.specs.declared.Payload.the-variants.{Whole, Unfit}
 use Rattle.records.specs.declared.Read.the-variants.{Record}
 use Rattle.writer.specs.Write.{bytes16, wordBytes, recordOf, kindFor, payloadFor, countBytes, recordFor, partFor, valueRefusal, refusalFor}
-use Rattle.writer.specs.Bytes.{Bytes, byte-first, byte-rest, bytes-drop, bytes-take, low-forth, high-forth, words-forth, none-forth, one-forth, two-forth, four-forth}
+use Rattle.writer.specs.Bytes.{Bytes, byte-first, byte-rest, bytes-drop, bytes-take, low-forth, high-forth, words-forth, none-forth, one-forth, two-forth, four-forth, six-forth, eight-forth}
 use Rattle.checks.specs.Counted.{fit-is}
 use Rattle.writer.specs.Accepted.{Accepted, not-refused}
 
@@ -48,7 +47,7 @@ module _ (b : List ℕ) (h : Bytes b) where
   switch-forth l f = ap (λ (x : ℕ). x ∷ []) (bit-back (getD b 0 0) f) ∙ one-forth b l
 
   later-same : (part kind : ℕ) → Same b kind (laterOf kind part b)
-  unfolding countedIn senseOf countsIn
+  unfolding countedIn senseOf repeatOf countsIn
   later-same part kind =
       later-by (Same b) part b
       (sized POR 0 (Whole Por) (λ l. (refl, none-forth b l)))
@@ -65,6 +64,8 @@ module _ (b : List ℕ) (h : Bytes b) where
       (sized IN 1 (cond bit (Whole (OnBus (In level))) (Unfit 3)) (λ l. ranged IN bit (Whole (OnBus (In level))) (λ f. (refl, switch-forth l f))))
       (sized STOP 0 (Whole (OnBus Stop)) (λ l. (refl, none-forth b l)))
       (sized LEVEL 1 (cond bit (Whole (Level level)) (Unfit 3)) (λ l. ranged LEVEL bit (Whole (Level level)) (λ f. (refl, switch-forth l f))))
+      (sized TICKS 6 (repeatOf ticksOf ticksMost (le32 b 0) (le16 b 4)) (λ l. ranged TICKS (ticksFit ticksMost value (le16 b 4)) (Whole (Ticks value (le16 b 4))) (λ f. (refl, six-forth b l h))))
+      (sized SOAK 8 (repeatOf soakOf soakMost (le32 b 0) (le32 b 4)) (λ l. ranged SOAK (ticksFit soakMost value (le32 b 4)) (Whole (Soak value (le32 b 4))) (λ f. (refl, eight-forth b l h))))
       (sized WIRES 1 (Whole (Wires (getD b 0 0))) (λ l. (refl, one-forth b l)))
       (λ (k : ℕ). tt)
       kind
@@ -178,55 +179,58 @@ setup-accepted (Load l) part b h = absurd h
 setup-accepted Xready part b h = absurd h
 setup-accepted (OnBus x) part b h = absurd h
 setup-accepted (Level l) part b h = absurd h
+setup-accepted (Ticks v n) part b h = absurd h
+setup-accepted (Soak v n) part b h = absurd h
 setup-accepted (Wires n) part b h = absurd h
 
-meant-by : (t : Bool) (x : Meant) (ev : Meant-event) → cond t x unfit ≡ means ev → (t ≡ true) × (x ≡ means ev)
-meant-by true x ev h = (refl, h)
-meant-by false x ev h = absurd (let z : _≡_ {A = ℕ} 0 1 = cc in omega arith)
-
-fits-as : (x ev : Meant-event) → means x ≡ means ev → fits ev ≡ true → fits x ≡ true
-fits-as x ev h f = subst (λ (y : Meant-event). fits y ≡ true) (let q : ev ≡ x = cc in q) f
+meant-by : (t : Bool) (x : Meant) → inRange (cond t x unfit) ≡ true → (t ≡ true) × (inRange x ≡ true)
+meant-by true x h = (refl, h)
+meant-by false x h = absurd (true≢false (sym h))
 
 module _ (k : Counts) (part : ℕ) where
   counts-value : (n : ℕ) → countsFit n k ≡ true → within countMost (take n (k .of)) ≡ true → _≡_ {A = ℕ} (cond (within countMost (take (k .many) (k .of))) 0 3) 0
   counts-value n c f = let w : within countMost (take (k .many) (k .of)) ≡ true = ap (λ (i : ℕ). within countMost (take i (k .of))) (fit-is n k c .0) ∙ f in simp w
 
-  value-fits : (e : Event) (ev : Meant-event) → countsFit (countsWanted (standing part) e) k ≡ true → eventOf (standing part) e (k .of) ≡ means ev → fits ev ≡ true → valueRefusal e k part ≡ 0
+  value-fits : (e : Event) → countsFit (countsWanted (standing part) e) k ≡ true → inRange (eventOf (standing part) e (k .of)) ≡ true → valueRefusal e k part ≡ 0
   unfolding valueRefusal fits
-  value-fits (Setup v) ev c m f = absurd (let z : _≡_ {A = ℕ} 0 1 = cc in omega arith)
-  value-fits Por ev c m f = refl
-  value-fits Boot ev c m f = refl
-  value-fits Scan ev c m f = counts-value (inputsAt part) c (fits-as _ ev m f)
-  value-fits Temp ev c m f = counts-value (groupsAt part) c (fits-as _ ev m f)
-  value-fits (Count n) ev c m f = refl
-  value-fits (Sense v) ev c m f = let s : senseFits v ≡ true = fits-as _ ev m f in simp s
-  value-fits Pin ev c m f = refl
-  value-fits (Load l) ev c m f = refl
-  value-fits Xready ev c m f = refl
-  value-fits (OnBus b) ev c m f = refl
-  value-fits (Level l) ev c m f = refl
-  value-fits (Wires n) ev c m f = absurd (let z : _≡_ {A = ℕ} 0 1 = cc in omega arith)
+  value-fits (Setup v) c f = absurd (true≢false (sym f))
+  value-fits Por c f = refl
+  value-fits Boot c f = refl
+  value-fits Scan c f = counts-value (inputsAt part) c f
+  value-fits Temp c f = counts-value (groupsAt part) c f
+  value-fits (Count n) c f = refl
+  value-fits (Sense v) c f = simp f
+  value-fits Pin c f = refl
+  value-fits (Load l) c f = refl
+  value-fits Xready c f = refl
+  value-fits (OnBus b) c f = refl
+  value-fits (Level l) c f = refl
+  value-fits (Ticks v n) c f = simp f
+  value-fits (Soak v n) c f = simp f
+  value-fits (Wires n) c f = absurd (true≢false (sym f))
 
-  stood : (e : Event) → leb 1 part && leb part 3 ≡ true → (ev : Meant-event) → countsFit (countsWanted (standing part) e) k ≡ true → eventOf (standing part) e (k .of) ≡ means ev → leb 1 (partFor e part) && leb (partFor e part) 3 ≡ true
-  stood (Setup v) p ev c m = absurd (let z : _≡_ {A = ℕ} 0 1 = cc in omega arith)
-  stood Por p ev c m = p
-  stood Boot p ev c m = p
-  stood Scan p ev c m = p
-  stood Temp p ev c m = p
-  stood (Count n) p ev c m = p
-  stood (Sense v) p ev c m = p
-  stood Pin p ev c m = p
-  stood (Load l) p ev c m = p
-  stood Xready p ev c m = p
-  stood (OnBus b) p ev c m = p
-  stood (Level l) p ev c m = p
-  stood (Wires n) p ev c m = p
+  stood : (e : Event) → leb 1 part && leb part 3 ≡ true → inRange (eventOf (standing part) e (k .of)) ≡ true → leb 1 (partFor e part) && leb (partFor e part) 3 ≡ true
+  stood (Setup v) p f = absurd (true≢false (sym f))
+  stood Por p f = p
+  stood Boot p f = p
+  stood Scan p f = p
+  stood Temp p f = p
+  stood (Count n) p f = p
+  stood (Sense v) p f = p
+  stood Pin p f = p
+  stood (Load l) p f = p
+  stood Xready p f = p
+  stood (OnBus b) p f = p
+  stood (Level l) p f = p
+  stood (Ticks v n) p f = p
+  stood (Soak v n) p f = p
+  stood (Wires n) p f = p
 
   later-accepted : (e : Event) → leb 1 part && leb part 3 ≡ true → Meaning (standing part) e k → Accepted e k part
   unfolding meantOf
   later-accepted e p g =
-      let m : (countsFit (countsWanted (standing part) e) k ≡ true) × (eventOf (standing part) e (k .of) ≡ means (g .event)) = meant-by _ _ (g .event) (g .meant) in
-      record { part-fits = stood e p (g .event) (m .0) (m .1); counts-fit = m .0; values-fit = value-fits e (g .event) (m .0) (m .1) (g .fit) }
+      let m : (countsFit (countsWanted (standing part) e) k ≡ true) × (inRange (eventOf (standing part) e (k .of)) ≡ true) = meant-by _ _ g in
+      record { part-fits = stood e p (m .1); counts-fit = m .0; values-fit = value-fits e (m .0) (m .1) }
 
 accepted-at : (part : ℕ) (r : List ℕ) (e : Event) (next : ℕ) → part ≤ 3 → isWires e ≡ false → readOf part r ≡ Record e next → Accepted e (countsBeside r (Record e next)) part
 accepted-at zero r e next h w ok = setup-accepted e zero (take (next - 4) (drop 4 r)) (first-setup r e next ok)

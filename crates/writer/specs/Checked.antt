@@ -8,7 +8,7 @@ use lib.ListN.{take}
 use Rattle.events.specs.Event.{within, countMost, fits, countsWanted, countsFit, Meant, unfit, eventOf, meantOf}
 use Rattle.events.specs.declared.Counts.{Counts}
 use Rattle.events.specs.declared.Event.{Event}
-use Rattle.events.specs.declared.Event.the-variants.{Setup, Por, Boot, Scan, Temp, Count, Sense, Pin, Load, Xready, OnBus, Level, Wires}
+use Rattle.events.specs.declared.Event.the-variants.{Setup, Por, Boot, Scan, Temp, Count, Sense, Pin, Load, Xready, OnBus, Level, Ticks, Soak, Wires}
 use Rattle.checks.specs.Refusal.{refusalOf}
 use Rattle.checks.specs.Counted.{fit-is}
 use Rattle.records.specs.Record.{standing}
@@ -31,6 +31,8 @@ other (Load l) = true
 other Xready = true
 other (OnBus b) = true
 other (Level l) = true
+other (Ticks v n) = true
+other (Soak v n) = true
 other (Wires n) = false
 
 by-counts : (t : Bool) (m : Meant) → refusalOf (cond t m unfit) ≡ cond t (refusalOf m) 2
@@ -61,6 +63,8 @@ numbers-same (Load l) k part o = refl
 numbers-same Xready k part o = refl
 numbers-same (OnBus b) k part o = refl
 numbers-same (Level l) k part o = refl
+numbers-same (Ticks v n) k part o = refl
+numbers-same (Soak v n) k part o = refl
 numbers-same (Wires n) k part o = cc
 
 pub refusal-is : (e : Event) (k : Counts) (part : ℕ) → other e ≡ true → refusalAt e k part ≡ refusalFor e k part

@@ -12,15 +12,15 @@ use lib.Seq.{take-append-seam, length-take-le}
 use native.Mathlib.Nat.{zero-add}
 use borrow.Author.Tests.{le-ltb, ne-eqb, eq-eqb, leb-true, eqb-true}
 use Rattle.events.specs.Setup.{setupFits, setupOf, checkedOf}
-use Rattle.events.specs.Event.{within, countMost, countsFit}
+use Rattle.events.specs.Event.{within, countMost, ticksMost, soakMost, countsFit}
 use Rattle.events.specs.declared.Setup.{Setup as SetupValues}
 use Rattle.events.specs.declared.Counts.{Counts}
 use Rattle.events.specs.declared.Checked.the-variants.{Good}
 use Rattle.events.specs.declared.BusEvent.the-variants.{Start, Out, In, Stop}
 use Rattle.events.specs.declared.Event.{Event}
-use Rattle.events.specs.declared.Event.the-variants.{Setup, Por, Boot, Scan, Temp, Count, Sense, Pin, Load, Xready, OnBus, Level, Wires}
+use Rattle.events.specs.declared.Event.the-variants.{Setup, Por, Boot, Scan, Temp, Count, Sense, Pin, Load, Xready, OnBus, Level, Ticks, Soak, Wires}
 use Rattle.records.specs.Numbers.{bitOf, filled}
-use Rattle.records.specs.Record.{setupGood, checkedIn, setupIn, countedIn, groupsAt, inputsAt, laterOf, payloadOf, asRead, readOf, noCounts, countsOf, countsIn, countsBeside, takenFrom, takenAt}
+use Rattle.records.specs.Record.{setupGood, checkedIn, setupIn, countedIn, ticksOf, soakOf, groupsAt, inputsAt, laterOf, payloadOf, asRead, readOf, noCounts, countsOf, countsIn, countsBeside, takenFrom, takenAt}
 use Rattle.records.specs.Counted.{many-is}
 use Rattle.records.specs.Reading.{taken-moved}
 use Rattle.records.specs.Sound.{and-left, and-right}
@@ -29,7 +29,7 @@ use Rattle.records.specs.declared.Read.the-variants.{Record}
 use Rattle.records.specs.declared.Taken.{Taken}
 use Rattle.writer.specs.Write.{bits32, wordBytes, recordOf, kindFor, payloadFor, countBytes, recordFor, valueRefusal, refusalFor, writtenOf, Puts}
 use Rattle.writer.specs.declared.Wrote.the-variants.{Done, Refused}
-use Rattle.writer.specs.Bytes.{back16, back32, words-length, words-back, bit-same, sense-back}
+use Rattle.writer.specs.Bytes.{back16, back32, words-length, words-back, bit-same, sense-back, ticks-back}
 use Rattle.checks.specs.Counted.{fit-is}
 use Rattle.writer.specs.Accepted.{wanted-few, Accepted, accepted}
 
@@ -47,6 +47,8 @@ standsFor (Load l) part = part
 standsFor Xready part = part
 standsFor (OnBus b) part = part
 standsFor (Level l) part = part
+standsFor (Ticks v n) part = part
+standsFor (Soak v n) part = part
 standsFor (Wires n) part = part
 
 -- the frame of a record, whatever follows it
@@ -114,6 +116,11 @@ payload-back (OnBus (In false)) k part a l = simp (ne-eqb part 0 (stands part (a
 payload-back (OnBus Stop) k part a l = simp (ne-eqb part 0 (stands part (a .part-fits)))
 payload-back (Level true) k part a l = simp (ne-eqb part 0 (stands part (a .part-fits)))
 payload-back (Level false) k part a l = simp (ne-eqb part 0 (stands part (a .part-fits)))
+payload-back (Ticks z n) k part a l =
+    simp (ne-eqb part 0 (stands part (a .part-fits)), back16 (bits32 z % 65536), back16 (bits32 z / 65536), back32 (bits32 z), back16 n) (ticks-back ticksOf ticksMost z n (picked 2 _ (a .values-fit)))
+payload-back (Soak z n) k part a l =
+    simp (ne-eqb part 0 (stands part (a .part-fits)), back16 (bits32 z % 65536), back16 (bits32 z / 65536), back32 (bits32 z), back16 (n % 65536), back16 (n / 65536), back32 n)
+    (ticks-back soakOf soakMost z n (picked 2 _ (a .values-fit)))
 payload-back (Wires n) k part a l = simp (ne-eqb part 0 (stands part (a .part-fits)))
 
 payload-short : (e : Event) (k : Counts) (part : ℕ) → Accepted e k part → length (k .of) ≡ 15 → length (payloadFor e k) < 65536
@@ -132,6 +139,8 @@ payload-short (OnBus (Out b)) k part a l = omega arith
 payload-short (OnBus (In t)) k part a l = omega arith
 payload-short (OnBus Stop) k part a l = omega arith
 payload-short (Level t) k part a l = omega arith
+payload-short (Ticks z n) k part a l = omega arith
+payload-short (Soak z n) k part a l = omega arith
 payload-short (Wires n) k part a l = omega arith
 
 -- ── and the counts as they were ──
@@ -190,6 +199,8 @@ counts-back (Load t) k part a l = none-back k 0 (a .counts-fit) l refl
 counts-back Xready k part a l = none-back k 0 (a .counts-fit) l refl
 counts-back (OnBus b) k part a l = none-back k 0 (a .counts-fit) l refl
 counts-back (Level t) k part a l = none-back k 0 (a .counts-fit) l refl
+counts-back (Ticks z n) k part a l = none-back k 0 (a .counts-fit) l refl
+counts-back (Soak z n) k part a l = none-back k 0 (a .counts-fit) l refl
 counts-back (Wires n) k part a l = none-back k 0 (a .counts-fit) l refl
 
 -- ── THE ROUND TRIP ──

@@ -6,14 +6,14 @@ use mathlib.Core.Bool.{cond, _&&_}
 use lib.ListN.{length, take, drop}
 use lib.Dec.{leb, eqb}
 use lib.IntN.{ℤ, pos, negsuc}
-use Rattle.events.specs.Event.{within, countMost, senseFits, countsWanted, countsFit}
+use Rattle.events.specs.Event.{within, countMost, senseFits, ticksMost, soakMost, ticksFit, countsWanted, countsFit}
 use Rattle.events.specs.declared.Setup.{Setup as SetupValues}
 use Rattle.events.specs.declared.Counts.{Counts}
 use Rattle.events.specs.declared.BusEvent.the-variants.{Start, Out, In, Stop}
 use Rattle.events.specs.declared.Event.{Event}
-use Rattle.events.specs.declared.Event.the-variants.{Setup, Por, Boot, Scan, Temp, Count, Sense, Pin, Load, Xready, OnBus, Level, Wires}
+use Rattle.events.specs.declared.Event.the-variants.{Setup, Por, Boot, Scan, Temp, Count, Sense, Pin, Load, Xready, OnBus, Level, Ticks, Soak, Wires}
 use Rattle.wiring.specs.Rows.{hasRow}
-use Rattle.records.specs.Kind.{SETUP, POR, BOOT, SCAN, TEMP, COUNT, SENSE, PIN, LOAD, XREADY, START, OUT, IN, STOP, LEVEL, WIRES}
+use Rattle.records.specs.Kind.{SETUP, POR, BOOT, SCAN, TEMP, COUNT, SENSE, PIN, LOAD, XREADY, START, OUT, IN, STOP, LEVEL, TICKS, SOAK, WIRES}
 use Rattle.records.specs.Numbers.{bitOf}
 use Rattle.records.specs.Record.{setupGood, standing}
 use Rattle.writer.specs.declared.Wrote.{Wrote}
@@ -56,6 +56,8 @@ kindFor (OnBus (Out b)) = OUT
 kindFor (OnBus (In n)) = IN
 kindFor (OnBus Stop) = STOP
 kindFor (Level l) = LEVEL
+kindFor (Ticks v n) = TICKS
+kindFor (Soak v n) = SOAK
 kindFor (Wires n) = WIRES
 
 -- part, CRC, address, gain code, offset (1 each), floor (2)
@@ -83,6 +85,8 @@ payloadFor (OnBus (Out b)) k = b ∷ []
 payloadFor (OnBus (In n)) k = bitOf n ∷ []
 payloadFor (OnBus Stop) k = []
 payloadFor (Level l) k = bitOf l ∷ []
+payloadFor (Ticks v n) k = bytes32 (bits32 v) ++ bytes16 n
+payloadFor (Soak v n) k = bytes32 (bits32 v) ++ bytes32 n
 payloadFor (Wires n) k = n ∷ []
 
 unfoldable pub recordFor : Event → Counts → List ℕ
@@ -103,6 +107,8 @@ partFor (Load l) part = part
 partFor Xready part = part
 partFor (OnBus b) part = part
 partFor (Level l) part = part
+partFor (Ticks v n) part = part
+partFor (Soak v n) part = part
 partFor (Wires n) part = part
 
 -- 1 for a value of SETUP out of range, 13 for a number of cells that the part has no row for, 3 for another
@@ -119,6 +125,8 @@ valueRefusal (Load l) k part = 0
 valueRefusal Xready k part = 0
 valueRefusal (OnBus b) k part = 0
 valueRefusal (Level l) k part = 0
+valueRefusal (Ticks v n) k part = cond (ticksFit ticksMost v n) 0 3
+valueRefusal (Soak v n) k part = cond (ticksFit soakMost v n) 0 3
 valueRefusal (Wires n) k part = cond (hasRow part n) 0 13
 
 -- the number that an event is refused with at a part, or 0

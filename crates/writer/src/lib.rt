@@ -1,7 +1,7 @@
 // Records, written: an event's record at a part, or the number it is refused with.
 ghost use mathlib.Core.Path.{_≡_};
 ghost use Prim.Native.Nat.{_*_, _≤_};
-ghost use mathlib.Core.List.{[], _∷_};
+ghost use mathlib.Core.List.{[], _∷_, _++_};
 ghost use lib.ListN.{length, take};
 ghost use Rattle.events.specs.declared.Event.the-variants.{Setup as SetupEvent, OnBus, Wires};
 ghost use Rattle.records.specs.Numbers.{bitOf};
@@ -106,6 +106,48 @@ fn write_long(out: &mut [u8], kind: u16, u: u32) -> Wrote
     out[6] = (u / 65536 % 256) as u8;
     out[7] = (u / 65536 / 256) as u8;
     Wrote::Done(8)
+}
+
+// A record whose payload is a number of 4 bytes and one of 2.
+fn write_ticks(out: &mut [u8], kind: u16, u: u32, n: u16) -> Wrote
+    ensures { λ r. ⌜ Writes (recordOf kind (bytes32 u ++ bytes16 n)) (now (out .entry)) r (now (out .exit)) ⌝ }
+{
+    if out.len() < 10 {
+        return Wrote::Refused(5);
+    }
+    out[0] = 6;
+    out[1] = 0;
+    out[2] = (kind % 256) as u8;
+    out[3] = (kind / 256) as u8;
+    out[4] = (u % 65536 % 256) as u8;
+    out[5] = (u % 65536 / 256) as u8;
+    out[6] = (u / 65536 % 256) as u8;
+    out[7] = (u / 65536 / 256) as u8;
+    out[8] = (n % 256) as u8;
+    out[9] = (n / 256) as u8;
+    Wrote::Done(10)
+}
+
+// A record whose payload is two numbers of 4 bytes.
+fn write_soak(out: &mut [u8], kind: u16, u: u32, n: u32) -> Wrote
+    ensures { λ r. ⌜ Writes (recordOf kind (bytes32 u ++ bytes32 n)) (now (out .entry)) r (now (out .exit)) ⌝ }
+{
+    if out.len() < 12 {
+        return Wrote::Refused(5);
+    }
+    out[0] = 8;
+    out[1] = 0;
+    out[2] = (kind % 256) as u8;
+    out[3] = (kind / 256) as u8;
+    out[4] = (u % 65536 % 256) as u8;
+    out[5] = (u % 65536 / 256) as u8;
+    out[6] = (u / 65536 % 256) as u8;
+    out[7] = (u / 65536 / 256) as u8;
+    out[8] = (n % 65536 % 256) as u8;
+    out[9] = (n % 65536 / 256) as u8;
+    out[10] = (n / 65536 % 256) as u8;
+    out[11] = (n / 65536 / 256) as u8;
+    Wrote::Done(12)
 }
 
 // SETUP's record.
@@ -234,6 +276,8 @@ fn refusal(event: Event, counts: Counts, part: u8) -> u8
         Event::Xready => refusal_at(event, counts, part),
         Event::OnBus(_) => refusal_at(event, counts, part),
         Event::Level(_) => refusal_at(event, counts, part),
+        Event::Ticks(_, _) => refusal_at(event, counts, part),
+        Event::Soak(_, _) => refusal_at(event, counts, part),
         Event::Wires(cells) => wires_refusal(cells, counts, part),
     }
 }
@@ -267,6 +311,8 @@ fn put_event(event: Event, counts: Counts, out: &mut [u8]) -> Wrote
         Event::Xready => write_bare(out, 0x0009),
         Event::OnBus(bus) => put_bus(bus, out),
         Event::Level(level) => write_byte(out, 0x0015, bit_of(level)),
+        Event::Ticks(v, n) => write_ticks(out, 0x0014, bits_of(v), n),
+        Event::Soak(v, n) => write_soak(out, 0x0017, bits_of(v), n),
         Event::Wires(cells) => write_byte(out, 0x0016, cells),
     }
 }

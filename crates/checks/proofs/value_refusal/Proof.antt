@@ -4,7 +4,7 @@ use mir.Syntax.{w32}
 use mir.Val.{toZ, ofZ}
 use Prim.Native.Nat.{ℕ}
 use lib.ListN.{take}
-use Rattle.events.specs.Event.{within, countMost, senseFits, fits}
+use Rattle.events.specs.Event.{within, countMost, senseFits, fits, ticksMost, soakMost, ticksFit}
 use Rattle.checks.proofs.Looks.{at-event, pick-true, pick-false}
 use borrow.Author.Needs.{needs}
 use Rattle.checks.proofs.value_refusal.Statement.{statement}
@@ -70,7 +70,19 @@ unfolding fits
 returns-15 c = let a = c .before .before in at-event (a .args .setup) (a .args .of) (c .enum-told11 .given .1) refl
 
 returns-16 : tie.Need-returns-16
-returns-16 c = let a = c .before .before in at-event (a .args .setup) (a .args .of) (c .enum-told12 .given .1) refl
+returns-16 c = let g = c .before .before .before in let a = g .before .before in let z = g .event2 .given .0 .0 in let e : toZ w32 (ofZ w32 z) ≡ z = search needs in at-event (a .args .setup) (a .args .of) (g .event2 .given .1) (pick-true (c .before .ticks-fit .ensures ∙ ap (λ z. ticksFit ticksMost z (g .event2 .given .0 .1 .0)) e) (c .if4 .taken))
+
+returns-17 : tie.Need-returns-17
+returns-17 c = let g = c .before .before .before in let a = g .before .before in let z = g .event2 .given .0 .0 in let e : toZ w32 (ofZ w32 z) ≡ z = search needs in at-event (a .args .setup) (a .args .of) (g .event2 .given .1) (pick-false (c .before .ticks-fit .ensures ∙ ap (λ z. ticksFit ticksMost z (g .event2 .given .0 .1 .0)) e) (c .if4 .left))
+
+returns-18 : tie.Need-returns-18
+returns-18 c = let g = c .before .before .before in let a = g .before .before in let z = g .event3 .given .0 .0 in let e : toZ w32 (ofZ w32 z) ≡ z = search needs in at-event (a .args .setup) (a .args .of) (g .event3 .given .1) (pick-true (c .before .ticks-fit2 .ensures ∙ ap (λ z. ticksFit soakMost z (g .event3 .given .0 .1 .0)) e) (c .if5 .taken))
+
+returns-19 : tie.Need-returns-19
+returns-19 c = let g = c .before .before .before in let a = g .before .before in let z = g .event3 .given .0 .0 in let e : toZ w32 (ofZ w32 z) ≡ z = search needs in at-event (a .args .setup) (a .args .of) (g .event3 .given .1) (pick-false (c .before .ticks-fit2 .ensures ∙ ap (λ z. ticksFit soakMost z (g .event3 .given .0 .1 .0)) e) (c .if5 .left))
+
+returns-20 : tie.Need-returns-20
+returns-20 c = let a = c .before .before in at-event (a .args .setup) (a .args .of) (c .enum-told12 .given .1) refl
 
 pub value-refusal-spec : {M : Type 1} → statement M
 value-refusal-spec =
@@ -94,6 +106,11 @@ value-refusal-spec =
     (λ c. search needs)
     (λ c. search needs)
     (λ c. search needs)
+    (λ c. search needs)
+    (λ c κs. search needs)
+    (λ c. search needs)
+    (λ c κs. search needs)
+    (λ c. search needs)
     returns
     returns-2
     returns-3
@@ -109,4 +126,8 @@ value-refusal-spec =
     returns-13
     returns-14
     returns-15
-    returns-16)
+    returns-16
+    returns-17
+    returns-18
+    returns-19
+    returns-20)

@@ -57,10 +57,22 @@ returns-13 : tie.Need-returns-13
 unfolding countsIn
 returns-13 c = at-counts (c .before .before .before .before .args .payload .now) (c .before .enum-told13 .given .1) (c .no-counts11 .ensures)
 
+returns-14 : tie.Need-returns-14
+unfolding countsIn
+returns-14 c = at-counts (c .before .before .before .before .args .payload .now) (c .before .enum-told14 .given .1) (c .no-counts12 .ensures)
+
+returns-15 : tie.Need-returns-15
+unfolding countsIn
+returns-15 c = at-counts (c .before .before .before .before .args .payload .now) (c .before .enum-told15 .given .1) (c .no-counts13 .ensures)
+
 pub counts-in-spec : {M : Type 1} → statement M
 counts-in-spec =
     tie.close
     (tie.spec
+    (λ c. search needs)
+    (λ c κs. search needs)
+    (λ c. search needs)
+    (λ c κs. search needs)
     (λ c. search needs)
     (λ c κs. search needs)
     (λ c. search needs)
@@ -99,4 +111,6 @@ counts-in-spec =
     returns-10
     returns-11
     returns-12
-    returns-13)
+    returns-13
+    returns-14
+    returns-15)

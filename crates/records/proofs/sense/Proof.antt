@@ -1,34 +1,29 @@
--- `sense` takes both ends of SENSE's range and no more, by the sign of the value (Ints).
-use mathlib.Core.Path.{refl}
-use Prim.Native.Nat.{_-_}
-use lib.Dec.{ltb}
-use native.Mathlib.Omega.{arith}
-use Rattle.records.proofs.Ints.{sense-low, sense-high, sense-out, minus-fits}
+-- `sense` takes SENSE's range and no more, by its callees.
+use mathlib.Core.Path.{_≡_, sym, _∙_}
+use mir.Syntax.{w32}
+use mir.Val.{toZ, ofZ}
+use Rattle.records.proofs.Ints.{sense-near, sense-far}
 use borrow.Author.Needs.{needs}
 use Rattle.records.proofs.sense.Statement.{statement}
 use Rattle.records.proofs.sense.Tie as tie
 
-returns : tie.Need-returns
-returns c = sense-low (c .before .args .u) (c .if1 .taken)
+signed-requires : tie.Need-signed-requires
+signed-requires c κs = sym (c .before .near .ensures) ∙ c .if1 .taken
 
-sub-t8 : tie.Need-sub-t8
-sub-t8 c = minus-fits (4294967295 - c .before .before .args .u) (omega arith)
+returns : tie.Need-returns
+returns c =
+    let n = c .before .before in
+    let e : toZ w32 (ofZ w32 (c .signed .result)) ≡ c .signed .result = search needs in
+    sense-near (n .before .args .u) _ (sym (n .near .ensures) ∙ c .before .if1 .taken) (e ∙ c .signed .ensures)
 
 returns-2 : tie.Need-returns-2
-returns-2 c = sense-high (c .before .before .args .u) (c .if2 .taken) (c .before .before .fits .u .fits)
-
-returns-3 : tie.Need-returns-3
-returns-3 c = sense-out (c .before .before .args .u) (c .before .if1 .left) (c .if2 .left) (ltb (c .before .before .args .u) 2147483648) refl
+returns-2 c = let n = c .before in sense-far (n .before .args .u) (sym (n .near .ensures) ∙ c .if1 .left)
 
 pub sense-spec : {M : Type 1} → statement M
 sense-spec =
     tie.close
     (tie.spec
-    (λ c. search needs)
+    (λ c κs. search needs)
+    signed-requires
     returns
-    (λ c. search needs)
-    (λ c. search needs)
-    (λ c. search needs)
-    sub-t8
-    returns-2
-    returns-3)
+    returns-2)

@@ -185,7 +185,7 @@ act-requires : tie.Need-act-requires Inv-loop μ-loop
 act-requires c κs =
     let p = c .before .before .before .before .before .before in
     let e = c .before .before .before .before .event .given .0 .0 in
-    (read p e (c .before .before .before .before .event .given .1), kinds p e (c .before .before .before .before .event .given .1) _ (sym (c .enum-told4 .given .1) ∙ c .before .before .work-of .ensures))
+    (read p e (c .before .before .before .before .event .given .1), (kinds p e (c .before .before .before .before .event .given .1) _ (sym (c .enum-told4 .given .1) ∙ c .before .before .work-of .ensures), head (was p) .loop .inv .0 .calm))
 
 -- what each way came to: the turn, and what is shown
 abbrev Came : (p : tie.After-payload-of Inv-loop μ-loop) → Chip → Bool → Face → Answer → Type 0

@@ -2,8 +2,9 @@
 use mathlib.Core.Path.{_≡_}
 use mir.Syntax.{w32}
 use mir.Val.{toZ, ofZ}
-use Rattle.writer.specs.Write.{recordFor}
-use Rattle.writer.proofs.Refusals.{at-record, at-bits, at-bit, at-bus}
+use Rattle.records.specs.Kind.{TICKS, SOAK}
+use Rattle.writer.specs.Write.{recordFor, bytes16, bytes32}
+use Rattle.writer.proofs.Refusals.{at-record, at-bits, at-ticks, at-bit, at-bus}
 use borrow.Author.Needs.{needs}
 use Rattle.writer.proofs.put_event.Statement.{statement}
 use Rattle.writer.proofs.put_event.Tie as tie
@@ -66,7 +67,25 @@ returns-12 c = let w = c .before .before in at-record _ _ (w .before .before .be
 
 returns-13 : tie.Need-returns-13
 unfolding recordFor
-returns-13 c = let w = c .before .before in at-record _ _ (w .before .before .before .event7 .given .1) (w .write-byte3 .ensures)
+returns-13 c =
+    let w = c .before .before in
+    let g = w .before .before .before .before in
+    let z = g .event7 .given .0 .0 in
+    let e : toZ w32 (ofZ w32 z) ≡ z = search needs in
+    at-record _ _ (g .event7 .given .1) (at-ticks TICKS (bytes16 (g .event7 .given .0 .1 .0)) {z = z} (w .before .bits-of2 .ensures) e (w .write-ticks .ensures))
+
+returns-14 : tie.Need-returns-14
+unfolding recordFor
+returns-14 c =
+    let w = c .before .before in
+    let g = w .before .before .before .before in
+    let z = g .event8 .given .0 .0 in
+    let e : toZ w32 (ofZ w32 z) ≡ z = search needs in
+    at-record _ _ (g .event8 .given .1) (at-ticks SOAK (bytes32 (g .event8 .given .0 .1 .0)) {z = z} (w .before .bits-of3 .ensures) e (w .write-soak .ensures))
+
+returns-15 : tie.Need-returns-15
+unfolding recordFor
+returns-15 c = let w = c .before .before in at-record _ _ (w .before .before .before .event9 .given .1) (w .write-byte3 .ensures)
 
 pub put-event-spec : {M : Type 1} → statement M
 put-event-spec =
@@ -101,6 +120,12 @@ put-event-spec =
     (λ c κs. search needs)
     (λ c. search needs)
     (λ c κs. search needs)
+    (λ c κs. search needs)
+    (λ c. search needs)
+    (λ c κs. search needs)
+    (λ c κs. search needs)
+    (λ c. search needs)
+    (λ c κs. search needs)
     (λ c. search needs)
     returns
     (λ c. search needs)
@@ -126,4 +151,8 @@ put-event-spec =
     (λ c. search needs)
     returns-12
     (λ c. search needs)
-    returns-13)
+    returns-13
+    (λ c. search needs)
+    returns-14
+    (λ c. search needs)
+    returns-15)

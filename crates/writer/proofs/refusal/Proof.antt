@@ -42,12 +42,22 @@ returns-12 : tie.Need-returns-12
 returns-12 c = let a = c .before .before .before in at-refusal (a .args .counts) (a .args .part) (c .before .enum-told11 .given .1) refl (c .refusal-at11 .ensures)
 
 returns-13 : tie.Need-returns-13
-returns-13 c = let a = c .before .before .before .before in at-wires (a .args .counts) (a .args .part) _ (c .before .before .event2 .given .1) (c .wires-refusal .ensures)
+returns-13 c = let a = c .before .before .before in at-refusal (a .args .counts) (a .args .part) (c .before .enum-told12 .given .1) refl (c .refusal-at12 .ensures)
+
+returns-14 : tie.Need-returns-14
+returns-14 c = let a = c .before .before .before in at-refusal (a .args .counts) (a .args .part) (c .before .enum-told13 .given .1) refl (c .refusal-at13 .ensures)
+
+returns-15 : tie.Need-returns-15
+returns-15 c = let a = c .before .before .before .before in at-wires (a .args .counts) (a .args .part) _ (c .before .before .event2 .given .1) (c .wires-refusal .ensures)
 
 pub refusal-spec : {M : Type 1} → statement M
 refusal-spec =
     tie.close
     (tie.spec
+    (λ c. search needs)
+    (λ c κs. search needs)
+    (λ c. search needs)
+    (λ c κs. search needs)
     (λ c. search needs)
     (λ c κs. search needs)
     (λ c. search needs)
@@ -86,4 +96,6 @@ refusal-spec =
     returns-10
     returns-11
     returns-12
-    returns-13)
+    returns-13
+    returns-14
+    returns-15)

@@ -2,8 +2,8 @@
 use mathlib.Core.Path.{_≡_, refl, ap, _∙_}
 use mir.Syntax.{w32}
 use mir.Val.{toZ, ofZ}
-use Rattle.events.specs.Event.{Por, Boot, Pin, Xready, Count, Sense, Load, OnBus, Level, fits}
-use Rattle.chip.specs.Chip.{stepped}
+use Rattle.events.specs.Event.{Por, Boot, Pin, Xready, Count, Sense, Load, OnBus, Level, fits, ticks, ticksMost, soakMost}
+use Rattle.chip.specs.Chip.{stepped, steppedAs}
 use Rattle.chip.proofs.Modes.{as-event, in-range}
 use borrow.Author.Needs.{needs}
 use Rattle.chip.proofs.Chip.happen.Statement.{statement}
@@ -57,12 +57,30 @@ unfolding fits
 returns-12 c = as-event (c .before .before .before .before .args .counts) (c .before .before .before .before .args .self) (c .before .before .event5 .given .1) (in-range (Level _) (c .before .before .before .before .args .self) refl (c .level .ensures))
 
 returns-13 : tie.Need-returns-13
-returns-13 c = as-event (c .before .before .before .args .counts) (c .before .before .before .args .self) (c .before .enum-told8 .given .1) (c .quiet2 .ensures)
+returns-13 c =
+    let a = c .before .before .before .before in
+    let z = c .before .before .event6 .given .0 .0 in
+    let e : toZ w32 (ofZ w32 z) ≡ z = search needs in
+    as-event (a .args .counts) (a .args .self) (c .before .before .event6 .given .1) (c .ticks .ensures ∙ ap (λ v. steppedAs (ticks ticksMost v (c .before .before .event6 .given .0 .1 .0)) (a .args .self)) e)
+
+returns-14 : tie.Need-returns-14
+returns-14 c =
+    let a = c .before .before .before .before in
+    let z = c .before .before .event7 .given .0 .0 in
+    let e : toZ w32 (ofZ w32 z) ≡ z = search needs in
+    as-event (a .args .counts) (a .args .self) (c .before .before .event7 .given .1) (c .soak .ensures ∙ ap (λ v. steppedAs (ticks soakMost v (c .before .before .event7 .given .0 .1 .0)) (a .args .self)) e)
+
+returns-15 : tie.Need-returns-15
+returns-15 c = as-event (c .before .before .before .args .counts) (c .before .before .before .args .self) (c .before .enum-told8 .given .1) (c .quiet2 .ensures)
 
 pub happen-spec : {M : Type 1} → statement M
 happen-spec =
     tie.close
     (tie.spec
+    (λ c. search needs)
+    (λ c κs. search needs)
+    (λ c. search needs)
+    (λ c κs. search needs)
     (λ c. search needs)
     (λ c κs. search needs)
     (λ c. search needs)
@@ -101,4 +119,6 @@ happen-spec =
     returns-10
     returns-11
     returns-12
-    returns-13)
+    returns-13
+    returns-14
+    returns-15)

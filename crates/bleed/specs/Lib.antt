@@ -1,0 +1,4 @@
+pub mod Choice
+pub mod Best
+pub mod Excess
+pub mod Readings

@@ -1,0 +1,2 @@
+pub mod Care
+pub mod Total

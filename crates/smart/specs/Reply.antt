@@ -1,0 +1,31 @@
+-- Request M-111: the three bytes of a reply, and what a buffer holds after it. Assumes nothing.
+use mathlib.Core.Path.{_≡_}
+use mathlib.Core.Bool.{cond}
+use mathlib.Core.List.{List, [], _∷_, _++_}
+use Prim.Native.Nat.{ℕ, _/_, _%_}
+use lib.Dec.{ltb}
+use lib.ListN.{length, drop}
+use Rattle.crc8.specs.Crc.{crcOn}
+use Rattle.values.specs.Values.{Said, gives, refuses}
+
+-- the SMBus PEC over 0x16, command, 0x17 and both data bytes
+abbrev pub pecOf : ℕ → ℕ → ℕ → ℕ
+pecOf command low high = crcOn 0 (0x16 ∷ command ∷ 0x17 ∷ low ∷ high ∷ [])
+
+-- low byte, high byte and the PEC
+abbrev pub replyBytes : ℕ → ℕ → List ℕ
+replyBytes command w = w % 256 ∷ w / 256 ∷ pecOf command (w % 256) (w / 256) ∷ []
+
+-- 5 comes last
+abbrev pub repliedNumber : Said ℕ → ℕ → ℕ
+repliedNumber (refuses n) room = n
+repliedNumber (gives w) room = cond (ltb room 3) 5 0
+
+abbrev pub repliedBytes : Said ℕ → ℕ → List ℕ → List ℕ
+repliedBytes (refuses n) command old = old
+repliedBytes (gives w) command old = cond (ltb (length old) 3) old (replyBytes command w ++ drop 3 old)
+
+-- the number, and the buffer: the reply and then what stood there, or where it is refused every byte as it was
+pub record Replied (said : Said ℕ) (command : ℕ) (old : List ℕ) (r : ℕ) (new : List ℕ) : Type 0 where
+  pub answer : r ≡ repliedNumber said (length old)
+  pub contents : new ≡ repliedBytes said command old
