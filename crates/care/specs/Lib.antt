@@ -1,2 +1,3 @@
 pub mod Care
 pub mod Total
+pub mod Same
