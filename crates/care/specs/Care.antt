@@ -5,13 +5,14 @@ use Prim.Native.Nat.{ℕ}
 use lib.Dec.{eqb, leb}
 use lib.IntN.{ℤ}
 use lib.ListN.{length, getD}
-use Rattle.links.specs.Linked.{linkedBits, connected}
+use Rattle.wiring.specs.Rows.{linkedBits}
 use Rattle.values.specs.Values.{Said, gives, refuses}
 use Rattle.values.specs.Forecast.{totalOf}
 use Rattle.bleed.specs.declared.Choice.{Choice}
 use Rattle.bleed.specs.Excess.{proposed}
 use Rattle.smart.specs.declared.Pack.{Pack}
 use Rattle.chip.specs.declared.Chip.{Chip}
+use Rattle.chip.specs.Outward.{linkedCounts}
 use Rattle.care.specs.declared.Proposal.{Proposal}
 use Rattle.care.specs.declared.Proposal.the-variants.{Is, No}
 
@@ -20,7 +21,7 @@ abbrev pub saidProposal : Proposal → Said Choice
 saidProposal (Is c) = gives c
 saidProposal (No n) = refuses n
 
--- the counts now in the cell registers, and the inputs that have a cell connected
+-- the counts now in the cell registers, and the inputs that have a cell connected, by request M-108
 abbrev pub cellsOf : Chip → List ℕ
 cellsOf c = c .registers .measured .cells
 
@@ -44,6 +45,6 @@ packOf c =
       cc = c .registers .measured .cc;
     }
 
--- the total µV of the connected cells
+-- the total µV of the connected cells, which the total double is of too
 unfoldable pub linkedTotal : Chip → ℤ
-linkedTotal c = totalOf (c .setup .gain) (c .setup .offset) (length (connected (c .setup) (cellsOf c))) (connected (c .setup) (cellsOf c))
+linkedTotal c = totalOf (c .setup .gain) (c .setup .offset) (length (linkedCounts c)) (linkedCounts c)

@@ -22,7 +22,7 @@ pub fn bleeding(chip: Chip, margin: u16) -> Proposal
             let registers = chip.registers;
             let measured = registers.measured;
             let cells = measured.cells;
-            let linked = links::linked(chip.setup, cells);
+            let linked = chip.linked();
             if linked == 0 {
                 return Proposal::No(10);
             }
@@ -40,9 +40,8 @@ fn pack_of(chip: Chip) -> Pack
     let registers = chip.registers;
     let settings = registers.settings;
     let measured = registers.measured;
-    let cells = measured.cells;
     let ts = measured.ts;
-    let linked = links::linked(chip.setup, cells);
+    let linked = chip.linked();
     Pack {
         awake: chip.awake,
         external: settings.temp,
@@ -60,8 +59,10 @@ fn total(chip: Chip) -> i64
     let registers = chip.registers;
     let measured = registers.measured;
     let cells = measured.cells;
-    let held = links::linked_sum(setup, cells);
-    season::microvolts(setup.gain, setup.offset, held.many, held.sum)
+    let held = wiring::link(setup, cells);
+    let of = held.of;
+    let looked = scan::look(of, held.many, 0, 0, 0);
+    season::microvolts(setup.gain, setup.offset, held.many as u32, looked.sum)
 }
 
 // The reply to a Smart Battery command, with the sense resistor in milliohms: low byte, high byte and the PEC. Answers 0, or with nothing written the number that refuses it.

@@ -19,8 +19,8 @@ fn hex(byte: u8) {
     io::print_hex(STDOUT_FILENO, byte as u64, 2);
 }
 
-// A chip of some part that is awake.
-fn awake(part: u8, offset: u8, floor: u16) -> Chip {
+// A chip of some part and pack that is awake; 0 cells for no wiring record.
+fn awake(part: u8, cells: u8, offset: u8, floor: u16) -> Chip {
     let chip = chip::in_ship(Setup {
         part,
         crc: false,
@@ -28,7 +28,7 @@ fn awake(part: u8, offset: u8, floor: u16) -> Chip {
         gain: 10,
         offset,
         floor,
-        cells: 0,
+        cells,
     });
     let stepped = chip.boot();
     stepped.chip
@@ -146,7 +146,7 @@ fn set(part: u8, kind: u8, seed: u32) {
     put(kind as u64);
     put(seed as u64);
     text(b"\n");
-    let chip = scanned(awake(part, 30, 1000), counts(kind, seed));
+    let chip = scanned(awake(part, 0, 30, 1000), counts(kind, seed));
     margins(chip);
     let x = next(next(seed));
     let chip = measured(chip, 0x10, (x % 65536) as u16, counts(0, seed));
@@ -165,8 +165,36 @@ fn sets() {
     }
 }
 
+// A pack of fewer cells, with counts that are often below the floor.
+fn pack(part: u8, cells: u8) {
+    text(b"pack");
+    put(part as u64);
+    put(cells as u64);
+    text(b"\n");
+    let chip = scanned(awake(part, cells, 30, 1000), counts(3, cells as u32));
+    margins(chip);
+    words(chip);
+}
+
+fn packs() {
+    pack(1, 3);
+    pack(1, 4);
+    pack(1, 5);
+    pack(2, 6);
+    pack(2, 7);
+    pack(2, 8);
+    pack(2, 9);
+    pack(2, 10);
+    pack(3, 11);
+    pack(3, 12);
+    pack(3, 13);
+    pack(3, 14);
+    pack(3, 15);
+}
+
 pub fn main() {
     sets();
+    packs();
     let asleep = chip::in_ship(Setup {
         part: 1,
         crc: false,
@@ -178,11 +206,14 @@ pub fn main() {
     });
     margins(asleep);
     words(asleep);
-    let none = scanned(awake(1, 30, 1000), [999; 15]);
+    let none = scanned(awake(1, 0, 30, 1000), [999; 15]);
     margins(none);
     words(none);
     room(none);
-    let below = scanned(awake(1, 0x80, 0), [0; 15]);
+    let wired = scanned(awake(1, 4, 30, 1000), [999; 15]);
+    margins(wired);
+    words(wired);
+    let below = scanned(awake(1, 0, 0x80, 0), [0; 15]);
     margins(below);
     words(below);
 }

@@ -1,2 +1,0 @@
-pub mod Linked
-pub mod Bits
