@@ -94,41 +94,63 @@ pub record Best (e : List ℕ) (c : Choice) : Type 0 where
 group : (e : List ℕ) (from b : ℕ) → mayIn e from b ≡ true → (excessIn e from b ≤ excessIn e from (bestIn e from)) × (excessIn e from b ≡ excessIn e from (bestIn e from) → bestIn e from ≤ b)
 group e from b h = (top e from .most b (five e from b h) h, top e from .first b (five e from b h) h)
 
+may-each : (e : List ℕ) (c : Choice) → allowed e c ≡ true → (mayIn e 0 (c .one) ≡ true) × (mayIn e 5 (c .two) ≡ true) × (mayIn e 10 (c .three) ≡ true)
+unfolding allowed
+may-each e c a =
+    let two : (mayIn e 0 (c .one) && mayIn e 5 (c .two)) ≡ true = left-of (mayIn e 0 (c .one) && mayIn e 5 (c .two)) (mayIn e 10 (c .three)) a in (
+      left-of (mayIn e 0 (c .one)) (mayIn e 5 (c .two)) two,
+      right-of (mayIn e 0 (c .one)) (mayIn e 5 (c .two)) two,
+      right-of (mayIn e 0 (c .one) && mayIn e 5 (c .two)) (mayIn e 10 (c .three)) a,
+    )
+
 pub chosen-best : (e : List ℕ) → Best e (chosen e)
 unfolding chosen allowed total
 chosen-best e =
     record {
       may = rw (top e 0 .may, top e 5 .may, top e 10 .may);
       most = λ d a.
-          let p = group e 0 (d .one) (one d a) .0 in
-          let q = group e 5 (d .two) (two d a) .0 in
-          let r = group e 10 (d .three) (three d a) .0 in
+          let p = group e 0 (d .one) (may-each e d a .0) .0 in
+          let q = group e 5 (d .two) (may-each e d a .1) .0 in
+          let r = group e 10 (d .three) (may-each e d a .2) .0 in
           omega arith;
       least = λ d a h.
-          let p = group e 0 (d .one) (one d a) in
-          let q = group e 5 (d .two) (two d a) in
-          let r = group e 10 (d .three) (three d a) in
+          let p = group e 0 (d .one) (may-each e d a .0) in
+          let q = group e 5 (d .two) (may-each e d a .1) in
+          let r = group e 10 (d .three) (may-each e d a .2) in
           let i : bestIn e 0 ≤ d .one = p .1 (omega (arith, h, p .0, q .0, r .0)) in
           let j : bestIn e 5 ≤ d .two = q .1 (omega (arith, h, p .0, q .0, r .0)) in
           let k : bestIn e 10 ≤ d .three = r .1 (omega (arith, h, p .0, q .0, r .0)) in
           omega arith;
     }
+
+-- each byte of an allowed choice has five bits, so that its number tells it
+abbrev pub made : ℕ → ℕ → ℕ → Choice
+made a b c = record { one = a; two = b; three = c }
+
+neither : (x y : ℕ) → (x < y → ⊥) → (y < x → ⊥) → x ≡ y
+neither x y f g = by (ltb x y) (ltb y x) refl refl
   where
-    one : (d : Choice) → (mayIn e 0 (d .one) && mayIn e 5 (d .two) && mayIn e 10 (d .three)) ≡ true → mayIn e 0 (d .one) ≡ true
-    one d a = left-of (mayIn e 0 (d .one)) _ (left-of _ _ a)
+    by : (s t : Bool) → ltb x y ≡ s → ltb y x ≡ t → x ≡ y
+    by true t p q = absurd (f (ltb-true x y p))
+    by false true p q = absurd (g (ltb-true y x q))
+    by false false p q = let a : y ≤ x = ltb-false x y p in let b : x ≤ y = ltb-false y x q in omega arith
 
-    two : (d : Choice) → (mayIn e 0 (d .one) && mayIn e 5 (d .two) && mayIn e 10 (d .three)) ≡ true → mayIn e 5 (d .two) ≡ true
-    two d a = right-of (mayIn e 0 (d .one)) _ (left-of _ _ a)
-
-    three : (d : Choice) → (mayIn e 0 (d .one) && mayIn e 5 (d .two) && mayIn e 10 (d .three)) ≡ true → mayIn e 10 (d .three) ≡ true
-    three d a = right-of (mayIn e 0 (d .one) && mayIn e 5 (d .two)) (mayIn e 10 (d .three)) a
+told : (c d : Choice) → number c ≡ number d → (c .one < 32) × (c .two < 32) × (c .three < 32) → (d .one < 32) × (d .two < 32) × (d .three < 32) → c ≡ d
+told c d n p q =
+    let k : c .three ≡ d .three = neither (c .three) (d .three) (λ h. omega (arith, h, n, p .0, p .1, q .0, q .1)) (λ h. omega (arith, h, n, p .0, p .1, q .0, q .1)) in
+    let j : c .two ≡ d .two = neither (c .two) (d .two) (λ h. omega (arith, h, k, n, p .0, q .0)) (λ h. omega (arith, h, k, n, p .0, q .0)) in
+    let i : c .one ≡ d .one = omega (arith, n, j, k) in
+    ap (λ (n : ℕ). made n (c .two) (c .three)) i ∙ ap (λ (n : ℕ). made (d .one) n (c .three)) j ∙ ap (made (d .one) (d .two)) k
 
 -- .. and there is one best alone
-pub best-alone : (e : List ℕ) (c d : Choice) → Best e c → Best e d → number c ≡ number d
+pub best-alone : (e : List ℕ) (c d : Choice) → Best e c → Best e d → c ≡ d
 best-alone e c d p q =
     let u : total e d ≤ total e c = p .most d (q .may) in
     let v : total e c ≤ total e d = q .most c (p .may) in
     let same : total e d ≡ total e c = omega arith in
     let m : number c ≤ number d = p .least d (q .may) same in
     let n : number d ≤ number c = q .least c (p .may) (sym same) in
-    omega arith
+    told c d (omega arith) (small c (p .may)) (small d (q .may))
+  where
+    small : (c : Choice) → allowed e c ≡ true → (c .one < 32) × (c .two < 32) × (c .three < 32)
+    small c a = let m = may-each e c a in (five e 0 (c .one) (m .0), five e 5 (c .two) (m .1), five e 10 (c .three) (m .2))

@@ -12,7 +12,7 @@ use borrow.Author.Tests.{ltb-true, ltb-false, leb-true, eqb-true, ne-eqb}
 use Rattle.settings.specs.Bit.{bit, weighed}
 use Rattle.bleed.specs.declared.Choice.{Choice}
 use Rattle.bleed.specs.Choice.{excessIn, mayIn, chosen, number, allowed, total}
-use Rattle.bleed.specs.Best.{Best, chosen-best, left-of, right-of}
+use Rattle.bleed.specs.Best.{Best, chosen-best, made, left-of, right-of}
 use Rattle.bleed.specs.Excess.{linkedAt, lowerAt, lowestBelow, lowest, mayBleed, excessAt, excessesOver, excesses, proposed}
 
 -- ── the lowest connected cell ──
@@ -113,9 +113,6 @@ nothing e from b h = rw (h from, h (from + 1), h (from + 2), h (from + 3), h (fr
     none : (t : Bool) → weighed t 0 ≡ 0
     none true = refl
     none false = refl
-
-abbrev made : ℕ → ℕ → ℕ → Choice
-made a b c = record { one = a; two = b; three = c }
 
 abbrev pub noBytes : Choice
 noBytes = made 0 0 0
