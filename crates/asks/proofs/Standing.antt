@@ -1,9 +1,7 @@
 -- What is asked over a stream, by whether a chip stands at its end. Assumes nothing.
 use mathlib.Core.Path.{_≡_, refl, sym, ap, _∙_, subst}
-use mathlib.Core.Bool.{true, false}
 use mathlib.Core.List.{List}
 use Prim.Native.Nat.{ℕ, _<_, _≤_}
-use lib.Dec.{eqb}
 use lib.ListN.{length, set}
 use borrow.Author.Tests.{eq-eqb, ne-eqb, lt-ltb, le-ltb}
 use Rattle.values.specs.Values.{Said, gives, refuses}
@@ -14,18 +12,17 @@ use Rattle.smart.specs.Laws.{three-set}
 use Rattle.smart.specs.Reply.{Replied}
 use Rattle.stream.specs.Stream.{lastChip}
 use Rattle.asks.specs.Asks.{standingSaid, Bled}
+use Rattle.asks.specs.Done.{standing-none, standing-some}
 
 module _ (s : List ℕ) (c : Chip) (h : c ≡ lastChip s) where
   part-as : c .setup .part ≡ lastChip s .setup .part
   part-as = ap (λ (c : Chip). c .setup .part) h
 
   pub none-said : {A : Type 0} (said : Said A) (n : ℕ) → c .setup .part ≡ 0 → n ≡ numberOf (readOf 0 s) → standingSaid s said ≡ refuses n
-  unfolding standingSaid
-  none-said said n z e = rw (eq-eqb (lastChip s .setup .part) 0 (sym part-as ∙ z)) (ap refuses (sym e))
+  none-said said n z e = standing-none s said (eq-eqb _ 0 (sym part-as ∙ z)) ∙ ap refuses (sym e)
 
   pub some-said : {A : Type 0} (f : Chip → Said A) → (c .setup .part ≡ 0 → ⊥) → standingSaid s (f (lastChip s)) ≡ f c
-  unfolding standingSaid
-  some-said f z = rw (ne-eqb (lastChip s .setup .part) 0 (λ q. z (part-as ∙ q))) (ap f (sym h))
+  some-said f z = standing-some s (f (lastChip s)) (ne-eqb _ 0 (λ q. z (part-as ∙ q))) ∙ ap f (sym h)
 
 -- the promises by what is said
 pub bled-as : {said t : Said Choice} (old : List ℕ) (r : ℕ) (new : List ℕ) → said ≡ t → Bled t old r new → Bled said old r new

@@ -1,11 +1,7 @@
 // What workshops and chargers ask of the chip that a stream leaves, for C.
-ghost use mathlib.Core.Path.{_≡_};
 ghost use Rattle.values.specs.Values.{gives};
-ghost use Rattle.stream.specs.Stream.{lastChip};
-ghost use Rattle.smart.specs.Words.{wordFor};
 ghost use Rattle.smart.specs.Reply.{Replied};
-ghost use Rattle.care.specs.Care.{proposalSaid, packOf, linkedTotal};
-ghost use Rattle.asks.specs.Asks.{standingSaid, Bled};
+ghost use Rattle.asks.specs.Asks.{proposalAt, wordAt, Bled};
 use bleed::Choice;
 use care::Proposal;
 
@@ -26,7 +22,7 @@ fn put_choice(out: &mut [u8], choice: Choice) -> u8
 // Answers 0, or with nothing written the first record's number where no chip stands, 3 for the margin, 4 asleep, 10 where no cell is connected, 5 for room below 3.
 #[no_mangle]
 pub extern "C" fn toralinge_bleed(stream: &[u8], margin: u16, cellbal: &mut [u8]) -> u8
-    ensures { λ r. ⌜ Bled (standingSaid (now (stream .entry)) (proposalSaid margin (lastChip (now (stream .entry))))) (now (cellbal .entry)) r (now (cellbal .exit)) ⌝ }
+    ensures { λ r. ⌜ Bled (proposalAt (now (stream .entry)) margin) (now (cellbal .entry)) r (now (cellbal .exit)) ⌝ }
 {
     let chip = stream::last_chip(stream);
     let setup = chip.setup;
@@ -49,7 +45,7 @@ pub extern "C" fn toralinge_reply(
     milliohms: u32,
     reply: &mut [u8],
 ) -> u8
-    ensures { λ r. ⌜ Replied (standingSaid (now (stream .entry)) (wordFor (packOf (lastChip (now (stream .entry)))) (linkedTotal (lastChip (now (stream .entry)))) command milliohms)) command (now (reply .entry)) r (now (reply .exit)) ⌝ }
+    ensures { λ r. ⌜ Replied (wordAt (now (stream .entry)) command milliohms) command (now (reply .entry)) r (now (reply .exit)) ⌝ }
 {
     let chip = stream::last_chip(stream);
     let setup = chip.setup;
