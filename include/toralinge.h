@@ -2,8 +2,9 @@
  * toralinge.h - a software stand-in for the battery monitors MS9920T, MS9930T and MS9940T.
  *
  * Link with libstream.a (x86-64 Linux; `rt staticlib stream` writes target/staticlib/libstream.a), for
- * toralinge_list with liblists.a (`rt staticlib lists`), and for toralinge_plain with libplain.a
- * (`rt staticlib plain`); a program may link with all of them.
+ * toralinge_list with liblists.a (`rt staticlib lists`), for toralinge_bleed and toralinge_reply with
+ * libasks.a (`rt staticlib asks`), and for toralinge_plain with libplain.a (`rt staticlib plain`); a program
+ * may link with any of them together.
  * "Document 01" is the paper that gives the rules. Every call here answers for every value of its
  * arguments, and is proved to answer exactly as that paper says.
  *
@@ -36,10 +37,13 @@ enum toralinge_number {
     TORALINGE_OPEN_SENSOR = 7,  /* thermistor count 9,323 or more */
     TORALINGE_NO_CODE = 8,      /* the wanted threshold lies outside its window */
     TORALINGE_CUT = 9,          /* a record is cut short, or there is none */
-    TORALINGE_NOT_CONNECTED = 10, /* no cell is connected: there is no reading */
+    TORALINGE_NOT_CONNECTED = 10, /* no cell is connected: there is no reading, proposal or total */
+    TORALINGE_NO_FIT = 11,      /* a value does not fit its Smart Battery word */
+    TORALINGE_EXTERNAL = 12,    /* a temperature is asked for with TEMP_SEL 1 */
     TORALINGE_NO_ROW = 13,      /* a wiring record with a number of cells that the part has no row for */
     TORALINGE_NO_LIST = 20,     /* a line is no list of the grammar */
     TORALINGE_BAD_ADDRESS = 21, /* a list has an address outside 0x08 to 0x77 */
+    TORALINGE_BAD_COMMAND = 23, /* another Smart Battery command */
     TORALINGE_TOO_LONG = 24     /* a stream is longer than toralinge_plain takes */
 };
 
@@ -67,6 +71,16 @@ enum toralinge_reading_place {
     TORALINGE_READING_CC = 3,         /* coulomb counter, hundredths of a microvolt */
     TORALINGE_READING_SIZE = 4
 };
+
+/* The Smart Battery commands that toralinge_reply answers. */
+enum toralinge_command {
+    TORALINGE_TEMPERATURE = 0x08, /* tenths of a kelvin, unsigned */
+    TORALINGE_VOLTAGE = 0x09,     /* mV, unsigned */
+    TORALINGE_CURRENT = 0x0A      /* mA, signed */
+};
+
+/* The three bytes of toralinge_bleed (CELLBAL1 to 3) and of toralinge_reply (low byte, high byte, PEC). */
+enum { TORALINGE_REPLY_SIZE = 3 };
 
 /*
  * Plays a whole stream of records on a new chip and writes one entry of five bytes for each record.
@@ -121,6 +135,58 @@ int64_t toralinge_plain(const uint8_t *stream, size_t length, uint8_t *entries, 
  *   5         room is below 4
  */
 uint8_t toralinge_reading(const uint8_t *stream, size_t length, double *reading, size_t room);
+
+/*
+ * Plays a whole stream on a new chip and proposes which cells to bleed by the counts then in its cell
+ * registers. (In libasks.a.)
+ *
+ * margin          1 to 16,383 counts
+ * cellbal, room   where the three CELLBAL bytes go, and how many bytes may stand there
+ *
+ * Returns 0 and writes cellbal[0] to cellbal[2], for registers 0x01 to 0x03: bit 0 of the first is input 1.
+ * A cell may be bled if it is connected (as for toralinge_reading) and stands at least the margin above the
+ * lowest connected one, and no two neighbours within inputs 1 to 5, 6 to 10 or 11 to 15 are bled together. Of
+ * all such choices it is the one with the largest total excess over that lowest cell, and of equal ones the
+ * smallest as a number with input 1 lowest; three zero bytes where no cell may be bled. Later bytes keep
+ * their values.
+ *
+ * Otherwise writes nothing and returns, looked at in this order:
+ *   9         the stream is empty
+ *   1, 2, 9   the number that refuses the first record, so that no chip stands
+ *   3         the margin is out of range
+ *   4         the chip is in SHIP at the end of the stream
+ *   10        no cell is connected
+ *   5         room is below 3
+ */
+uint8_t toralinge_bleed(const uint8_t *stream, size_t length, uint16_t margin, uint8_t *cellbal, size_t room);
+
+/*
+ * Plays a whole stream on a new chip and replies to a Smart Battery command for the chip as it then stands.
+ * (In libasks.a.)
+ *
+ * command         0x08 Temperature(), tenths of a kelvin: (h + 546,300) / 200 rounded down, h the die value of
+ *                 TS1 as toralinge_die_temperature gives it; 0x09 Voltage(), mV: the total of the connected
+ *                 cells in microvolts / 1,000 rounded down; 0x0A Current(), mA: 844 x CC / (100 x milliohms)
+ *                 rounded toward zero
+ * milliohms       the sense resistor, 1 to 100; judged for every command
+ * reply, room     where the reply goes, and how many bytes may stand there
+ *
+ * Returns 0 and writes reply[0] to reply[2]: low byte, high byte and the SMBus PEC over 0x16, the command, 0x17
+ * and both. Later bytes keep their values.
+ *
+ * Otherwise writes nothing and returns, looked at in this order:
+ *   9         the stream is empty
+ *   1, 2, 9   the number that refuses the first record, so that no chip stands
+ *   23        another command
+ *   3         milliohms is out of range
+ *   4         the chip is in SHIP at the end of the stream
+ *   12        a temperature is asked for and TEMP_SEL is 1
+ *   10        a voltage is asked for and no cell is connected
+ *   11        the value does not fit its word
+ *   5         room is below 3
+ */
+uint8_t toralinge_reply(const uint8_t *stream, size_t length, uint8_t command, uint32_t milliohms, uint8_t *reply,
+                        size_t room);
 
 /*
  * Cell voltage in microvolts: (344 + gain_code) x count + 1,000 x offset, offset as a signed byte.

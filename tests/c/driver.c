@@ -8,7 +8,7 @@
 #define MOST_SHOWN 20
 #define PLAIN_BEGINNING 16384
 
-static unsigned long streams, records, plainly, conversions, differences;
+static unsigned long streams, records, plainly, asked, conversions, differences;
 
 static void get(void *to, size_t size)
 {
@@ -195,6 +195,63 @@ static void read_into(const struct expected *want, size_t room)
     guarded_free(&buffer);
 }
 
+/* A question to the chip that the stream leaves: cells to bleed for command 0, else a Smart Battery word. */
+struct question {
+    uint8_t command;
+    uint32_t with;
+    uint8_t number;
+    uint8_t bytes[TORALINGE_REPLY_SIZE];
+};
+
+static void ask_into(const struct expected *want, const struct question *question, size_t room)
+{
+    uint8_t wanted = question->number;
+    uint8_t given;
+    size_t written;
+    struct guarded buffer = guarded_new(room);
+    if (wanted == TORALINGE_DONE && room < TORALINGE_REPLY_SIZE) {
+        wanted = TORALINGE_NO_ROOM;
+    }
+    written = wanted == TORALINGE_DONE ? TORALINGE_REPLY_SIZE : 0;
+    if (question->command == 0) {
+        given = toralinge_bleed(want->stream, want->length, (uint16_t)question->with, buffer.room, room);
+    } else {
+        given = toralinge_reply(want->stream, want->length, question->command, question->with, buffer.room, room);
+    }
+    asked++;
+    if ((given != wanted || memcmp(buffer.room, question->bytes, written) != 0) && differs(want, "cells to bleed, or a word")) {
+        const uint8_t *model = question->bytes;
+        printf("  command %02X with %lu, room %lu\n", question->command, (unsigned long)question->with, (unsigned long)room);
+        printf("  model  : number %u bytes %02X %02X %02X\n", wanted, model[0], model[1], model[2]);
+        printf("  library: number %u bytes", given);
+        for (written = 0; written < room && written < TORALINGE_REPLY_SIZE; written++) {
+            printf(" %02X", buffer.room[written]);
+        }
+        printf("\n");
+    }
+    if (!guarded_kept(&buffer, wanted == TORALINGE_DONE ? TORALINGE_REPLY_SIZE : 0)) {
+        differs(want, "a byte is written that is not the answer's");
+    }
+    guarded_free(&buffer);
+}
+
+static void ask_all(const struct expected *want)
+{
+    uint64_t many = get_number(8);
+    while (many > 0) {
+        struct question question;
+        question.command = (uint8_t)get_number(1);
+        question.with = (uint32_t)get_number(4);
+        question.number = (uint8_t)get_number(1);
+        get(question.bytes, sizeof question.bytes);
+        if (want->length < 60000 || many % 8 == 0) { /* of a long stream every eighth */
+            ask_into(want, &question, TORALINGE_REPLY_SIZE + (size_t)(many % 2));
+            ask_into(want, &question, (size_t)(many % TORALINGE_REPLY_SIZE));
+        }
+        many--;
+    }
+}
+
 static void stream_block(void)
 {
     struct expected want;
@@ -226,6 +283,7 @@ static void stream_block(void)
     play_plainly(&want);
     read_into(&want, TORALINGE_READING_SIZE + (size_t)(want.number % 2));
     read_into(&want, (size_t)(want.number % TORALINGE_READING_SIZE));
+    ask_all(&want);
     if (memcmp(lent, want.stream, want.length) != 0) {
         differs(&want, "the stream itself is changed");
     }
@@ -310,7 +368,7 @@ int main(void)
             return 2;
         }
     }
-    printf("driver: %lu streams, %lu records, %lu of them plainly, and %lu conversions compared, %lu differences\n", streams, records,
-           plainly, conversions, differences);
+    printf("driver: %lu streams, %lu records (%lu of them plainly), %lu questions and %lu conversions compared, %lu differences\n", streams,
+           records, plainly, asked, conversions, differences);
     return differences == 0 ? 0 : 1;
 }

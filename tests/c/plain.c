@@ -4,6 +4,7 @@
  */
 #include "check.h"
 #include "guard.h"
+#include "streams.h"
 #include "toralinge.h"
 
 #define OV 0x04
@@ -12,41 +13,16 @@
 #define OCD 0x01
 #define OVRD 0x10
 
-struct stream {
-    uint8_t bytes[TORALINGE_PLAIN_MOST + 1];
-    size_t length;
-};
-
 static struct stream now;
-
-static void add(unsigned kind, const uint8_t *payload, size_t size)
-{
-    uint8_t *at = now.bytes + now.length;
-    at[0] = (uint8_t)size;
-    at[1] = 0;
-    at[2] = (uint8_t)kind;
-    at[3] = 0;
-    memcpy(at + 4, payload, size);
-    now.length += 4 + size;
-}
-
-static void bare(unsigned kind)
-{
-    add(kind, (const uint8_t *)"", 0);
-}
-
-static void byte(unsigned kind, uint8_t value)
-{
-    add(kind, &value, 1);
-}
+static uint8_t longest[TORALINGE_PLAIN_MOST + 1];
 
 /* SETUP (part 1, no CRC, address 0x08, gain code 10, offset 30, floor 1,000) and BOOT. */
 static void begin(void)
 {
     static const uint8_t setup[] = {1, 0, 8, 10, 30, 0xE8, 3};
     now.length = 0;
-    add(0x00, setup, sizeof setup);
-    bare(0x02);
+    add(&now, SETUP, setup, sizeof setup);
+    add_bare(&now, BOOT);
 }
 
 static void scan(uint16_t last)
@@ -54,7 +30,7 @@ static void scan(uint16_t last)
     uint8_t payload[10] = {0x08, 0x20, 0x08, 0x20, 0x08, 0x20, 0x08, 0x20, 0, 0};
     payload[8] = (uint8_t)last;
     payload[9] = (uint8_t)(last >> 8);
-    add(0x03, payload, sizeof payload);
+    add(&now, SCAN, payload, sizeof payload);
 }
 
 /* SENSE of a value, or that many ticks of it as kind 0014 or 0017 has them. */
@@ -66,16 +42,16 @@ static void ticks(unsigned kind, int32_t value, uint32_t repeat)
         payload[place] = (uint8_t)((uint32_t)value >> (8 * place));
         payload[4 + place] = (uint8_t)(repeat >> (8 * place));
     }
-    add(kind, payload, kind == 0x06 ? 4 : kind == 0x14 ? 6 : 8);
+    add(&now, kind, payload, kind == SENSE ? 4 : kind == TICKS ? 6 : 8);
 }
 
 static void write_register(uint8_t at, uint8_t value)
 {
-    bare(0x10);
-    byte(0x11, 0x10);
-    byte(0x11, at);
-    byte(0x11, value);
-    bare(0x13);
+    add_bare(&now, START);
+    add_byte(&now, OUT, 0x10);
+    add_byte(&now, OUT, at);
+    add_byte(&now, OUT, value);
+    add_bare(&now, STOP);
 }
 
 /* Both engines, in the room that is needed, in more and in less. Answers how many entries there are. */
@@ -134,8 +110,8 @@ static void scans(void)
     for (number = 0; number < 3; number++) {
         scan(6511);
     }
-    bare(0x01);
-    bare(0x02);
+    add_bare(&now, POR);
+    add_bare(&now, BOOT);
     scan(6511);
     CHECK(status() == 0); /* SHIP between them: a new spell */
     for (number = 0; number < 3; number++) {
@@ -172,31 +148,31 @@ static void settings(void)
 static void currents(void)
 {
     begin();
-    ticks(0x06, -18501, 1);
-    ticks(0x06, -18501, 1);
+    ticks(SENSE, -18501, 1);
+    ticks(SENSE, -18501, 1);
     CHECK(status() == 0);
-    ticks(0x06, -18501, 1);
+    ticks(SENSE, -18501, 1);
     CHECK(status() == SCD);
     begin();
-    ticks(0x14, -9501, 255);
+    ticks(TICKS, -9501, 255);
     CHECK(status() == 0);
-    ticks(0x06, -9501, 1);
+    ticks(SENSE, -9501, 1);
     CHECK(status() == OCD);
     begin();
-    ticks(0x14, -9501, 200);
+    ticks(TICKS, -9501, 200);
     write_register(0x07, 0x10); /* OCD delay code 1: 640 ticks */
-    ticks(0x17, -9501, 439);
+    ticks(SOAK, -9501, 439);
     CHECK(status() == 0);
-    ticks(0x06, -9501, 1);
+    ticks(SENSE, -9501, 1);
     CHECK(status() == OCD);
     begin();
     write_register(0x07, 0x70); /* code 7: 40,960 ticks */
-    ticks(0x17, -9501, 40959);
+    ticks(SOAK, -9501, 40959);
     CHECK(status() == 0);
-    ticks(0x06, -9501, 1);
+    ticks(SENSE, -9501, 1);
     CHECK(status() == OCD);
     begin();
-    ticks(0x17, -9501, 16777216);
+    ticks(SOAK, -9501, 16777216);
     CHECK(status() == OCD);
 }
 
@@ -204,19 +180,19 @@ static void currents(void)
 static void requests(void)
 {
     begin();
-    byte(0x15, 1);
+    add_byte(&now, LEVEL, 1);
     CHECK(status() == OVRD);
     write_register(0x00, OVRD);
     CHECK(status() == OVRD);
-    ticks(0x14, -18501, 3);
+    ticks(TICKS, -18501, 3);
     CHECK(status() == (OVRD | SCD));
     now.length = 11; /* after SETUP */
-    byte(0x16, 4);
-    bare(0x02);
+    add_byte(&now, WIRES, 4);
+    add_bare(&now, BOOT);
     scan(10953);
     scan(10953);
     scan(10953);
-    byte(0x16, 3);
+    add_byte(&now, WIRES, 3);
     CHECK(status() == 0);
     scan(10953);
     CHECK(status() == OV);
@@ -226,24 +202,24 @@ static void lengths(void)
 {
     static const size_t rooms[] = {0, 4, 5, 4096, 5 * (TORALINGE_PLAIN_MOST / 4 + 1)};
     uint8_t none[1];
-    size_t which;
+    size_t which, at;
     begin();
-    while (now.length < TORALINGE_PLAIN_MOST - 3) {
-        bare(0x02);
+    memcpy(longest, now.bytes, now.length);
+    for (at = now.length; at + 4 <= TORALINGE_PLAIN_MOST; at += 4) {
+        longest[at + 2] = BOOT;
     }
-    memset(now.bytes + now.length, 0, sizeof now.bytes - now.length);
-    CHECK(now.length == TORALINGE_PLAIN_MOST - 1);
-    CHECK(both(now.bytes, TORALINGE_PLAIN_MOST) == 16383);
-    CHECK(both(now.bytes, 0) == 0);
+    CHECK(at == TORALINGE_PLAIN_MOST - 1);
+    CHECK(both(longest, TORALINGE_PLAIN_MOST) == 16383); /* SETUP, 16,381 BOOTs and a cut header */
+    CHECK(both(longest, 0) == 0);
     for (which = 0; which < sizeof rooms / sizeof rooms[0]; which++) {
         struct guarded lent = guarded_new(rooms[which]);
-        CHECK(toralinge_plain(now.bytes, TORALINGE_PLAIN_MOST + 1, lent.room, rooms[which]) == -TORALINGE_TOO_LONG); /* 24 before 5 */
+        CHECK(toralinge_plain(longest, TORALINGE_PLAIN_MOST + 1, lent.room, rooms[which]) == -TORALINGE_TOO_LONG); /* 24 before 5 */
         CHECK(guarded_kept(&lent, 0));
         guarded_free(&lent);
     }
-    now.bytes[0] = 0; /* no SETUP: one entry, and 24 all the same */
-    CHECK(both(now.bytes, TORALINGE_PLAIN_MOST) == 1);
-    CHECK(toralinge_plain(now.bytes, TORALINGE_PLAIN_MOST + 1, none, 0) == -TORALINGE_TOO_LONG);
+    longest[0] = 0; /* no SETUP: one entry, and 24 all the same */
+    CHECK(both(longest, TORALINGE_PLAIN_MOST) == 1);
+    CHECK(toralinge_plain(longest, TORALINGE_PLAIN_MOST + 1, none, 0) == -TORALINGE_TOO_LONG);
 }
 
 /* A scene: hex text, white space between the bytes, '#' begins a comment. */
@@ -261,7 +237,7 @@ static void scene(const char *name)
             }
         } else if (next > ' ') {
             ungetc(next, file);
-            if (fscanf(file, "%2x", &value) != 1 || now.length == TORALINGE_PLAIN_MOST) {
+            if (fscanf(file, "%2x", &value) != 1 || now.length == sizeof now.bytes) {
                 fprintf(stderr, "plain: %s is no scene\n", name);
                 exit(2);
             }

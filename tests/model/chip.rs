@@ -344,7 +344,7 @@ impl Chip {
         self.page[at + 1] = (value & 0xFF) as u8;
     }
 
-    fn pair(&self, at: usize) -> u16 {
+    pub fn pair(&self, at: usize) -> u16 {
         u16::from(self.page[at]) * 256 + u16::from(self.page[at + 1])
     }
 
@@ -793,7 +793,6 @@ impl Chip {
 
     // ---- forecasting's reading
 
-    /// Least, greatest and total cell µV, and CC in hundredths; or 4.
     /// Whether a cell of the pack is connected: a wired one always is, and without a wiring record one below the floor is not.
     fn connected(&self, input: usize) -> bool {
         let above = self.pair(0x0C + 2 * input) >= self.setup.floor;
@@ -805,6 +804,18 @@ impl Chip {
         }
     }
 
+    /// The connected cells: their inputs, counted from 0, and counts.
+    pub fn linked(&self) -> Vec<(usize, u16)> {
+        let wired = self.setup.wired(self.plant).into_iter().filter(|input| self.connected(*input));
+        wired.map(|input| (input, self.pair(0x0C + 2 * input))).collect()
+    }
+
+    /// Whether TEMP_SEL is 1.
+    pub fn external(&self) -> bool {
+        self.page[4] & 0x08 != 0
+    }
+
+    /// Least, greatest and total cell µV, and CC in hundredths; or 4, or 10.
     pub fn reading(&self) -> Result<[f64; 4], u8> {
         if !self.awake && !self.planted(Plant::ReadingAsleepGiven) {
             return Err(4);

@@ -1095,6 +1095,26 @@ impl Maker {
     // ---- sweeps over the tables
 
     /// A run of ticks just over a limit, from a tick that is not.
+    /// A pack to bleed and to charge: counts near each other, some of them equal or just below the floor, a die value and a coulomb count.
+    fn pack(&mut self) {
+        self.push(BOOT, &[]);
+        let select = self.rng.pick(&[0x10, 0x10, 0x10, 0x18]);
+        self.write(0x04, &[select]);
+        self.write(0x05, &[0x40]);
+        let floor = usize::from(self.chip().setup.floor);
+        let base = self.rng.pick(&[floor, floor.saturating_sub(10), 8_000, 16_300]);
+        let (step, steps) = self.rng.pick(&[(10, 4), (1, 3), (7, 12), (32, 2)]);
+        let counts: Vec<u16> =
+            (0..self.chip().setup.inputs()).map(|_| (base + step * self.rng.below(steps)).min(16_383) as u16).collect();
+        self.push_words(SCAN, &counts);
+        let warm = self.rng.pick(&[0, 3_000, 6_928, 6_929, 16_383]);
+        let groups = usize::from(self.chip().setup.part);
+        self.push_words(TEMP, &vec![warm; groups]);
+        let count = self.rng.next() as u16;
+        let count = self.rng.pick(&[0, 1, 0x7FFF, 0x8000, 0xFFFF, count, count % 2_000, count | 0xF000]);
+        self.push_words(COUNT, &[count]);
+    }
+
     fn run(&mut self, ticks: usize, value: i64) {
         self.sense(0);
         for _ in 0..ticks {
@@ -1254,6 +1274,9 @@ pub fn stream(seed: u64, stream: u64) -> Vec<u8> {
         6 => maker.registers(),
         7 => maker.scan_delays(),
         _ => maker.session(records),
+    }
+    if stream % ROUND >= 40 {
+        maker.pack();
     }
     let ends_open = matches!(maker.session.chip.as_ref().map(|chip| &chip.bus), Some(Bus::Idle));
     let Maker { mut rng, mut bytes, .. } = maker;

@@ -1,5 +1,6 @@
 //! A second Toralinge, written from document 01 alone, to hold the proved library against. See ../README.md.
 
+mod asks;
 mod cases;
 mod chip;
 mod generate;
@@ -51,6 +52,11 @@ fn plants(options: &Options) -> Result<String, String> {
     let grid = values::grid(Plant::None);
     let plants = plant::all();
     let mut missed = Vec::new();
+    for plant in plant::ASKS {
+        if !expected.iter().any(|outcome| asks::all(&outcome.chip, *plant) != asks::all(&outcome.chip, Plant::None)) {
+            missed.push(format!("{plant:?}"));
+        }
+    }
     for plant in &plants {
         let shown = |at: &usize| {
             let outcome = stream::play(&streams[*at], *plant);
@@ -63,15 +69,11 @@ fn plants(options: &Options) -> Result<String, String> {
             missed.push(format!("{plant:?}"));
         }
     }
+    let many = plants.len() + plant::ASKS.len();
     if missed.is_empty() {
-        Ok(format!(
-            "model: all {} planted errors are shown by {} streams of seed {}",
-            plants.len(),
-            streams.len(),
-            options.seed
-        ))
+        Ok(format!("model: all {many} planted errors are shown by {} streams of seed {}", streams.len(), options.seed))
     } else {
-        Err(format!("model: {} of {} planted errors are not shown: {}", missed.len(), plants.len(), missed.join(", ")))
+        Err(format!("model: {} of {many} planted errors are not shown: {}", missed.len(), missed.join(", ")))
     }
 }
 
@@ -97,6 +99,14 @@ fn generate(options: &Options) -> std::io::Result<()> {
         to.write_all(&[number])?;
         for value in reading {
             to.write_all(&value.to_bits().to_le_bytes())?;
+        }
+        let asked = asks::all(&outcome.chip, Plant::None);
+        to.write_all(&(asked.len() as u64).to_le_bytes())?;
+        for one in asked {
+            to.write_all(&[one.command])?;
+            to.write_all(&one.with.to_le_bytes())?;
+            to.write_all(&[one.answer.err().unwrap_or(0)])?;
+            to.write_all(&one.answer.unwrap_or([0; 3]))?;
         }
     }
     for asked in values::grid(Plant::None) {

@@ -191,9 +191,33 @@ pub enum Plant {
     OvWindowWider,
     UvWindowNarrower,
     CodeOffsetAdded,
+    // cells to bleed and words
+    BleedLastOfEquals,
+    BleedHighestFirst,
+    BleedGroupsJoined,
+    BleedNeighboursTogether,
+    BleedMarginPassed,
+    BleedLowestOfAll,
+    BleedAsleepFirst,
+    AskedBeforeChip,
+    CurrentRoundedDown,
+    CurrentUnsigned,
+    WordCut,
+    TemperatureDespiteSelect,
+    ResistorForCurrentOnly,
+    PecWithoutReadAddress,
+    PecWithoutCommand,
 }
 
 use Plant::*;
+
+/// The errors of `asks.rs`, which need no stream played anew.
+#[rustfmt::skip]
+pub const ASKS: &[Plant] = &[
+    BleedLastOfEquals, BleedHighestFirst, BleedGroupsJoined, BleedNeighboursTogether, BleedMarginPassed, BleedLowestOfAll,
+    BleedAsleepFirst, AskedBeforeChip, CurrentRoundedDown, CurrentUnsigned, WordCut, TemperatureDespiteSelect,
+    ResistorForCurrentOnly, PecWithoutReadAddress, PecWithoutCommand,
+];
 
 #[rustfmt::skip]
 const PLAIN: &[Plant] = &[

@@ -273,10 +273,11 @@ impl Session {
     }
 }
 
-/// A whole stream played: kinds and entries, and forecasting's reading afterwards.
+/// A whole stream played: kinds and entries, the chip afterwards or the number where none stands, and forecasting's reading of it.
 pub struct Outcome {
     pub kinds: Vec<Option<u16>>,
     pub entries: Vec<Entry>,
+    pub chip: Result<Chip, u8>,
     pub reading: Result<[f64; 4], u8>,
 }
 
@@ -291,12 +292,13 @@ pub fn play(bytes: &[u8], plant: Plant) -> Outcome {
         at = played.next;
     }
     let cut = entries.last().map_or(false, |entry| entry[0] == 9);
-    let reading = match &session.chip {
-        Some(_) if cut && plant == Plant::ReadingRefusedWhereCut => Err(9),
-        Some(chip) => chip.reading(),
-        None => Err(entries.first().map_or(9, |entry| entry[0])),
+    let chip = session.chip.ok_or_else(|| entries.first().map_or(9, |entry| entry[0]));
+    let reading = match &chip {
+        Ok(_) if cut && plant == Plant::ReadingRefusedWhereCut => Err(9),
+        Ok(chip) => chip.reading(),
+        Err(number) => Err(*number),
     };
-    Outcome { kinds, entries, reading }
+    Outcome { kinds, entries, chip, reading }
 }
 
 /// What the program prints for its input.

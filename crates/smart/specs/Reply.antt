@@ -17,7 +17,7 @@ abbrev pub replyBytes : ℕ → ℕ → List ℕ
 replyBytes command w = w % 256 ∷ w / 256 ∷ pecOf command (w % 256) (w / 256) ∷ []
 
 -- 5 comes last
-abbrev pub repliedNumber : Said ℕ → ℕ → ℕ
+abbrev pub repliedNumber : {A : Type 0} → Said A → ℕ → ℕ
 repliedNumber (refuses n) room = n
 repliedNumber (gives w) room = cond (ltb room 3) 5 0
 

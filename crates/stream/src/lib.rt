@@ -27,7 +27,10 @@ use registers::Registers;
 use wiring::Wiring;
 
 mod convert;
+pub mod end;
 mod forecast;
+
+pub use end::last_chip;
 
 // What a record gives.
 pub struct Entry {

@@ -1,0 +1,13 @@
+// The chip that a stream leaves.
+ghost use mathlib.Core.Path.{_≡_};
+ghost use Rattle.stream.specs.Stream.{lastChip};
+use crate::run;
+use chip::Chip;
+
+// Plays a whole stream; where no chip stands, part 0 is given.
+pub fn last_chip(stream: &[u8]) -> Chip
+    ensures { λ r. ⌜ r ≡ lastChip (now (stream .entry)) ⌝ }
+{
+    let mut room = [0u8; 5];
+    run(stream, &mut room[..0])
+}
