@@ -1,5 +1,6 @@
 -- Request M-112: what the records lent so far say of a fault, by themselves: the verdicts of the waking spell in which they end, each by the settings
 -- that stood when its scan or tick came, and how many of the newest are true. No run is kept. Assumes nothing.
+use mathlib.Core.Path.{_≡_, refl, sym, ap, _∙_}
 use mathlib.Core.Bool.{Bool, cond}
 use mathlib.Core.List.{List, []}
 use Prim.Native.Nat.{ℕ, _-_}
@@ -77,3 +78,15 @@ saidBack TooLong = refuses tooLong
 
 abbrev pub backSaid : List ℕ → Said Streaks
 backSaid s = cond (leb (length s) most) (gives (streaksIn s)) (refuses tooLong)
+
+-- what is said loses nothing: two answers that say the same are the same
+abbrev backOf : Said Streaks → Back
+backOf (gives w) = Is w
+backOf (refuses n) = TooLong
+
+back-again : (a : Back) → backOf (saidBack a) ≡ a
+back-again (Is w) = refl
+back-again TooLong = refl
+
+pub same-back : (a b : Back) → saidBack a ≡ saidBack b → a ≡ b
+same-back a b h = sym (back-again a) ∙ ap backOf h ∙ back-again b

@@ -5,11 +5,11 @@ use mathlib.Core.List.{List, [], _∷_, _++_, append-assoc, append-nil}
 use Prim.Native.Nat.{ℕ, zero, suc, _+_, _-_, _*_, _≤_, _<_, min}
 use native.Mathlib.Omega.{arith}
 use native.Mathlib.Nat.{zero-add, min-zero}
-use lib.Dec.{leb}
+use lib.Dec.{leb, ltb}
 use lib.IntN.{ℤ, pos, negsuc}
-use lib.ListN.{length, take, drop, length-append, length-take}
+use lib.ListN.{length, take, drop, replicate, length-append, length-take}
 use lib.Seq.{drop-at}
-use borrow.Author.Tests.{le-leb}
+use borrow.Author.Tests.{le-leb, lt-ltb}
 use Rattle.events.specs.declared.Setup.{Setup as SetupValues}
 use Rattle.events.specs.declared.Event.{Event as Coded}
 use Rattle.events.specs.declared.Event.the-variants.{Setup, Por, Boot, Scan, Temp, Count, Sense, Pin, Load, Xready, OnBus, Level, Ticks, Soak, Wires}
@@ -23,7 +23,10 @@ use Rattle.settings.specs.declared.Settings.{Settings}
 use Rattle.protection.specs.declared.Runs.{Runs}
 use Rattle.protection.specs.Streak.{lastAll, streak, bumps, bumps-streak}
 use Rattle.protection.specs.Fault.{runOf, runsOf, noRuns}
-use Rattle.protection.specs.Rule.{cap, rule, opinion, any, risen}
+use Rattle.protection.specs.declared.Judged.{Judged}
+use Rattle.protection.specs.Rule.{cap, rule, beyond, opinion, any, risen}
+use Rattle.protection.specs.Judged.{lasts}
+use Rattle.protection.specs.Repeat.{ticksJudged, alike, ticks-alike}
 use Rattle.protection.specs.Tables.{run-tells}
 use Rattle.chip.specs.declared.Chip.{Chip}
 use Rattle.chip.specs.Chip.{withRuns}
@@ -58,6 +61,24 @@ decides k floor s before e =
     run-is Uv = refl
     run-is Scd = refl
     run-is Ocd = refl
+
+-- .. and of ticks of one value every one counts
+pub decides-ticks : (m : ℕ) (s : Settings) (v : ℤ) (before : List ℕ)
+    → ticksJudged (suc m) s v (runsFrom (streaksIn before)) .risen
+    ≡ record {
+      ov = false;
+      uv = false;
+      scd = lastAll (rule Scd s .need) (replicate (suc m) (beyond (rule Scd s) v) ++ verdictsIn Scd before);
+      ocd = lastAll (rule Ocd s .need) (replicate (suc m) (beyond (rule Ocd s) v) ++ verdictsIn Ocd before);
+    }
+unfolding streaksIn
+decides-ticks m s v before = ap (λ (j : Judged). j .risen) (ticks-alike (suc m) s v (runsFrom (streaksIn before))) ∙ (λ i. record { ov = false; uv = false; scd = told Scd i; ocd = told Ocd i })
+  where
+    told : (k : Fault) → ltb 0 (suc m) && lasts k s (alike (cap k) (beyond (rule k s) v) (suc m) (min (cap k) (streak (verdictsIn k before)))) ≡ lastAll (rule k s .need) (replicate (suc m) (beyond (rule k s) v) ++ verdictsIn k before)
+    told k =
+        ap (λ (b : Bool). b && lasts k s (alike (cap k) (beyond (rule k s) v) (suc m) (min (cap k) (streak (verdictsIn k before))))) (lt-ltb 0 (suc m) (omega arith))
+        ∙ ap (lasts k s) (bumps-streak (cap k) (replicate (suc m) (beyond (rule k s) v)) (verdictsIn k before))
+        ∙ run-tells k s (replicate (suc m) (beyond (rule k s) v) ++ verdictsIn k before)
 
 -- ── what the records say is what the base engine's runs hold after them ──
 runs-by : (n : Runs) (f : Fault → ℕ) → ((k : Fault) → runOf k n ≡ f k) → n ≡ runsOf f
