@@ -30,7 +30,7 @@ use Rattle.back.specs.declared.Streaks.{Streaks}
 use Rattle.back.specs.declared.Walk.{Walk}
 use Rattle.back.specs.declared.Passed.{Passed}
 use Rattle.back.specs.Said.{noStreaks}
-use Rattle.back.specs.Walk.{goesOn, scanIn, ticksIn, scanSaid, ticksSaid, movedTo, movedBy, walkedBy, passed, passedOn}
+use Rattle.back.specs.Walk.{goesOn, scanIn, ticksIn, scanSaid, ticksSaid, movedBy, walkedBy, passed, passedOn}
 
 -- ── in SHIP, and in NORMAL ──
 pub scan-asleep : (c : Chip) (xs : List ℕ) (w : Streaks) → c .awake ≡ false → w ≡ scanSaid c xs w

@@ -24,7 +24,7 @@ use Rattle.records.specs.declared.Read.{Read}
 use Rattle.records.specs.declared.Read.the-variants.{Record, Refused, Cut}
 use Rattle.records.specs.Record.{readOf, countsBeside}
 use Rattle.records.specs.Reading.{Placed, placed}
-use Rattle.records.specs.Sound.{and-left, and-right, first-setup, IsSetup, Meaning, isWires, wires-by, later-means}
+use Rattle.records.specs.Sound.{and-right, first-setup, IsSetup, Meaning, isWires, wires-by, later-means}
 use Rattle.chip.specs.declared.Chip.{Chip}
 use Rattle.chip.specs.Chip.{inShip, steppedBy}
 use Rattle.events.specs.Fault.{Ov, Uv, Scd, Ocd}
@@ -38,7 +38,7 @@ use Rattle.back.specs.declared.Streaks.{Streaks}
 use Rattle.back.specs.declared.Walk.{Walk}
 use Rattle.back.specs.declared.Passed.{Passed}
 use Rattle.back.specs.Said.{verdictsAfter, verdictsIn, streaksOf, noStreaks, streaksIn}
-use Rattle.back.specs.Walk.{goesOn, scanIn, ticksIn, scanSaid, ticksSaid, movedTo, movedBy, walkedBy, passed, passedOn, Tracks, tracks-none, tracks-walked}
+use Rattle.back.specs.Walk.{goesOn, scanIn, ticksIn, scanSaid, ticksSaid, movedBy, walkedBy, passed, passedOn, Tracks, tracks-none, tracks-walked}
 
 -- ── no streak outgrows the bytes: a record has four at least, and 16,777,216 ticks at most ──
 abbrev Below : ℕ → Streaks → Type 0

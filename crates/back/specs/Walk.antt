@@ -15,11 +15,11 @@ use Rattle.events.specs.declared.Event.{Event as Coded}
 use Rattle.events.specs.declared.Event.the-variants.{Setup as Setup-, Por as Por-, Boot as Boot-, Pin as Pin-, Xready as Xready-, Scan as Scan-, Temp as Temp-, Count as Count-, Sense as Sense-, Load as Load-, OnBus as OnBus-, Level as Level-, Ticks as Ticks-, Soak as Soak-, Wires as Wires-}
 use Rattle.events.specs.Setup.{inputs}
 use Rattle.events.specs.Fault.{Fault, Ov, Uv, Scd, Ocd}
-use Rattle.events.specs.Event.{Event, Por, Boot, Pin, Xready, Scan, Temp, Count, Sense, Load, OnBus, Level, fits, senseFits, ticksFit, soakMost, Meant, means, ticks, unfit, eventOf, meantOf, countsFit, countsWanted, inRange}
+use Rattle.events.specs.Event.{Event, Por, Boot, Pin, Xready, Scan, Count, Sense, Load, OnBus, Level, fits, senseFits, ticksFit, Meant, means, ticks, unfit, eventOf, meantOf, countsFit, countsWanted, inRange}
 use Rattle.records.specs.declared.Read.{Read}
 use Rattle.records.specs.declared.Read.the-variants.{Record, Refused, Cut}
 use Rattle.records.specs.Record.{readOf, countsBeside}
-use Rattle.records.specs.Sound.{and-left, and-right, Meaning, isWires}
+use Rattle.records.specs.Sound.{and-left, and-right, Meaning}
 use Rattle.settings.specs.declared.Settings.{Settings}
 use Rattle.protection.specs.Streak.{streak}
 use Rattle.protection.specs.Rule.{Rule, rule, over, under, beyond, opinion}

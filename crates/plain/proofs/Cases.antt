@@ -1,10 +1,9 @@
 -- What is lent for one record, and the turn that is made with it. Assumes nothing.
-use mathlib.Core.Path.{_≡_, refl, sym, ap, _∙_}
+use mathlib.Core.Path.{_≡_, sym, ap, _∙_}
 use mathlib.Core.Bool.{Bool, true, false, cond}
 use mathlib.Core.List.{List}
 use Prim.Native.Nat.{ℕ, _≤_}
 use native.Mathlib.Omega.{arith}
-use lib.Dec.{leb}
 use lib.ListN.{length}
 use borrow.Author.Tests.{le-leb}
 use Rattle.records.specs.declared.Read.{Read}
@@ -14,7 +13,7 @@ use Rattle.protection.specs.declared.Runs.{Runs}
 use Rattle.protection.specs.Fault.{noRuns}
 use Rattle.chip.specs.declared.Chip.{Chip}
 use Rattle.chip.specs.Chip.{withRuns}
-use Rattle.stream.specs.Stream.{Turn, turnOf}
+use Rattle.stream.specs.Stream.{turnOf}
 use Rattle.turns.specs.declared.Turned.{Turned}
 use Rattle.turns.specs.Turned.{asTurn}
 use Rattle.back.specs.declared.Streaks.{Streaks}

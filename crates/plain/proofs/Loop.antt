@@ -1,8 +1,8 @@
 -- The loop of the plain engine, beside the base engine's: what stands at its head, and what the C call makes of it. Assumes nothing.
 use mathlib.Core.Path.{_≡_, refl, sym, ap, subst, _∙_}
-use mathlib.Core.Bool.{Bool, true, false, cond}
-use mathlib.Core.List.{List, [], _∷_, _++_}
-use Prim.Native.Nat.{ℕ, zero, suc, _+_, _-_, _*_, _/_, _^_, _≤_, _<_}
+use mathlib.Core.Bool.{Bool, true, false}
+use mathlib.Core.List.{List, _++_}
+use Prim.Native.Nat.{ℕ, _+_, _-_, _*_, _/_, _^_, _≤_, _<_}
 use native.Mathlib.Omega.{arith}
 use lib.Dec.{leb}
 use lib.IntN.{pos, negsuc}
@@ -14,7 +14,7 @@ use mir.Facts.{toZ-pos}
 use borrow.Author.Tests.{le-leb, lt-leb}
 use Rattle.chip.specs.declared.Chip.{Chip}
 use Rattle.stream.specs.declared.Entry.{Entry}
-use Rattle.stream.specs.Stream.{none, Turn, turnOf, entries, bytesOf, noted, Ran}
+use Rattle.stream.specs.Stream.{none, Turn, turnOf, bytesOf, noted, Ran}
 use Rattle.stream.specs.Frames.{framesOf}
 use Rattle.stream.specs.Counted.{entries-count}
 use Rattle.stream.proofs.Loop.{rest-is, Going, going-none, going-end, going-last, going-place, going-more}

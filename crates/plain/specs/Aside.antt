@@ -1,5 +1,5 @@
 -- What is no scan and no tick goes by no run: a chip without runs answers it alike, and is left alike but for the runs. Assumes nothing.
-use mathlib.Core.Path.{_≡_, refl, sym, ap, _∙_}
+use mathlib.Core.Path.{_≡_, refl, sym, ap}
 use mathlib.Core.Bool.{Bool, true, false, cond, true≢false}
 use mathlib.Core.List.{List}
 use Prim.Native.Nat.{ℕ}
@@ -9,7 +9,7 @@ use Rattle.events.specs.declared.BusEvent.the-variants.{Start, Stop, Out, In}
 use Rattle.events.specs.declared.Event.{Event as Coded}
 use Rattle.events.specs.declared.Event.the-variants.{Setup as Setup-, Por as Por-, Boot as Boot-, Pin as Pin-, Xready as Xready-, Scan as Scan-, Temp as Temp-, Count as Count-, Sense as Sense-, Load as Load-, OnBus as OnBus-, Level as Level-, Ticks as Ticks-, Soak as Soak-, Wires as Wires-}
 use Rattle.events.specs.Setup.{groups, withCells}
-use Rattle.events.specs.Event.{Event, Por, Boot, Pin, Xready, Scan, Temp, Count, Sense, Load, OnBus, Level, fits, means, unfit, meantOf, countsFit, countsWanted}
+use Rattle.events.specs.Event.{Event, Por, Boot, Pin, Xready, Scan, Temp, Count, Sense, Load, OnBus, Level, fits, means, unfit, meantOf, countsFit}
 use Rattle.wiring.specs.Rows.{hasRow, wiredWith}
 use Rattle.wiring.specs.declared.Wiring.the-variants.{With, NoRow}
 use Rattle.records.specs.declared.Read.{Read}
@@ -24,7 +24,7 @@ use Rattle.protection.specs.Fault.{noRuns}
 use Rattle.chip.specs.declared.Chip.{Chip}
 use Rattle.chip.specs.declared.Stepped.{Stepped}
 use Rattle.chip.specs.Chip.{quiet, withRuns, inShip, accepted, storedAt, stored, onBus, settled, normally, asleep, happened, stepped, steppedAs}
-use Rattle.stream.specs.Stream.{Turn, wiredAs, acted, staysFresh, turn, turned}
+use Rattle.stream.specs.Stream.{wiredAs, acted, staysFresh, turn, turned}
 use Rattle.plain.specs.Plain.{isJudging, asks, forgetful}
 
 -- the chip, and an answer of it, without runs

@@ -1,7 +1,7 @@
 -- Request M-112: the plain engine's entries are the base engine's, and what it decides with are the verdicts of the records before. Assumes nothing.
-use mathlib.Core.Path.{_≡_, refl, sym, ap, subst, _∙_}
+use mathlib.Core.Path.{_≡_, refl, sym, ap, _∙_}
 use mathlib.Core.Bool.{Bool, true, false, cond, _&&_, true≢false}
-use mathlib.Core.List.{List, [], _∷_, _++_, append-assoc, append-nil}
+use mathlib.Core.List.{List, [], _∷_, _++_, map, append-assoc, append-nil}
 use Prim.Native.Nat.{ℕ, zero, suc, _+_, _-_, _*_, _≤_, _<_, min}
 use native.Mathlib.Omega.{arith}
 use native.Mathlib.Nat.{zero-add, min-zero}
@@ -22,7 +22,7 @@ use Rattle.records.specs.Sound.{IsSetup, first-setup}
 use Rattle.settings.specs.declared.Settings.{Settings}
 use Rattle.protection.specs.declared.Runs.{Runs}
 use Rattle.protection.specs.Streak.{lastAll, streak, bumps, bumps-streak}
-use Rattle.protection.specs.Fault.{runOf, runsOf, noRuns}
+use Rattle.protection.specs.Fault.{runOf, runsOf}
 use Rattle.protection.specs.declared.Judged.{Judged}
 use Rattle.protection.specs.Rule.{cap, rule, beyond, opinion, any, risen}
 use Rattle.protection.specs.Judged.{lasts}
@@ -36,9 +36,9 @@ use Rattle.stream.specs.Prefix.{same-frame, turn-inside, turn-past}
 use Rattle.demands.specs.Demand.{chip}
 use Rattle.demands.specs.History.{runs-are}
 use Rattle.demands.specs.Told.{run-of}
-use Rattle.demands.specs.Wired.{celled, same-but-cells}
-use Rattle.demands.specs.Streams.{heard, cellsIn, last-chip}
-use Rattle.back.specs.Said.{setupRead, verdictsAfter, verdictsIn, streaksOf, streaksIn, most}
+use Rattle.demands.specs.Wired.{same-but-cells}
+use Rattle.demands.specs.Streams.{heard, cellsIn, last-chip, histories, shows, toShow, entries-show}
+use Rattle.back.specs.Said.{verdictsAfter, verdictsIn, streaksIn, most}
 use Rattle.plain.specs.Plain.{asks, runsFrom, lent, forgetful, plainTurn, plainRuns, plainEntries, PlainPlayed}
 use Rattle.plain.specs.Aside.{unrun, turned-unrun}
 
@@ -214,6 +214,10 @@ plain-runs (suc f) before o c n (b ∷ r) g =
 pub plain-entries : (s : List ℕ) → plainEntries s ≡ entries s
 unfolding plainEntries entries
 plain-entries s = plain-runs (length s) [] false none 0 s lent-none
+
+-- .. so each shows the SYS_STAT and the pins of the events heard so far, of which demand 3 says when a bit is up
+pub plain-shows : (s : List ℕ) (u : SetupValues) (next : ℕ) → readOf 0 s ≡ Record (Setup u) next → map shows (plainEntries s) ≡ map (λ past. toShow (chip u past)) (histories u next s)
+plain-shows s u next first = ap (map shows) (plain-entries s) ∙ entries-show s u next first
 
 -- .. so up to 65,536 bytes the call answers and writes what `toralinge_play` does
 pub plays : {s old new : List ℕ} {r : ℤ} → length s ≤ most → PlainPlayed s old r new → Played s old r new

@@ -1,7 +1,6 @@
 -- The counts of a record.
 use mathlib.Core.Path.{ap}
 use Rattle.back.specs.declared.Streaks.{Streaks}
-use Rattle.back.specs.declared.Walk.{Walk}
 use borrow.Author.Needs.{needs}
 use Rattle.back.proofs.scanned.Statement.{statement}
 use Rattle.back.proofs.scanned.Tie as tie

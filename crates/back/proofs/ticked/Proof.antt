@@ -4,7 +4,6 @@ use mir.Syntax.{w32}
 use mir.Val.{toZ, ofZ}
 use Rattle.back.specs.Walk.{ticksSaid}
 use Rattle.back.specs.declared.Streaks.{Streaks}
-use Rattle.back.specs.declared.Walk.{Walk}
 use borrow.Author.Needs.{needs}
 use Rattle.back.proofs.ticked.Statement.{statement}
 use Rattle.back.proofs.ticked.Tie as tie

@@ -2,7 +2,7 @@
 use Prim.Native.Nat.{_-_}
 use lib.ListN.{length, length-take}
 use native.Mathlib.Omega.{arith}
-use mathlib.Core.Path.{sym, _∙_}
+use mathlib.Core.Path.{_∙_}
 use Rattle.plain.proofs.Loop.{Playing, playing-none, playing-end, playing-last, playing-place, playing-more}
 use borrow.Author.Needs.{needs}
 use Rattle.plain.proofs.run.Statement.{statement}
