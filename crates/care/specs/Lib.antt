@@ -1,3 +1,4 @@
 pub mod Care
 pub mod Total
 pub mod Same
+pub mod Connected

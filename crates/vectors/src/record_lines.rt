@@ -187,6 +187,9 @@ fn write_kinds() {
     put(Event::Temp, few(1, 0x3FFF, 0), 1, 36);
     put(Event::Temp, few(2, 0x0102, 0), 2, 36);
     put(Event::Temp, few(3, 0x0304, 0x0506), 3, 36);
+}
+
+fn write_small() {
     plain(Event::Count(0xC350), 2);
     plain(Event::Sense(500000), 1);
     plain(Event::Sense(-500000), 1);
@@ -195,11 +198,17 @@ fn write_kinds() {
     plain(Event::Load(false), 1);
     plain(Event::Load(true), 1);
     plain(Event::Xready, 1);
+}
+
+fn write_bus() {
     plain(Event::OnBus(BusEvent::Start), 1);
     plain(Event::OnBus(BusEvent::Out(0xA5)), 1);
     plain(Event::OnBus(BusEvent::In(false)), 1);
     plain(Event::OnBus(BusEvent::In(true)), 1);
     plain(Event::OnBus(BusEvent::Stop), 1);
+}
+
+fn write_later() {
     plain(Event::Level(false), 1);
     plain(Event::Level(true), 1);
     plain(Event::Ticks(500000, 1), 1);
@@ -258,6 +267,9 @@ fn refuse_values() {
     put(Event::Por, few(1, 0, 0), 1, 36);
     put(Event::Por, few(0, 0, 1), 1, 36);
     put(Event::Temp, few(1, 16384, 0), 1, 36);
+}
+
+fn refuse_rooms() {
     plain(Event::Sense(500001), 1);
     plain(Event::Sense(-500001), 1);
     plain(Event::Sense(-2147483648), 1);
@@ -268,6 +280,9 @@ fn refuse_values() {
     put(Event::Scan, five(), 1, 14);
     put(setup(1, 0x08, 0, 0), no_counts(), 1, 10);
     put(Event::OnBus(BusEvent::Out(1)), no_counts(), 1, 4);
+}
+
+fn refuse_repeats() {
     plain(Event::Ticks(0, 0), 1);
     plain(Event::Ticks(0, 4097), 1);
     plain(Event::Ticks(500001, 1), 1);
@@ -290,6 +305,9 @@ fn read_first() {
     take(&[7, 0, 0, 0, 1, 0, 0x78, 0, 0, 0, 0], 0, 0);
     take(&[7, 0, 0, 0, 1, 0, 0x08, 32, 0, 0, 0], 0, 0);
     take(&[7, 0, 0, 0, 1, 0, 0x08, 0, 0, 0, 0x10], 0, 0);
+}
+
+fn read_no_first() {
     take(&[6, 0, 0, 0, 1, 0, 0x08, 0, 0, 0], 0, 0);
     take(&[7, 0, 0, 0, 1, 0, 0x08, 0, 0, 0], 0, 0);
     take(&[7, 0, 0, 1, 1, 0, 0x08, 0, 0, 0, 0], 0, 0);
@@ -310,6 +328,9 @@ fn read_kinds() {
     take(&[4, 0, 4, 0, 1, 2, 3, 4], 0, 2);
     take(&[6, 0, 4, 0, 1, 2, 3, 4, 5, 6], 0, 3);
     take(&[2, 0, 5, 0, 0x50, 0xC3], 0, 1);
+}
+
+fn read_small() {
     take(&[4, 0, 6, 0, 0x20, 0xA1, 0x07, 0x00], 0, 1);
     take(&[4, 0, 6, 0, 0xE0, 0x5E, 0xF8, 0xFF], 0, 1);
     take(&[4, 0, 6, 0, 0xFF, 0xFF, 0xFF, 0xFF], 0, 1);
@@ -317,12 +338,18 @@ fn read_kinds() {
     take(&[1, 0, 8, 0, 0], 0, 1);
     take(&[1, 0, 8, 0, 1], 0, 1);
     take(&[0, 0, 9, 0], 0, 1);
+}
+
+fn read_bus() {
     take(&[0, 0, 0x10, 0], 0, 1);
     take(&[1, 0, 0x11, 0, 0xA5], 0, 1);
     take(&[1, 0, 0x12, 0, 0], 0, 1);
     take(&[1, 0, 0x12, 0, 1], 0, 1);
     take(&[0, 0, 0x13, 0], 0, 1);
     take(&[9, 9, 9, 0, 0, 0x13, 0], 3, 1);
+}
+
+fn read_later() {
     take(&[1, 0, 0x15, 0, 0], 0, 1);
     take(&[1, 0, 0x15, 0, 1], 0, 1);
     take(&[6, 0, 0x14, 0, 0x20, 0xA1, 0x07, 0x00, 1, 0], 0, 1);
@@ -341,12 +368,18 @@ fn read_refusals() {
     take(&[0, 0, 1, 0], 4, 1);
     take(&[0, 0, 1, 0], 5, 1);
     take(&[0, 1, 1, 0, 0], 0, 0);
+}
+
+fn read_unknown() {
     take(&[2, 0, 0x0A, 0, 1, 2], 0, 1);
     take(&[0, 0, 0x0F, 0], 0, 1);
     take(&[0, 0, 0x14, 0], 0, 1);
     take(&[0, 0, 0x01, 1], 0, 1);
     take(&[0, 0, 0xFF, 0xFF], 0, 1);
     take(&[1, 0, 1, 0, 0], 0, 1);
+}
+
+fn read_unfit() {
     take(&[10, 0, 3, 0, 0, 0, 0, 0, 0, 0, 0, 0, 0, 0], 0, 2);
     take(&[2, 0, 4, 0, 0, 0], 0, 2);
     take(&[4, 0, 4, 0, 0, 0xFF, 0, 0xFF], 0, 1);
@@ -354,6 +387,9 @@ fn read_refusals() {
     take(&[2, 0, 6, 0, 0, 0], 0, 1);
     take(&[2, 0, 0x12, 0, 9, 9], 0, 1);
     take(&[2, 0, 0x15, 0, 9, 9], 0, 1);
+}
+
+fn read_unfit_later() {
     take(&[4, 0, 0x14, 0, 0, 0, 0, 0], 0, 1);
     take(&[0, 0, 0x15, 0], 0, 1);
     take(&[6, 0, 0x17, 0, 0, 0, 0, 0, 1, 0], 0, 1);
@@ -371,6 +407,9 @@ fn read_ranges() {
     take(&[1, 0, 8, 0, 2], 0, 1);
     take(&[1, 0, 0x12, 0, 2], 0, 1);
     take(&[1, 0, 0x15, 0, 2], 0, 1);
+}
+
+fn read_repeats() {
     take(&[6, 0, 0x14, 0, 0, 0, 0, 0, 0, 0], 0, 1);
     take(&[6, 0, 0x14, 0, 0, 0, 0, 0, 1, 0x10], 0, 1);
     take(&[6, 0, 0x14, 0, 0x21, 0xA1, 0x07, 0x00, 1, 0], 0, 1);
@@ -381,11 +420,24 @@ fn read_ranges() {
 
 pub fn lines() {
     write_kinds();
+    write_small();
+    write_bus();
+    write_later();
     refuse_parts();
     refuse_wiring();
     refuse_values();
+    refuse_rooms();
+    refuse_repeats();
     read_first();
+    read_no_first();
     read_kinds();
+    read_small();
+    read_bus();
+    read_later();
     read_refusals();
+    read_unknown();
+    read_unfit();
+    read_unfit_later();
     read_ranges();
+    read_repeats();
 }
