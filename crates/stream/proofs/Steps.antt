@@ -71,7 +71,7 @@ checked c e k m = counts-by (countsFit (countsWanted (c .setup) e) k) (eventOf (
 abbrev Later : Event → Type 0
 Later e = OneOf (1 ∷ 2 ∷ 3 ∷ 4 ∷ 5 ∷ 6 ∷ 7 ∷ 8 ∷ 9 ∷ 10 ∷ 11 ∷ 12 ∷ 13 ∷ []) (tagOf event-type e)
 
-other-acted : (o : Bool) (c : Chip) (e : Event) (k : Counts) → Later e → steppedBy e k c ≡ acted o e k c
+pub other-acted : (o : Bool) (c : Chip) (e : Event) (k : Counts) → Later e → steppedBy e k c ≡ acted o e k c
 unfolding acted
 other-acted op c (Setup v) k o = absurd (⊎-elim (λ h. omega arith) (⊎-elim (λ h. omega arith) (⊎-elim (λ h. omega arith) (⊎-elim (λ h. omega arith) (⊎-elim (λ h. omega arith) (⊎-elim (λ h. omega arith) (⊎-elim (λ h. omega arith) (⊎-elim (λ h. omega arith) (⊎-elim (λ h. omega arith) (⊎-elim (λ h. omega arith) (⊎-elim (λ h. omega arith) (⊎-elim (λ h. omega arith) (λ h. omega arith)))))))))))) o)
 other-acted op c Por k o = refl

@@ -6,7 +6,7 @@ use Prim.Native.Nat.{ℕ, zero, suc, _+_, _-_, _*_, _<_, _≤_}
 use native.Mathlib.Omega.{arith}
 use native.Mathlib.Nat.{zero-add}
 use lib.Dec.{ltb}
-use lib.ListN.{length, getD, take, drop, length-append, length-drop, List·getD-append}
+use lib.ListN.{length, getD, take, drop, length-append, length-take, length-drop, take-append-drop, List·getD-append}
 use lib.Seq.{take-append-le, drop-append-le}
 use borrow.Author.Tests.{ltb-true, ltb-false, le-ltb, lt-ltb}
 use Rattle.records.specs.declared.Payload.{Payload}
@@ -90,6 +90,76 @@ turned-inside o c p Cut g l = omega arith
 turn-inside : (o : Bool) (c : Chip) (p : List ℕ) → turnOf o c p .last ≡ false → turnOf o c p .next ≤ length p
 unfolding turnOf
 turn-inside o c p l = turned-inside o c p (readOf (c .setup .part) p) (placed (c .setup .part) p) l
+
+-- ── a record alone: cut out of its stream, and whatever follows it there, it makes the same turn ──
+whole-as : (n : ℕ) (p : Payload) → IsWhole (asRead n p)
+whole-as n (Whole e) = tt
+whole-as n (Unfit k) = tt
+
+alone-whole : (part : ℕ) (p : List ℕ) → length p ≡ 4 + le16 p 0 → IsWhole (readOf part p)
+unfolding readOf
+alone-whole part p l =
+    let e1 : ltb (length p) 4 ≡ false = le-ltb (length p) 4 (omega arith) in
+    let e2 : ltb (length p - 4) (le16 p 0) ≡ false = le-ltb (length p - 4) (le16 p 0) (omega arith) in
+    simp (e1, e2) (whole-as (4 + le16 p 0) (payloadOf (le16 p 2) part (take (le16 p 0) (drop 4 p))))
+
+-- where the record that bytes begin with ends, by what was read
+abbrev Ends : List ℕ → Read → Type 0
+Ends r (Record e next) = (next ≡ 4 + le16 r 0) × (next ≤ length r)
+Ends r (Refused k next) = (next ≡ 4 + le16 r 0) × (next ≤ length r)
+Ends r Cut = Unit
+
+ends-as : (r : List ℕ) (p : Payload) → 4 + le16 r 0 ≤ length r → Ends r (asRead (4 + le16 r 0) p)
+ends-as r (Whole e) h = (refl, h)
+ends-as r (Unfit k) h = (refl, h)
+
+ends : (part : ℕ) (r : List ℕ) → Ends r (readOf part r)
+unfolding readOf
+ends part r = by (ltb (length r) 4) (ltb (length r - 4) (le16 r 0)) refl refl
+  where
+    by : (t u : Bool) → ltb (length r) 4 ≡ t → ltb (length r - 4) (le16 r 0) ≡ u
+        → Ends r (cond t Cut (cond u Cut (asRead (4 + le16 r 0) (payloadOf (le16 r 2) part (take (le16 r 0) (drop 4 r))))))
+    by true u et eu = tt
+    by false true et eu = tt
+    by false false et eu =
+        let a : 4 ≤ length r = ltb-false _ _ et in
+        let b : le16 r 0 ≤ length r - 4 = ltb-false _ _ eu in
+        ends-as r (payloadOf (le16 r 2) part (take (le16 r 0) (drop 4 r))) (omega arith)
+
+read-alone : (part : ℕ) (r : List ℕ) (n : ℕ) → n ≡ 4 + le16 r 0 → n ≤ length r → readOf part (take n r) ≡ readOf part r
+read-alone part r n e h =
+    let p : List ℕ = take n r in
+    let l : length p ≡ n = simp length-take (omega arith) in
+    let j : p ++ drop n r ≡ r = take-append-drop n r in
+    let w : le16 r 0 ≡ le16 p 0 = ap (λ (b : List ℕ). le16 b 0) (sym j) ∙ same16 p (drop n r) 0 (omega arith) in
+    sym (same-read part p (drop n r) (ltb (length p) 4) (ltb (length p - 4) (le16 p 0)) refl refl (alone-whole part p (omega (arith, l, w, e))))
+    ∙ ap (readOf part) j
+
+turned-alone : (o : Bool) (c : Chip) (r : List ℕ) (x : Read) → Ends r x → Placed (length r) x → turned o c r x .last ≡ false
+    → (turned o c (take (turned o c r x .next) r) x ≡ turned o c r x) × (readOf (c .setup .part) (take (turned o c r x .next) r) ≡ readOf (c .setup .part) r)
+turned-alone o c r (Record e next) q g l = (
+  ap (λ (b : List ℕ). turn (acted o e (countsIn e b) c) (staysFresh o c (acted o e (countsIn e b) c)) next false)
+      (sym (same-part (take next r) (drop next r) (next - 4) (simp length-take (omega (arith, g .0, g .1)))) ∙ ap (λ (b : List ℕ). take (next - 4) (drop 4 b)) (take-append-drop next r)),
+  read-alone (c .setup .part) r next (q .0) (q .1),
+)
+turned-alone o c r (Refused k next) q g l = (refl, read-alone (c .setup .part) r next (q .0) (q .1))
+turned-alone o c r Cut q g l = let z : _≡_ {A = ℕ} 0 1 = cc in absurd (omega arith)
+
+turn-alone : (o : Bool) (c : Chip) (r : List ℕ) → turnOf o c r .last ≡ false → turnOf o c (take (turnOf o c r .next) r) ≡ turnOf o c r
+unfolding turnOf
+turn-alone o c r l =
+    let part : ℕ = c .setup .part in
+    let t = turned-alone o c r (readOf part r) (ends part r) (placed part r) l in
+    ap (turned o c (take (turned o c r (readOf part r) .next) r)) (t .1) ∙ t .0
+
+-- THE RECORD that bytes begin with makes one turn, whatever follows it
+pub same-frame : (o : Bool) (c : Chip) (r q : List ℕ) → turnOf o c r .last ≡ false → turnOf o c (take (turnOf o c r .next) r ++ q) ≡ turnOf o c r
+same-frame o c r q l =
+    let a : turnOf o c (take (turnOf o c r .next) r) ≡ turnOf o c r = turn-alone o c r l in
+    same-turn o c (take (turnOf o c r .next) r) q (ap (λ (t : Turn). t .last) a ∙ l) ∙ a
+
+pub frame-inside : (o : Bool) (c : Chip) (r : List ℕ) → turnOf o c r .last ≡ false → turnOf o c r .next ≤ length r
+frame-inside o c r l = turn-inside o c r l
 
 -- ── whole records: each turn but the last is followed by another, and the last ends with the bytes ──
 pub data Whole-records : Bool → Chip → List ℕ → Type 0 where

@@ -63,7 +63,7 @@ pub enum Work {
 }
 
 // No chip yet: part 0.
-fn no_chip() -> Chip
+pub fn no_chip() -> Chip
     ensures { λ r. ⌜ r ≡ none ⌝ }
 {
     chip::in_ship(Setup {
@@ -262,7 +262,7 @@ fn act(chip: Chip, fresh: bool, event: Event, rest: &[u8], next: usize) -> Stepp
 }
 
 // A wiring record, which is taken straight after SETUP alone.
-fn rewired(chip: Chip, fresh: bool, cells: u8) -> Stepped
+pub fn rewired(chip: Chip, fresh: bool, cells: u8) -> Stepped
     ensures { λ r. ⌜ r ≡ wires fresh cells chip ⌝ }
 {
     if !fresh {
@@ -275,14 +275,14 @@ fn rewired(chip: Chip, fresh: bool, cells: u8) -> Stepped
 }
 
 // The chip that SETUP, or a wiring record, makes.
-fn born(setup: Setup) -> Stepped
+pub fn born(setup: Setup) -> Stepped
     ensures { λ r. ⌜ r ≡ bornOf setup ⌝ }
 {
     quiet(0, chip::in_ship(setup))
 }
 
 // An answer with no bus byte.
-fn quiet(number: u8, chip: Chip) -> Stepped
+pub fn quiet(number: u8, chip: Chip) -> Stepped
     ensures { λ r. ⌜ r ≡ quietSpec number chip ⌝ }
 {
     Stepped {
@@ -383,7 +383,7 @@ fn run(s: &[u8], out: &mut [u8]) -> Chip
 }
 
 // How many entries a stream has, by its framing and its first record alone.
-fn count(s: &[u8]) -> usize
+pub fn count(s: &[u8]) -> usize
     ensures { λ r. ⌜ r ≡ framesOf (now (s .entry)) ⌝ }
 {
     if s.len() == 0 {
