@@ -99,11 +99,11 @@ without-both a b t =
 lowered-none : (r : Registers) → r ≡ lowered noStatus r
 lowered-none r = ap (λ t. withShown (withStatus t (r .shown)) r) (sym (without-none (r .shown .status)))
 
-lowered-both : (a b : Status) (r : Registers) → lowered b (lowered a r) ≡ lowered (either a b) r
+pub lowered-both : (a b : Status) (r : Registers) → lowered b (lowered a r) ≡ lowered (either a b) r
 lowered-both a b r = ap (λ t. withShown (withStatus t (r .shown)) r) (without-both a b (r .shown .status))
 
 -- ── one event ──
-abbrev Lowers : Status → Chip → Chip → Type 0
+abbrev pub Lowers : Status → Chip → Chip → Type 0
 Lowers s c d = (d .registers ≡ lowered s (c .registers)) × (d .awake ≡ c .awake) × (d .runs ≡ c .runs)
 
 store-lowers : (l : Line) (t : Store) (c : Chip) → isClearing t ≡ true → Lowers (onesOf t) c (stored l t c)

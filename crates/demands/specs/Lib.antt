@@ -13,6 +13,7 @@ pub mod Bare
 pub mod Examples
 pub mod Given
 pub mod Clearing
+pub mod Twice
 pub mod Spoiled
 pub mod Opened
 pub mod NoTrace

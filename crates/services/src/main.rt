@@ -192,7 +192,7 @@ fn packs() {
     pack(3, 15);
 }
 
-pub fn main() {
+fn main() {
     sets();
     packs();
     let asleep = chip::in_ship(Setup {
