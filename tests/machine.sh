@@ -1,7 +1,7 @@
 # shellcheck shell=bash
-# Sourced by ./play, ./listing, .ci/run and the scripts of tests/. What the proved crates are built into is for x86-64 Linux:
+# Sourced by ./play, ./listing, ./library, .ci/run and the scripts of tests/. What the proved crates are built into is for x86-64 Linux:
 # elsewhere it is compiled for with Debian's cross compiler and run under qemu-user.
-# shellcheck disable=SC2034,SC2154  # me, root and usage are set, runner, compiler and program read by the script that sources this
+# shellcheck disable=SC2034,SC2154  # me, root and usage are set, runner, compiler, program and library read by the script that sources this
 
 # Says one line under the name `me` of the script that sources this, and ends with a status.
 give_up() {
@@ -63,16 +63,53 @@ want_compiler() {
 # want_program NAME: proves and builds the program NAME of the repository at `root` unless it is newer than every source, and sets
 # `program`.
 want_program() {
-    local built=$root/target/$1.built since
     program=$root/target/bin/$1
-    for since in "$program" "$built"; do
-        if [[ -x $program && -e $since ]] &&
+    want_built "$1" "$program" check
+}
+
+# want_library NAME: the same of target/staticlib/libNAME.a.
+want_library() {
+    want_built "lib$1" "$root/target/staticlib/lib$1.a" staticlib
+}
+
+# The crates whose calls include/toralinge.h declares.
+calls=(stream lists asks)
+
+# want_calls: all of them in one library; sets `library`.
+want_calls() {
+    local name room archiver=ar parts=()
+    native || archiver=x86_64-linux-gnu-ar
+    want "$archiver" "$(native && echo binutils || echo binutils-x86-64-linux-gnu)"
+    for name in "${calls[@]}"; do
+        want_library "$name"
+        parts+=("$root/target/staticlib/lib$name.a")
+    done
+    library=$root/target/libtoralinge.a
+    for name in "${parts[@]}"; do
+        if [[ ! -e $library || $name -nt $library ]]; then
+            room=$(mktemp -d)
+            for name in "${parts[@]}"; do
+                (cd "$room" && "$archiver" x "$name")
+            done
+            rm -f "$library"
+            "$archiver" rcs "$library" "$room"/*.o
+            rm -rf "$room"
+            return
+        fi
+    done
+}
+
+# want_built NAME FILE VERB: has rt make FILE unless it is newer than every source.
+want_built() {
+    local built=$root/target/$1.built since name=${1#lib}
+    for since in "$2" "$built"; do
+        if [[ -e $2 && -e $since ]] &&
             [[ -z $(find "$root/crates" "$root/crates.txt" -type f \( -name '*.rt' -o -name '*.antt' -o -name crates.txt \) -newer "$since" -print -quit) ]]; then
             return
         fi
     done
-    command -v rt >/dev/null || give_up 1 "target/bin/$1 is to be built, and there is no rt to prove and build it"
-    (cd "$root" && rt check "$1") >&2 || give_up 1 "rt check $1 does not pass"
+    command -v rt >/dev/null || give_up 1 "${2#"$root"/} is to be built, and there is no rt to prove and build it"
+    (cd "$root" && rt "$3" "$name") >&2 || give_up 1 "rt $3 $name does not pass"
     touch "$built"
 }
 
@@ -88,5 +125,40 @@ want_input() {
         [[ ! -d $1 && -r $1 ]] || give_up 2 "not a file that can be read: $1"
     elif [[ -t 0 ]]; then
         give_up 2 "nothing to read: $usage"
+    fi
+}
+
+# The bytes of a hex text as printf's %b wants them; one line and status 2 where something else stands there.
+escapes() {
+    LC_ALL=C awk '
+        function refuse(why) { printf "%s\n", "line " NR ": " why; refused = 1; exit 2 }
+        { sub(/#.*/, ""); gsub(/[ \t\r\f\v]+/, " ") }
+        {
+            for (i = 1; i <= NF; i++) {
+                if ($i ~ /[^0-9A-Fa-f]/) refuse("not hex: " $i)
+                if (length($i) % 2 == 1) refuse("odd number of hex digits: " $i)
+                for (j = 1; j < length($i); j += 2) bytes[NR] = bytes[NR] "\\x" substr($i, j, 2)
+            }
+        }
+        END { if (!refused) for (n = 1; n <= NR; n++) printf "%s", bytes[n] }
+    ' <"$1"
+}
+
+# want_stream WORD..: as want_input; the bytes of a file FILE.hex are set as `bytes`.
+want_stream() {
+    want_input "$@"
+    if [[ ${1-} = *.hex ]]; then
+        bytes=$(escapes "$1") || give_up 2 "$1, $bytes"
+    fi
+}
+
+# fed WORD..: runs `program` on the stream that want_stream was given.
+fed() {
+    if [[ $# -eq 0 ]]; then
+        "${runner[@]}" "$program"
+    elif [[ $1 = *.hex ]]; then
+        printf '%b' "$bytes" | "${runner[@]}" "$program"
+    else
+        "${runner[@]}" "$program" <"$1"
     fi
 }
