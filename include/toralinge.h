@@ -3,14 +3,15 @@
  *
  * Link with libstream.a (x86-64 Linux; `rt staticlib stream` writes target/staticlib/libstream.a), for
  * toralinge_list with liblists.a (`rt staticlib lists`), for toralinge_bleed and toralinge_reply with
- * libasks.a (`rt staticlib asks`), and for toralinge_plain with libplain.a (`rt staticlib plain`); a program
+ * libasks.a (`rt staticlib asks`), for toralinge_season with libtally.a (`rt staticlib tally`), and for
+ * toralinge_plain with libplain.a (`rt staticlib plain`); a program
  * may link with any of them together.
  * "Document 01" is the paper that gives the rules. Every call here answers for every value of its
  * arguments, and is proved to answer exactly as that paper says.
  *
  * What every call asks of its caller:
  *   - no pointer is NULL, also where its length or room is 0;
- *   - a length counts the bytes (a room of doubles: the doubles) that stand behind its pointer;
+ *   - a length counts the bytes (a room of doubles or int64_t: these) that stand behind its pointer;
  *   - what a call may write overlaps nothing else that the same call is lent.
  * No call keeps a pointer, allocates, or has a state of its own: two threads may call at once.
  */
@@ -43,6 +44,7 @@ enum toralinge_number {
     TORALINGE_NO_ROW = 13,      /* a wiring record with a number of cells that the part has no row for */
     TORALINGE_NO_LIST = 20,     /* a line is no list of the grammar */
     TORALINGE_BAD_ADDRESS = 21, /* a list has an address outside 0x08 to 0x77 */
+    TORALINGE_SEASON_FULL = 22, /* a season would have more than 65,535 scans */
     TORALINGE_BAD_COMMAND = 23, /* another Smart Battery command */
     TORALINGE_TOO_LONG = 24     /* a stream is longer than toralinge_plain takes */
 };
@@ -81,6 +83,20 @@ enum toralinge_command {
 
 /* The three bytes of toralinge_bleed (CELLBAL1 to 3) and of toralinge_reply (low byte, high byte, PEC). */
 enum { TORALINGE_REPLY_SIZE = 3 };
+
+/* The nine numbers of a cell in toralinge_season, in this order. */
+enum toralinge_season_place {
+    TORALINGE_SEASON_SCANS = 0,          /* how many scans were stored */
+    TORALINGE_SEASON_PRESENT = 1,        /* 1, or 0 where there are no scans and so no least and no greatest */
+    TORALINGE_SEASON_LEAST = 2,          /* least count */
+    TORALINGE_SEASON_LEAST_SCAN = 3,     /* the first scan that had it, numbered from 1 */
+    TORALINGE_SEASON_GREATEST = 4,       /* greatest count */
+    TORALINGE_SEASON_GREATEST_SCAN = 5,  /* the first scan that had it */
+    TORALINGE_SEASON_SUM = 6,            /* sum of counts */
+    TORALINGE_SEASON_CONNECTED = 7,      /* in how many scans the cell was connected */
+    TORALINGE_SEASON_MICROVOLTS = 8,     /* sum of its microvolts over these */
+    TORALINGE_SEASON_SIZE = 9
+};
 
 /*
  * Plays a whole stream of records on a new chip and writes one entry of five bytes for each record.
@@ -187,6 +203,25 @@ uint8_t toralinge_bleed(const uint8_t *stream, size_t length, uint16_t margin, u
  */
 uint8_t toralinge_reply(const uint8_t *stream, size_t length, uint8_t command, uint32_t milliohms, uint8_t *reply,
                         size_t room);
+
+/*
+ * Plays a whole stream on a new chip and gives the totals of the scans that it stored. (In libtally.a.)
+ *
+ * rows, room      where nine numbers for each cell of the pack go, and how many int64_t may stand there; 135
+ *                 are always enough
+ *
+ * Returns how many cells the pack has (without a wiring record: as many as the part has inputs), and writes nine
+ * numbers for each from rows[0] on, cell 1 first; every later number keeps its value. A scan is stored that is
+ * done with ADC_EN 1. Scan numbers go on over SHIP. Of no scans all numbers are 0. A cell is connected in a scan
+ * as for toralinge_reading; the counts are over all scans.
+ *
+ * Otherwise writes nothing and returns minus a number, looked at in this order:
+ *   9         the stream is empty
+ *   1, 2, 9   the number that refuses the first record, so that no chip stands
+ *   22        a scan would be the 65,536th
+ *   5         room is below nine for each cell
+ */
+int64_t toralinge_season(const uint8_t *stream, size_t length, int64_t *rows, size_t room);
 
 /*
  * Cell voltage in microvolts: (344 + gain_code) x count + 1,000 x offset, offset as a signed byte.

@@ -8,7 +8,7 @@
 #define MOST_SHOWN 20
 #define PLAIN_BEGINNING 16384
 
-static unsigned long streams, records, plainly, asked, conversions, differences;
+static unsigned long streams, records, plainly, asked, rows, conversions, differences;
 
 static void get(void *to, size_t size)
 {
@@ -252,6 +252,47 @@ static void ask_all(const struct expected *want)
     }
 }
 
+static void season_into(const struct expected *want, uint8_t number, const uint8_t *wanted, size_t cells, size_t room)
+{
+    size_t full = number == 0 ? TORALINGE_SEASON_SIZE * cells : 0;
+    int64_t answer = number != 0 ? -(int64_t)number : room < full ? -TORALINGE_NO_ROOM : (int64_t)cells;
+    struct guarded buffer = guarded_new(sizeof(int64_t) * room);
+    int64_t given = toralinge_season(want->stream, want->length, (int64_t *)(void *)buffer.room, room);
+    size_t written = answer < 0 ? 0 : sizeof(int64_t) * full;
+    if (given != answer && differs(want, "answer of the season")) {
+        printf("  room %lu: model %lld, library %lld\n", (unsigned long)room, (long long)answer, (long long)given);
+    }
+    if (!guarded_kept(&buffer, written)) {
+        differs(want, "a number is written that is not the season's");
+    }
+    if (memcmp(buffer.room, wanted, written) != 0 && differs(want, "season")) {
+        size_t at;
+        for (at = 0; at < full; at++) {
+            int64_t of_model, of_library;
+            memcpy(&of_model, wanted + sizeof of_model * at, sizeof of_model);
+            memcpy(&of_library, buffer.room + sizeof of_library * at, sizeof of_library);
+            if (of_model != of_library) {
+                printf("  cell %lu place %lu: model %lld, library %lld\n", (unsigned long)(at / TORALINGE_SEASON_SIZE + 1),
+                       (unsigned long)(at % TORALINGE_SEASON_SIZE), (long long)of_model, (long long)of_library);
+            }
+        }
+    }
+    guarded_free(&buffer);
+}
+
+static void season_all(const struct expected *want)
+{
+    uint8_t number = (uint8_t)get_number(1);
+    size_t cells = (size_t)get_number(1);
+    size_t full = TORALINGE_SEASON_SIZE * cells;
+    uint8_t *wanted = get_bytes(sizeof(int64_t) * full);
+    season_into(want, number, wanted, cells, full + (size_t)(want->number % 11));
+    season_into(want, number, wanted, cells, full > 0 ? full - 1 : 0);
+    season_into(want, number, wanted, cells, (size_t)(want->number % TORALINGE_SEASON_SIZE));
+    rows += (unsigned long)cells;
+    free(wanted);
+}
+
 static void stream_block(void)
 {
     struct expected want;
@@ -284,6 +325,7 @@ static void stream_block(void)
     read_into(&want, TORALINGE_READING_SIZE + (size_t)(want.number % 2));
     read_into(&want, (size_t)(want.number % TORALINGE_READING_SIZE));
     ask_all(&want);
+    season_all(&want);
     if (memcmp(lent, want.stream, want.length) != 0) {
         differs(&want, "the stream itself is changed");
     }
@@ -368,7 +410,8 @@ int main(void)
             return 2;
         }
     }
-    printf("driver: %lu streams, %lu records (%lu of them plainly), %lu questions and %lu conversions compared, %lu differences\n", streams,
-           records, plainly, asked, conversions, differences);
+    printf("driver: %lu streams, %lu records (%lu of them plainly), %lu questions, %lu rows of seasons and %lu conversions compared, %lu "
+           "differences\n",
+           streams, records, plainly, asked, rows, conversions, differences);
     return differences == 0 ? 0 : 1;
 }

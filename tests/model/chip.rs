@@ -69,7 +69,7 @@ impl Setup {
     }
 
     /// The inputs of the pack's cells, cell 1's first.
-    fn wired(&self, plant: Plant) -> Vec<usize> {
+    pub fn wired(&self, plant: Plant) -> Vec<usize> {
         let all = (0..self.inputs()).collect();
         let Some(cells) = self.cells else { return all };
         let mut row = wiring(self.part, cells).unwrap_or(all);
@@ -104,6 +104,8 @@ pub struct Chip {
     verdicts: [Vec<bool>; 4],
     stale: Option<u8>,
     old_ov_trip: u8,
+    /// Every scan that was stored, also before the chip last woke.
+    pub scans: Vec<Vec<u16>>,
 }
 
 fn page_after_reset(setup: &Setup, plant: Plant) -> [u8; 256] {
@@ -134,6 +136,7 @@ impl Chip {
             verdicts: Default::default(),
             stale: None,
             old_ov_trip: 0xAC,
+            scans: Vec::new(),
         }
     }
 
@@ -179,6 +182,9 @@ impl Chip {
     pub fn por(&mut self) {
         let (pointer, awake) = (self.pointer, self.awake);
         self.sleep();
+        if self.planted(Plant::SeasonEndsAtPor) {
+            self.scans.clear();
+        }
         if self.planted(Plant::PorKeepsPointer) {
             self.pointer = pointer;
         }
@@ -470,6 +476,9 @@ impl Chip {
     }
 
     fn silent_scan(&mut self, counts: &[u16]) {
+        if self.planted(Plant::SilentScanCounted) {
+            self.scans.push(counts.to_vec());
+        }
         if self.planted(Plant::SilentScanStores) {
             self.store_scan(counts);
         }
@@ -484,6 +493,7 @@ impl Chip {
     }
 
     fn store_scan(&mut self, counts: &[u16]) {
+        self.scans.push(counts.to_vec());
         for (input, count) in counts.iter().enumerate() {
             self.put_pair(0x0C + 2 * input, *count);
         }

@@ -5,6 +5,7 @@ mod cases;
 mod chip;
 mod generate;
 mod plant;
+mod season;
 mod stream;
 mod values;
 
@@ -53,14 +54,20 @@ fn plants(options: &Options) -> Result<String, String> {
     let plants = plant::all();
     let mut missed = Vec::new();
     for plant in plant::ASKS {
-        if !expected.iter().any(|outcome| asks::all(&outcome.chip, *plant) != asks::all(&outcome.chip, Plant::None)) {
+        let shown = |outcome: &stream::Outcome| {
+            asks::all(&outcome.chip, *plant) != asks::all(&outcome.chip, Plant::None)
+                || season::rows(&outcome.chip, *plant) != season::rows(&outcome.chip, Plant::None)
+        };
+        if !expected.iter().any(shown) {
             missed.push(format!("{plant:?}"));
         }
     }
     for plant in &plants {
         let shown = |at: &usize| {
             let outcome = stream::play(&streams[*at], *plant);
-            outcome.entries != expected[*at].entries || !same_reading(&outcome.reading, &expected[*at].reading)
+            outcome.entries != expected[*at].entries
+                || !same_reading(&outcome.reading, &expected[*at].reading)
+                || season::rows(&outcome.chip, Plant::None) != season::rows(&expected[*at].chip, Plant::None)
         };
         let short_first = |at: &usize| streams[*at].len() < 60_000;
         let places: Vec<usize> = (0..streams.len()).collect();
@@ -107,6 +114,13 @@ fn generate(options: &Options) -> std::io::Result<()> {
             to.write_all(&one.with.to_le_bytes())?;
             to.write_all(&[one.answer.err().unwrap_or(0)])?;
             to.write_all(&one.answer.unwrap_or([0; 3]))?;
+        }
+        let season = season::rows(&outcome.chip, Plant::None);
+        to.write_all(&[*season.as_ref().err().unwrap_or(&0)])?;
+        let rows = season.unwrap_or_default();
+        to.write_all(&[rows.len() as u8])?;
+        for number in rows.iter().flatten() {
+            to.write_all(&number.to_le_bytes())?;
         }
     }
     for asked in values::grid(Plant::None) {

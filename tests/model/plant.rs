@@ -207,16 +207,25 @@ pub enum Plant {
     ResistorForCurrentOnly,
     PecWithoutReadAddress,
     PecWithoutCommand,
+    // seasons
+    SilentScanCounted,
+    SeasonEndsAtPor,
+    SeasonLastOfEquals,
+    SeasonOffsetOnce,
+    SeasonBelowFloorCounted,
+    SeasonOfInputs,
+    SeasonScansFromNought,
 }
 
 use Plant::*;
 
-/// The errors of `asks.rs`, which need no stream played anew.
+/// The errors of `asks.rs` and `season.rs`, which need no stream played anew.
 #[rustfmt::skip]
 pub const ASKS: &[Plant] = &[
     BleedLastOfEquals, BleedHighestFirst, BleedGroupsJoined, BleedNeighboursTogether, BleedMarginPassed, BleedLowestOfAll,
     BleedAsleepFirst, AskedBeforeChip, CurrentRoundedDown, CurrentUnsigned, WordCut, TemperatureDespiteSelect,
     ResistorForCurrentOnly, PecWithoutReadAddress, PecWithoutCommand,
+    SeasonLastOfEquals, SeasonOffsetOnce, SeasonBelowFloorCounted, SeasonOfInputs, SeasonScansFromNought,
 ];
 
 #[rustfmt::skip]
@@ -249,6 +258,7 @@ const PLAIN: &[Plant] = &[
     ReadingOfShorted, WiredBelowFloorLeftOut, UnwiredBelowFloorRead, FloorNotConnected, NoCellRead,
     ReadingOffsetUnsigned, ReadingCcUnsigned, ReadingAllInputs, ReadingAsleepGiven, ReadingRefusedWhereCut,
     GainFrom343, ThermistorLimit, ThermistorNearest, DieLimit, OvWindowWider, UvWindowNarrower, CodeOffsetAdded,
+    SilentScanCounted, SeasonEndsAtPor,
 ];
 
 /// Every plant, those over a table once for each of its places.

@@ -11,8 +11,8 @@ use Rattle.bleed.specs.declared.Choice.{Choice}
 use Rattle.smart.specs.Laws.{three-set}
 use Rattle.smart.specs.Reply.{Replied}
 use Rattle.stream.specs.Stream.{lastChip}
-use Rattle.asks.specs.Asks.{standingSaid, Bled}
-use Rattle.asks.specs.Done.{standing-none, standing-some}
+use Rattle.stream.specs.Asked.{standingSaid, standing-none, standing-some}
+use Rattle.asks.specs.Asks.{Bled}
 
 module _ (s : List ℕ) (c : Chip) (h : c ≡ lastChip s) where
   part-as : c .setup .part ≡ lastChip s .setup .part

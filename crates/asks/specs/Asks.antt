@@ -3,19 +3,15 @@ use mathlib.Core.Path.{_≡_}
 use mathlib.Core.Bool.{cond}
 use mathlib.Core.List.{List, [], _∷_, _++_}
 use Prim.Native.Nat.{ℕ}
-use lib.Dec.{eqb, ltb}
+use lib.Dec.{ltb}
 use lib.ListN.{length, drop}
 use Rattle.values.specs.Values.{Said, gives, refuses}
-use Rattle.records.specs.Record.{readOf, numberOf}
 use Rattle.bleed.specs.declared.Choice.{Choice}
 use Rattle.smart.specs.Words.{wordFor}
 use Rattle.smart.specs.Reply.{repliedNumber}
 use Rattle.care.specs.Care.{proposalSaid, packOf, linkedTotal}
 use Rattle.stream.specs.Stream.{lastChip}
-
--- where no chip stands the first record's number, 9 for an empty stream, before anything that is asked of a chip
-unfoldable pub standingSaid : {A : Type 0} → List ℕ → Said A → Said A
-standingSaid s said = cond (eqb (lastChip s .setup .part) 0) (refuses (numberOf (readOf 0 s))) said
+use Rattle.stream.specs.Asked.{standingSaid}
 
 -- the proposal, and the Smart Battery word
 abbrev pub proposalAt : List ℕ → ℕ → Said Choice

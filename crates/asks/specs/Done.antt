@@ -10,7 +10,6 @@ use lib.IntN.{ℤ, pos, negsuc}
 use lib.ListN.{length, drop}
 use borrow.Author.Tests.{eqb-true, eq-eqb}
 use Rattle.values.specs.Values.{Said, gives, refuses}
-use Rattle.records.specs.Record.{readOf, numberOf}
 use Rattle.bleed.specs.declared.Choice.{Choice}
 use Rattle.bleed.specs.Excess.{proposed}
 use Rattle.smart.specs.declared.Pack.{Pack}
@@ -20,7 +19,8 @@ use Rattle.chip.specs.declared.Chip.{Chip}
 use Rattle.care.specs.Care.{cellsOf, linkedOf, proposalSaid, packOf, linkedTotal}
 use Rattle.stream.specs.Stream.{lastChip}
 use Rattle.stream.specs.Standing.{no-chip}
-use Rattle.asks.specs.Asks.{standingSaid, proposalAt, wordAt, choiceBytes, bledBytes, Bled}
+use Rattle.stream.specs.Asked.{standingSaid, standing-none, standing-some}
+use Rattle.asks.specs.Asks.{proposalAt, wordAt, choiceBytes, bledBytes, Bled}
 
 -- ── no refusal has number 0 ──
 abbrev pub Numbered : {A : Type 0} → Said A → Type 0
@@ -83,14 +83,6 @@ pub record Given {A : Type 0} (s : List ℕ) (said : Said A) (room : ℕ) : Type
   pub is : said ≡ gives value
   pub stands : standingSaid s said ≡ gives value
   pub fits : ltb room 3 ≡ false
-
-pub standing-none : {A : Type 0} (s : List ℕ) (said : Said A) → eqb (lastChip s .setup .part) 0 ≡ true → standingSaid s said ≡ refuses (numberOf (readOf 0 s))
-unfolding standingSaid
-standing-none s said e = rw e
-
-pub standing-some : {A : Type 0} (s : List ℕ) (said : Said A) → eqb (lastChip s .setup .part) 0 ≡ false → standingSaid s said ≡ said
-unfolding standingSaid
-standing-some s said e = rw e
 
 module _ {A : Type 0} (s : List ℕ) (room : ℕ) where
   numbers : {x y : Said A} → 0 ≡ repliedNumber x room → x ≡ y → 0 ≡ repliedNumber y room

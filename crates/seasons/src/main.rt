@@ -58,10 +58,8 @@ fn put(n: u64) {
 fn signed(v: i64) {
     if v < 0 {
         text(b"-");
-        put((-(v + 1)) as u64 + 1);
-    } else {
-        put(v as u64);
     }
+    put(absolute::size_of(v));
 }
 
 // The least or the greatest, and the first scan that had it.

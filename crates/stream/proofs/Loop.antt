@@ -104,12 +104,12 @@ runs-cons : (f : ℕ) (o : Bool) (chip : Chip) (l : List ℕ) → 0 < length l
 runs-cons f o chip [] h = absurd (not-suc-le-zero h)
 runs-cons f o chip (b ∷ l) h = refl
 
-stands-cons : (f : ℕ) (o : Bool) (chip : Chip) (l : List ℕ) → 0 < length l
+pub stands-cons : (f : ℕ) (o : Bool) (chip : Chip) (l : List ℕ) → 0 < length l
     → stands (suc f) o chip l ≡ cond (turnOf o chip l .last) (turnOf o chip l .chip) (stands f (turnOf o chip l .fresh) (turnOf o chip l .chip) (drop (turnOf o chip l .next) l))
 stands-cons f o chip [] h = absurd (not-suc-le-zero h)
 stands-cons f o chip (b ∷ l) h = refl
 
-stands-nil : (f : ℕ) (o : Bool) (chip : Chip) → stands f o chip [] ≡ chip
+pub stands-nil : (f : ℕ) (o : Bool) (chip : Chip) → stands f o chip [] ≡ chip
 stands-nil zero o chip = refl
 stands-nil (suc f) o chip = refl
 
@@ -124,7 +124,7 @@ turned-next o chip rest (Record e n) h l = h
 turned-next o chip rest (Refused k n) h l = h
 turned-next o chip rest Cut h l = let z : _≡_ {A = ℕ} 0 1 = cc in absurd (omega arith)
 
-turn-next : (o : Bool) (chip : Chip) (rest : List ℕ) → turnOf o chip rest .last ≡ false → (4 ≤ turnOf o chip rest .next) × (turnOf o chip rest .next ≤ length rest)
+pub turn-next : (o : Bool) (chip : Chip) (rest : List ℕ) → turnOf o chip rest .last ≡ false → (4 ≤ turnOf o chip rest .next) × (turnOf o chip rest .next ≤ length rest)
 unfolding turnOf
 turn-next o chip rest l = turned-next o chip rest (readOf (chip .setup .part) rest) (placed (chip .setup .part) rest) l
 

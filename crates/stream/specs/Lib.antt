@@ -4,6 +4,7 @@ pub mod Frames
 pub mod Counted
 pub mod Convert
 pub mod Forecast
+pub mod Asked
 pub mod Prefix
 pub mod Standing
 pub mod Same

@@ -41,7 +41,7 @@ no-setup : (t : Bool) → inRange (cond t unfit unfit) ≡ true → ⊥
 no-setup true h = true≢false (sym h)
 no-setup false h = true≢false (sym h)
 
-no-setup-read : (v : SetupValues) (k : Counts) (c : Chip) → Meaning (c .setup) (Setup v) k → ⊥
+pub no-setup-read : (v : SetupValues) (k : Counts) (c : Chip) → Meaning (c .setup) (Setup v) k → ⊥
 unfolding meantOf
 no-setup-read v k c m = no-setup (countsFit 0 k) m
 

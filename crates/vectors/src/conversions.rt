@@ -118,12 +118,11 @@ fn put(n: u64) {
 }
 
 fn put_signed(v: i64) {
+    io::write_all(STDOUT_FILENO, b" ");
     if v < 0 {
-        io::write_all(STDOUT_FILENO, b" -");
-        io::print_decimal(STDOUT_FILENO, (-(v + 1)) as u64 + 1);
-    } else {
-        put(v as u64);
+        io::write_all(STDOUT_FILENO, b"-");
     }
+    io::print_decimal(STDOUT_FILENO, absolute::size_of(v));
 }
 
 fn put_refusal(why: Refusal) {

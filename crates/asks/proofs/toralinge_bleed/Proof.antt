@@ -3,7 +3,7 @@ use mathlib.Core.Path.{_≡_, sym, ap, _∙_}
 use borrow.Author.Needs.{needs}
 use Rattle.care.specs.Care.{saidProposal, proposalSaid}
 use Rattle.stream.specs.Stream.{lastChip}
-use Rattle.asks.specs.Asks.{standingSaid}
+use Rattle.stream.specs.Asked.{standingSaid}
 use Rattle.asks.proofs.Standing.{none-said, some-said, bled-as, bled-refused}
 use Rattle.asks.proofs.toralinge_bleed.Statement.{statement}
 use Rattle.asks.proofs.toralinge_bleed.Tie as tie

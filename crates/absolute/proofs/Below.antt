@@ -1,5 +1,5 @@
 -- A negative i64's size, as the code makes it: −(v + 1), and 1 more. Assumes nothing.
-use mathlib.Core.Path.{_≡_, sym, ap, subst, _∙_}
+use mathlib.Core.Path.{_≡_, refl, sym, ap, subst, _∙_}
 use mathlib.Core.Bool.{true, false}
 use Prim.Native.Nat.{ℕ, zero, suc, _+_, _^_, _<_}
 use native.Mathlib.Omega.{arith}
@@ -15,12 +15,13 @@ use borrow.Author.Tests.{ltb-true}
 pub record Less (v : ℤ) : Type 0 where
   pub below : ℕ
   pub is : v +ℤ pos 1 ≡ negℤ (pos below)
+  pub size : below + 1 ≡ natAbs v
   pub small : below < 2 ^ 63
 
 less : (v : ℤ) → SFits w64 v → ltZ v (pos 0) ≡ true → Less v
 less (pos n) f e = absurd (omega (arith, ltb-true n 0 e))
-less (negsuc zero) f e = record { below = 0; is = +ℤ-one (negsuc zero); small = omega arith }
-less (negsuc (suc n)) f e = record { below = suc n; is = +ℤ-one (negsuc (suc n)); small = omega (arith, f .sfits) }
+less (negsuc zero) f e = record { below = 0; is = +ℤ-one (negsuc zero); size = refl; small = omega arith }
+less (negsuc (suc n)) f e = record { below = suc n; is = +ℤ-one (negsuc (suc n)); size = omega arith; small = omega (arith, f .sfits) }
 
 minus-fits : (k : ℕ) → k < 2 ^ 63 → SFits w64 (negℤ (pos k))
 minus-fits zero h = record { sfits = h }
@@ -46,6 +47,9 @@ module _ {v y : ℤ} (l : Less v) (e : y ≡ pos (l .below)) where
 
   pub size-fits : Fits w64 (natAbs (toZ w64 (ofZ w64 y)) + 1)
   size-fits = subst (λ (z : ℤ). Fits w64 (natAbs z + 1)) (sym back) (record { fits = omega (arith, l .small) })
+
+  pub sized : natAbs (toZ w64 (ofZ w64 y)) + 1 ≡ natAbs v
+  sized = ap (λ (z : ℤ). natAbs z + 1) back ∙ l .size
 
 -- what the test says of the number itself
 pub negative : (v : ℤ) → SFits w64 v → ltZ (toZ w64 (ofZ w64 v)) (toZ w64 (ofZ w64 (pos 0))) ≡ true → Less v

@@ -1,0 +1,4 @@
+pub mod Cases
+pub mod Going
+pub mod Laid
+pub mod Given

@@ -1,0 +1,4 @@
+pub mod Scans
+pub mod Settled
+pub mod Rows
+pub mod Done
