@@ -1,13 +1,14 @@
 /*
  * toralinge.h - a software stand-in for the battery monitors MS9920T, MS9930T and MS9940T.
  *
- * Link with libstream.a (x86-64 Linux; `rt staticlib stream` writes target/staticlib/libstream.a), for
- * toralinge_list with liblists.a (`rt staticlib lists`), for toralinge_bleed and toralinge_reply with
- * libasks.a (`rt staticlib asks`), for toralinge_season with libtally.a (`rt staticlib tally`), and for
- * toralinge_plain with libplain.a (`rt staticlib plain`); a program
- * may link with any of them together.
- * "Document 01" is the paper that gives the rules. Every call here answers for every value of its
- * arguments, and is proved to answer exactly as that paper says.
+ * Link with target/libtoralinge.a, for x86-64 Linux; `./library` proves every call and writes it. A
+ * program that wants less links with single ones, in any number: `rt staticlib NAME` writes
+ * target/staticlib/libNAME.a, where NAME is lists for toralinge_list, asks for toralinge_bleed and
+ * toralinge_reply, tally for toralinge_season, plain for toralinge_plain, and stream for all other calls.
+ *
+ * "Document 01" is the paper that gives the rules; requests of document 02 have added to it and changed
+ * some (docs/landings). Every call here answers for every value of its arguments, and is proved to
+ * answer exactly as these papers say.
  *
  * What every call asks of its caller:
  *   - no pointer is NULL, also where its length or room is 0;
@@ -25,13 +26,13 @@
 extern "C" {
 #endif
 
-/* The numbers of document 01: 0 for done, or why a record or a call is refused. */
+/* 0 for done, or why a record or a call is refused. */
 enum toralinge_number {
     TORALINGE_DONE = 0,
     TORALINGE_BAD_SETUP = 1,    /* a value of SETUP, or a gain code, is out of range */
     TORALINGE_BAD_KIND = 2,     /* kind unknown, SETUP not first, first not SETUP, wrong length, or a
                                    wiring record that is not straight after SETUP */
-    TORALINGE_BAD_VALUE = 3,    /* a payload value, or a count, is out of range */
+    TORALINGE_BAD_VALUE = 3,    /* a payload value, a count, a margin or a resistor is out of range */
     TORALINGE_ASLEEP = 4,       /* the chip is in SHIP */
     TORALINGE_NO_ROOM = 5,      /* the output buffer is too short */
     TORALINGE_NO_CELL = 6,      /* no such cell; no call of this header answers it */
@@ -81,8 +82,8 @@ enum toralinge_command {
     TORALINGE_CURRENT = 0x0A      /* mA, signed */
 };
 
-/* The three bytes of toralinge_bleed (CELLBAL1 to 3) and of toralinge_reply (low byte, high byte, PEC). */
-enum { TORALINGE_REPLY_SIZE = 3 };
+/* The three bytes of toralinge_bleed: CELLBAL1 to 3; and of toralinge_reply: low byte, high byte, PEC. */
+enum { TORALINGE_CELLBAL_SIZE = 3, TORALINGE_REPLY_SIZE = 3 };
 
 /* The nine numbers of a cell in toralinge_season, in this order. */
 enum toralinge_season_place {
@@ -102,20 +103,20 @@ enum toralinge_season_place {
  * Plays a whole stream of records on a new chip and writes one entry of five bytes for each record.
  *
  * stream, length   the records: payload length (2 bytes), kind (2 bytes), payload, little-endian.
- *                  Kind 0015, one byte, is the outside level: while it is 1 a second protector holds
- *                  ALERT up, so a clearing write may end with OVRD_ALERT up again. Kinds 0000
- *                  to 0013 are document 01's; 0014 is ticks of one value: 4 bytes signed as SENSE has them,
- *                  and a repeat number of 2 bytes, 1 to 4,096, with one entry for the whole; 0017 is
- *                  the same with a repeat number of 4 bytes, 1 to 16,777,216
+ *                  Kinds 0000 to 0013 are document 01's. Kinds of later requests:
+ *                    0014  ticks of one value: 4 bytes signed, as SENSE has them, and a repeat number of
+ *                          2 bytes, 1 to 4,096; one entry for the whole
+ *                    0015  the outside level, one byte: while it is 1 a second protector holds ALERT
+ *                          up, so a clearing write may end with OVRD_ALERT up again
+ *                    0016  the pack's number of cells, one byte: 3 to 5 for part 1, 6 to 10 for part 2,
+ *                          11 to 15 for part 3. It is taken straight after SETUP, refused records
+ *                          between them left aside, and outlives SHIP
+ *                    0017  as 0014, with a repeat number of 4 bytes, 1 to 16,777,216
  * entries, room    where the entries go, and how many bytes may stand there
  *
  * Returns how many entries there are. They stand one after the other from entries[0]; every later
  * byte of the buffer keeps its value. A refused first record, or a record that is cut short
  * (number 9), is the last entry; an empty stream has none.
- *
- * A record of kind 0016, one byte, gives the pack's number of cells. It is taken straight after SETUP,
- * refused records between them left aside: 3 to 5 cells for part 1, 6 to 10 for part 2, 11 to 15 for
- * part 3. It outlives SHIP.
  *
  * Returns -5, and writes no byte, where five bytes for each of the entries do not fit into room.
  * One entry for every four bytes of the stream, and one more, is always enough.
@@ -140,8 +141,9 @@ int64_t toralinge_plain(const uint8_t *stream, size_t length, uint8_t *entries, 
  * reading, room   where the four doubles go, and how many doubles may stand there
  *
  * Returns 0 and writes reading[0] to reading[3]: least, greatest and total voltage of the pack's cells
- * (without a wiring record: of the inputs whose count is not below the floor) in microvolts, and the coulomb counter in hundredths of a microvolt. Each is a whole number,
- * held exactly. Later doubles keep their values.
+ * (without a wiring record: of the inputs whose count is not below the floor) in microvolts, and the
+ * coulomb counter in hundredths of a microvolt. Each is a whole number, held exactly. Later doubles keep
+ * their values.
  *
  * Otherwise writes nothing and returns, looked at in this order:
  *   9         the stream is empty
@@ -174,7 +176,7 @@ uint8_t toralinge_reading(const uint8_t *stream, size_t length, double *reading,
  *   10        no cell is connected
  *   5         room is below 3
  */
-uint8_t toralinge_bleed(const uint8_t *stream, size_t length, uint16_t margin, uint8_t *cellbal, size_t room);
+uint8_t toralinge_bleed(const uint8_t *stream, size_t length, uint32_t margin, uint8_t *cellbal, size_t room);
 
 /*
  * Plays a whole stream on a new chip and replies to a Smart Battery command for the chip as it then stands.

@@ -1,5 +1,5 @@
 # shellcheck shell=bash
-# Sourced by ./play, ./listing, ./library, .ci/run and the scripts of tests/. What the proved crates are built into is for x86-64 Linux:
+# Sourced by ./play, ./forecast, ./listing, ./library, .ci/run and the scripts of tests/. What the proved crates are built into is for x86-64 Linux:
 # elsewhere it is compiled for with Debian's cross compiler and run under qemu-user.
 # shellcheck disable=SC2034,SC2154  # me, root and usage are set, runner, compiler, program and library read by the script that sources this
 

@@ -61,7 +61,7 @@ static void add_write(struct stream *to, uint8_t at, uint8_t value)
 static uint8_t ask(const struct stream *of, uint8_t command, uint32_t with, uint8_t *out, size_t room)
 {
     if (command == 0) {
-        return toralinge_bleed(of->bytes, of->length, (uint16_t)with, out, room);
+        return toralinge_bleed(of->bytes, of->length, with, out, room);
     }
     return toralinge_reply(of->bytes, of->length, command, with, out, room);
 }
@@ -186,6 +186,7 @@ static void order(void)
     struct stream made = asleep(1);
     refused(&made, 0, 0, TORALINGE_BAD_VALUE); /* 3 before 4 */
     refused(&made, 0, 16384, TORALINGE_BAD_VALUE);
+    refused(&made, 0, 65537, TORALINGE_BAD_VALUE); /* 1 with 65,536 more */
     refused(&made, 0, 1, TORALINGE_ASLEEP);
     refused(&made, 0x07, 0, TORALINGE_BAD_COMMAND); /* 23 before 3 */
     refused(&made, 0x0B, 1, TORALINGE_BAD_COMMAND);

@@ -214,7 +214,7 @@ static void ask_into(const struct expected *want, const struct question *questio
     }
     written = wanted == TORALINGE_DONE ? TORALINGE_REPLY_SIZE : 0;
     if (question->command == 0) {
-        given = toralinge_bleed(want->stream, want->length, (uint16_t)question->with, buffer.room, room);
+        given = toralinge_bleed(want->stream, want->length, question->with, buffer.room, room);
     } else {
         given = toralinge_reply(want->stream, want->length, question->command, question->with, buffer.room, room);
     }

@@ -21,7 +21,7 @@ fn put_choice(out: &mut [u8], choice: Choice) -> u8
 // Plays a whole stream and proposes the three CELLBAL bytes for the chip that stands at its end.
 // Answers 0, or with nothing written the first record's number where no chip stands, 3 for the margin, 4 asleep, 10 where no cell is connected, 5 for room below 3.
 #[no_mangle]
-pub extern "C" fn toralinge_bleed(stream: &[u8], margin: u16, cellbal: &mut [u8]) -> u8
+pub extern "C" fn toralinge_bleed(stream: &[u8], margin: u32, cellbal: &mut [u8]) -> u8
     ensures { λ r. ⌜ Bled (proposalAt (now (stream .entry)) margin) (now (cellbal .entry)) r (now (cellbal .exit)) ⌝ }
 {
     let chip = stream::last_chip(stream);

@@ -14,7 +14,7 @@ pub enum Proposal {
 }
 
 // Which cells to bleed, by the counts now in the cell registers and a margin.
-pub fn bleeding(chip: Chip, margin: u16) -> Proposal
+pub fn bleeding(chip: Chip, margin: u32) -> Proposal
     ensures { λ r. ⌜ saidProposal r ≡ proposalSaid margin chip ⌝ }
 {
     if (1 <= margin) & (margin <= 16383) {
@@ -26,7 +26,7 @@ pub fn bleeding(chip: Chip, margin: u16) -> Proposal
             if linked == 0 {
                 return Proposal::No(10);
             }
-            return Proposal::Is(bleed::propose(cells, linked, margin));
+            return Proposal::Is(bleed::propose(cells, linked, margin as u16));
         }
         return Proposal::No(4);
     }

@@ -72,7 +72,7 @@ fn bled(chip: Chip, margin: u16) {
     text(b"bleed");
     put(margin as u64);
     text(b" =");
-    let answer = care::bleeding(chip, margin);
+    let answer = care::bleeding(chip, margin as u32);
     match answer {
         Proposal::Is(choice) => {
             hex(choice.one);

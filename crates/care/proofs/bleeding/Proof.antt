@@ -3,10 +3,14 @@ use mathlib.Core.Path.{_≡_, _∙_, sym, ap}
 use mathlib.Core.Bool.{Bool, true, false, _&&_}
 use mathlib.Core.Logic.{_≢_}
 use mathlib.Core.List.{List}
-use Prim.Native.Nat.{ℕ}
+use Prim.Native.Nat.{ℕ, _≤_}
 use lib.Dec.{leb}
 use borrow.Author.Needs.{needs}
-use borrow.Author.Tests.{eq-eqb, ne-eqb}
+use borrow.Author.Tests.{eq-eqb, ne-eqb, leb-true}
+use native.Mathlib.Omega.{arith}
+use mir.Syntax.{w16}
+use mir.Val.{Fits}
+use Rattle.bleed.specs.Best.{right-of}
 use Rattle.values.specs.Values.{Said, gives, refuses}
 use Rattle.bleed.specs.declared.Choice.{Choice}
 use Rattle.bleed.specs.Excess.{proposed}
@@ -39,6 +43,15 @@ returns c =
     let a = i .before .before .args in
     none (a .margin) (a .chip) (i .before .if1 .taken) (i .if2 .taken) _ (l .linked .ensures) (c .if3 .taken)
 
+-- a margin in range loses nothing in sixteen bits
+narrow : (margin : ℕ) → (leb 1 margin && leb margin 16383) ≡ true → Fits w16 margin
+narrow margin f = let h : margin ≤ 16383 = leb-true margin 16383 (right-of (leb 1 margin) (leb margin 16383) f) in record { fits = omega (arith, h) }
+
+cast-propose : tie.Need-cast-propose
+cast-propose c =
+    let i = c .before .before .before .before .before in
+    narrow (i .before .before .args .margin) (i .before .if1 .taken)
+
 returns-2 : tie.Need-returns-2
 returns-2 c =
     let l = c .before .before in
@@ -54,4 +67,4 @@ returns-4 c = let a = c .before .args in unfit (a .margin) (a .chip) (c .if1 .le
 
 pub bleeding-spec : {M : Type 1} → statement M
 bleeding-spec =
-    tie.close (tie.spec (λ c κs. search needs) returns (λ c κs. search needs) returns-2 returns-3 returns-4)
+    tie.close (tie.spec (λ c κs. search needs) returns cast-propose (λ c κs. search needs) returns-2 returns-3 returns-4)
