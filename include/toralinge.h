@@ -3,7 +3,8 @@
  *
  * Link with libstream.a (x86-64 Linux; `rt staticlib stream` writes target/staticlib/libstream.a), for
  * toralinge_list with liblists.a (`rt staticlib lists`), for toralinge_bleed and toralinge_reply with
- * libasks.a (`rt staticlib asks`), and for toralinge_season with libtally.a (`rt staticlib tally`); a program
+ * libasks.a (`rt staticlib asks`), for toralinge_season with libtally.a (`rt staticlib tally`), and for
+ * toralinge_plain with libplain.a (`rt staticlib plain`); a program
  * may link with any of them together.
  * "Document 01" is the paper that gives the rules. Every call here answers for every value of its
  * arguments, and is proved to answer exactly as that paper says.
@@ -44,7 +45,8 @@ enum toralinge_number {
     TORALINGE_NO_LIST = 20,     /* a line is no list of the grammar */
     TORALINGE_BAD_ADDRESS = 21, /* a list has an address outside 0x08 to 0x77 */
     TORALINGE_SEASON_FULL = 22, /* a season would have more than 65,535 scans */
-    TORALINGE_BAD_COMMAND = 23  /* another Smart Battery command */
+    TORALINGE_BAD_COMMAND = 23, /* another Smart Battery command */
+    TORALINGE_TOO_LONG = 24     /* a stream is longer than toralinge_plain takes */
 };
 
 /* An entry of toralinge_play: five bytes, in this order. */
@@ -119,6 +121,18 @@ enum toralinge_season_place {
  * One entry for every four bytes of the stream, and one more, is always enough.
  */
 int64_t toralinge_play(const uint8_t *stream, size_t length, uint8_t *entries, size_t room);
+
+/*
+ * Plays a whole stream as toralinge_play does, by an engine that keeps no count of scans or ticks: at each
+ * of them it looks back over the records before it, with the settings that stood at each, and decides from
+ * these alone. It is there to be read beside the other, and slow: its time grows with the square of the
+ * stream, to some seconds. (In libplain.a.)
+ *
+ * Returns -24, and writes no byte, for a stream of more than TORALINGE_PLAIN_MOST bytes; otherwise returns
+ * and writes, for every stream and every room, exactly what toralinge_play does.
+ */
+#define TORALINGE_PLAIN_MOST 65536
+int64_t toralinge_plain(const uint8_t *stream, size_t length, uint8_t *entries, size_t room);
 
 /*
  * Plays a whole stream on a new chip and gives forecasting's reading of the chip as it then stands.

@@ -73,7 +73,7 @@ want_library() {
 }
 
 # The crates whose calls include/toralinge.h declares.
-calls=(stream lists asks tally)
+calls=(stream lists asks tally plain)
 
 # want_calls: all of them in one library; sets `library`.
 want_calls() {
@@ -85,18 +85,16 @@ want_calls() {
         parts+=("$root/target/staticlib/lib$name.a")
     done
     library=$root/target/libtoralinge.a
+    if [[ -e $library && -z $(find "${parts[@]}" -newer "$library") ]]; then
+        return
+    fi
+    room=$(mktemp -d)
     for name in "${parts[@]}"; do
-        if [[ ! -e $library || $name -nt $library ]]; then
-            room=$(mktemp -d)
-            for name in "${parts[@]}"; do
-                (cd "$room" && "$archiver" x "$name")
-            done
-            rm -f "$library"
-            "$archiver" rcs "$library" "$room"/*.o
-            rm -rf "$room"
-            return
-        fi
+        (cd "$room" && "$archiver" x "$name")
     done
+    rm -f "$library"
+    "$archiver" rcs "$library" "$room"/*.o
+    rm -rf "$room"
 }
 
 # want_built NAME FILE VERB: has rt make FILE unless it is newer than every source.

@@ -6,8 +6,9 @@
 #include "toralinge.h"
 
 #define MOST_SHOWN 20
+#define PLAIN_BEGINNING 16384
 
-static unsigned long streams, records, asked, rows, conversions, differences;
+static unsigned long streams, records, plainly, asked, rows, conversions, differences;
 
 static void get(void *to, size_t size)
 {
@@ -133,6 +134,35 @@ static void play_into(const struct expected *want, size_t room)
         }
         guarded_free(&exact);
     }
+    guarded_free(&buffer);
+}
+
+/* The engine that keeps no runs: the model's entries, or -24; then what a longer stream begins with, as the other engine plays it. */
+static void play_plainly(const struct expected *want)
+{
+    size_t full = TORALINGE_ENTRY_SIZE * want->count;
+    int longer = want->length > TORALINGE_PLAIN_MOST;
+    int64_t wanted = longer ? -TORALINGE_TOO_LONG : (int64_t)want->count;
+    struct guarded buffer = guarded_new(full);
+    int64_t given = toralinge_plain(want->stream, want->length, buffer.room, full);
+    if (given != wanted && differs(want, "count of the plain engine's entries")) {
+        printf("  model %lld, library %lld\n", (long long)wanted, (long long)given);
+    }
+    if (!guarded_kept(&buffer, longer ? 0 : full)) {
+        differs(want, "the plain engine writes a byte that is not an entry's");
+    }
+    if (longer) {
+        struct guarded other = guarded_new(full);
+        wanted = toralinge_play(want->stream, PLAIN_BEGINNING, other.room, full);
+        given = toralinge_plain(want->stream, PLAIN_BEGINNING, buffer.room, full);
+        if (given != wanted || memcmp(other.room, buffer.room, full) != 0) {
+            differs(want, "the plain engine begins otherwise");
+        }
+        guarded_free(&other);
+    } else {
+        compare_entries(want, buffer.room);
+    }
+    plainly += given < 0 ? 0 : (unsigned long)given;
     guarded_free(&buffer);
 }
 
@@ -291,6 +321,7 @@ static void stream_block(void)
         play_into(&want, full - 1);
         play_into(&want, full - TORALINGE_ENTRY_SIZE);
     }
+    play_plainly(&want);
     read_into(&want, TORALINGE_READING_SIZE + (size_t)(want.number % 2));
     read_into(&want, (size_t)(want.number % TORALINGE_READING_SIZE));
     ask_all(&want);
@@ -379,7 +410,8 @@ int main(void)
             return 2;
         }
     }
-    printf("driver: %lu streams, %lu records, %lu questions, %lu rows of seasons and %lu conversions compared, %lu differences\n",
-           streams, records, asked, rows, conversions, differences);
+    printf("driver: %lu streams, %lu records (%lu of them plainly), %lu questions, %lu rows of seasons and %lu conversions compared, %lu "
+           "differences\n",
+           streams, records, plainly, asked, rows, conversions, differences);
     return differences == 0 ? 0 : 1;
 }

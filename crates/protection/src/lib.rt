@@ -187,13 +187,13 @@ fn sag_of(value: i32) -> u32
     }
 }
 
-fn beyond_scd(s: Settings, value: i32) -> bool
+pub fn beyond_scd(s: Settings, value: i32) -> bool
     ensures { λ r. ⌜ r ≡ beyond (rule Scd s) value ⌝ }
 {
     scd_limit(s.protect1) < sag_of(value)
 }
 
-fn beyond_ocd(s: Settings, value: i32) -> bool
+pub fn beyond_ocd(s: Settings, value: i32) -> bool
     ensures { λ r. ⌜ r ≡ beyond (rule Ocd s) value ⌝ }
 {
     ocd_limit(s.protect1, s.protect2) < sag_of(value)

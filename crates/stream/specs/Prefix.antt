@@ -87,7 +87,7 @@ turned-inside o c p (Record e next) g l = g .1
 turned-inside o c p (Refused k next) g l = g .1
 turned-inside o c p Cut g l = omega arith
 
-turn-inside : (o : Bool) (c : Chip) (p : List ℕ) → turnOf o c p .last ≡ false → turnOf o c p .next ≤ length p
+pub turn-inside : (o : Bool) (c : Chip) (p : List ℕ) → turnOf o c p .last ≡ false → turnOf o c p .next ≤ length p
 unfolding turnOf
 turn-inside o c p l = turned-inside o c p (readOf (c .setup .part) p) (placed (c .setup .part) p) l
 
@@ -158,9 +158,6 @@ same-frame o c r q l =
     let a : turnOf o c (take (turnOf o c r .next) r) ≡ turnOf o c r = turn-alone o c r l in
     same-turn o c (take (turnOf o c r .next) r) q (ap (λ (t : Turn). t .last) a ∙ l) ∙ a
 
-pub frame-inside : (o : Bool) (c : Chip) (r : List ℕ) → turnOf o c r .last ≡ false → turnOf o c r .next ≤ length r
-frame-inside o c r l = turn-inside o c r l
-
 -- ── whole records: each turn but the last is followed by another, and the last ends with the bytes ──
 pub data Whole-records : Bool → Chip → List ℕ → Type 0 where
   none-left : (o : Bool) (c : Chip) → Whole-records o c []
@@ -197,7 +194,7 @@ turned-past o c p (Record e next) g l = omega (arith, g .0)
 turned-past o c p (Refused k next) g l = omega (arith, g .0)
 turned-past o c p Cut g l = let z : _≡_ {A = ℕ} 0 1 = cc in absurd (omega arith)
 
-turn-past : (o : Bool) (c : Chip) (p : List ℕ) → turnOf o c p .last ≡ false → 1 ≤ turnOf o c p .next
+pub turn-past : (o : Bool) (c : Chip) (p : List ℕ) → turnOf o c p .last ≡ false → 1 ≤ turnOf o c p .next
 unfolding turnOf
 turn-past o c p l = turned-past o c p (readOf (c .setup .part) p) (placed (c .setup .part) p) l
 
