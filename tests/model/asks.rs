@@ -15,7 +15,7 @@ pub struct Asked {
     pub answer: Result<[u8; 3], u8>,
 }
 
-const MARGINS: [u32; 10] = [0, 1, 2, 10, 11, 30, 3_000, 16_383, 16_384, 65_535];
+const MARGINS: [u32; 12] = [0, 1, 2, 10, 11, 30, 3_000, 16_383, 16_384, 65_535, 65_537, u32::MAX];
 
 const WORDS: [(u8, &[u32]); 7] = [
     (0x07, &[0, 1]),
@@ -34,7 +34,7 @@ pub fn all(chip: &Result<Chip, u8>, plant: Plant) -> Vec<Asked> {
         let answer = match chip {
             Err(_) if plant == Plant::AskedBeforeChip && !(1..=16_383).contains(&with) => Err(3),
             Err(number) => Err(*number),
-            Ok(chip) => bleed(chip, with as u16, plant),
+            Ok(chip) => bleed(chip, with, plant),
         };
         list.push(Asked { command: BLEED, with, answer });
     }
@@ -60,7 +60,8 @@ fn neighbours(choice: u32, plant: Plant) -> bool {
 }
 
 /// Every choice is tried, smaller numbers first.
-fn bleed(chip: &Chip, margin: u16, plant: Plant) -> Result<[u8; 3], u8> {
+fn bleed(chip: &Chip, margin: u32, plant: Plant) -> Result<[u8; 3], u8> {
+    let margin = if plant == Plant::BleedMarginCut { margin % 65_536 } else { margin };
     if !chip.awake && plant == Plant::BleedAsleepFirst {
         return Err(4);
     }
@@ -78,7 +79,7 @@ fn bleed(chip: &Chip, margin: u16, plant: Plant) -> Result<[u8; 3], u8> {
     let far = margin + if plant == Plant::BleedMarginPassed { 1 } else { 0 };
     let mut excess = [0u32; 15];
     for (input, count) in cells {
-        if count - lowest >= far {
+        if u32::from(count - lowest) >= far {
             excess[input] = u32::from(count - lowest);
         }
     }

@@ -197,6 +197,7 @@ pub enum Plant {
     BleedGroupsJoined,
     BleedNeighboursTogether,
     BleedMarginPassed,
+    BleedMarginCut,
     BleedLowestOfAll,
     BleedAsleepFirst,
     AskedBeforeChip,
@@ -222,9 +223,9 @@ use Plant::*;
 /// The errors of `asks.rs` and `season.rs`, which need no stream played anew.
 #[rustfmt::skip]
 pub const ASKS: &[Plant] = &[
-    BleedLastOfEquals, BleedHighestFirst, BleedGroupsJoined, BleedNeighboursTogether, BleedMarginPassed, BleedLowestOfAll,
-    BleedAsleepFirst, AskedBeforeChip, CurrentRoundedDown, CurrentUnsigned, WordCut, TemperatureDespiteSelect,
-    ResistorForCurrentOnly, PecWithoutReadAddress, PecWithoutCommand,
+    BleedLastOfEquals, BleedHighestFirst, BleedGroupsJoined, BleedNeighboursTogether, BleedMarginPassed, BleedMarginCut,
+    BleedLowestOfAll, BleedAsleepFirst, AskedBeforeChip, CurrentRoundedDown, CurrentUnsigned, WordCut,
+    TemperatureDespiteSelect, ResistorForCurrentOnly, PecWithoutReadAddress, PecWithoutCommand,
     SeasonLastOfEquals, SeasonOffsetOnce, SeasonBelowFloorCounted, SeasonOfInputs, SeasonScansFromNought,
 ];
 
