@@ -1,4 +1,4 @@
-//! A second Toralinge, written from document 01 alone, to hold the proved library against. See ../README.md.
+//! A second Toralinge, written from documents 01 and 02 alone, to hold the proved library against. See ../README.md.
 
 mod asks;
 mod cases;
@@ -15,7 +15,7 @@ use std::process::ExitCode;
 
 const USAGE: &str =
     "usage: model cases | plants [--seed S] [--streams N] | generate [--seed S] [--streams N] [--first K]
-    | stream [--seed S] [--first K] | play [FILE]";
+    | stream [--seed S] [--first K] | play [FILE] | forecast [FILE]";
 
 struct Options {
     seed: u64,
@@ -141,7 +141,8 @@ fn generate(options: &Options) -> std::io::Result<()> {
     to.flush()
 }
 
-fn play(words: &[String]) -> Result<String, String> {
+/// The stream of a file, or of standard input.
+fn stream_of(words: &[String]) -> Result<Vec<u8>, String> {
     let mut bytes = Vec::new();
     match words {
         [] => {
@@ -156,7 +157,26 @@ fn play(words: &[String]) -> Result<String, String> {
         }
         _ => return Err(USAGE.to_string()),
     }
-    Ok(stream::lines(&bytes))
+    Ok(bytes)
+}
+
+/// What ./forecast prints: the reading, then the season, a line a cell.
+fn forecast(bytes: &[u8]) -> String {
+    let outcome = stream::play(bytes, Plant::None);
+    let mut lines = match outcome.reading {
+        Ok([least, greatest, total, charge]) => format!("least,greatest,total,charge\n{least},{greatest},{total},{charge}\n"),
+        Err(number) => format!("reading refused,{number}\n"),
+    };
+    let rows = match season::rows(&outcome.chip, Plant::None) {
+        Ok(rows) => rows,
+        Err(number) => return lines + &format!("season refused,{number}\n"),
+    };
+    lines += "cell,scans,least,in scan,greatest,in scan,counts,connected,microvolts\n";
+    for (place, row) in rows.iter().enumerate() {
+        let told = |at: usize| if row[1] == 0 { String::new() } else { row[at].to_string() };
+        lines += &format!("{},{},{},{},{},{},{},{},{}\n", place + 1, row[0], told(2), told(3), told(4), told(5), row[6], row[7], row[8]);
+    }
+    lines
 }
 
 fn run(words: &[String]) -> Result<(), String> {
@@ -170,7 +190,8 @@ fn run(words: &[String]) -> Result<(), String> {
             let bytes = generate::stream(options.seed, options.first);
             std::io::stdout().write_all(&bytes).map_err(|e| format!("model: {e}"))?;
         }
-        "play" => print!("{}", play(rest)?),
+        "play" => print!("{}", stream::lines(&stream_of(rest)?)),
+        "forecast" => print!("{}", forecast(&stream_of(rest)?)),
         _ => return Err(USAGE.to_string()),
     }
     Ok(())
