@@ -27,14 +27,7 @@ static struct stream awake(uint8_t crc)
 /* A scan of five inputs: four quiet ones at 8,200 and the last as given. */
 static void add_scan(struct stream *to, uint16_t last)
 {
-    uint8_t payload[10];
-    int input;
-    for (input = 0; input < 5; input++) {
-        uint16_t count = input < 4 ? 8200 : last;
-        payload[2 * input] = (uint8_t)(count & 0xFF);
-        payload[2 * input + 1] = (uint8_t)(count >> 8);
-    }
-    add(to, SCAN, payload, sizeof payload);
+    add_five(to, 8200, 8200, 8200, 8200, last);
 }
 
 static void add_sense(struct stream *to, int32_t microvolts)
@@ -59,15 +52,6 @@ static void add_ticks(struct stream *to, unsigned kind, int32_t microvolts, uint
         payload[4 + place] = (uint8_t)(repeat >> (8 * place));
     }
     add(to, kind, payload, 4 + size);
-}
-
-static void add_write(struct stream *to, uint8_t pointer, uint8_t value)
-{
-    add_bare(to, START);
-    add_byte(to, OUT, 0x10);
-    add_byte(to, OUT, pointer);
-    add_byte(to, OUT, value);
-    add_bare(to, STOP);
 }
 
 /* ---- playing */

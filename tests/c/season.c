@@ -10,44 +10,6 @@
 #define MOST_SCANS 65535
 #define FIVE TORALINGE_SEASON_SIZE * 5
 
-/* SETUP: no CRC, address 0x08, gain code 10, offset 30, floor 1,000. */
-static struct stream asleep(uint8_t part)
-{
-    uint8_t payload[7] = {1, 0, 0x08, 0x0A, 0x1E, 0xE8, 0x03};
-    struct stream made;
-    payload[0] = part;
-    made.length = 0;
-    add(&made, SETUP, payload, sizeof payload);
-    return made;
-}
-
-static void add_five(struct stream *to, unsigned a, unsigned b, unsigned c, unsigned d, unsigned e)
-{
-    unsigned counts[5];
-    uint8_t payload[10];
-    size_t at;
-    counts[0] = a;
-    counts[1] = b;
-    counts[2] = c;
-    counts[3] = d;
-    counts[4] = e;
-    for (at = 0; at < 5; at++) {
-        payload[2 * at] = (uint8_t)(counts[at] & 0xFF);
-        payload[2 * at + 1] = (uint8_t)(counts[at] >> 8);
-    }
-    add(to, SCAN, payload, sizeof payload);
-}
-
-/* SYS_CTRL1 written over the bus. */
-static void add_control(struct stream *to, uint8_t value)
-{
-    add_bare(to, START);
-    add_byte(to, OUT, 0x10);
-    add_byte(to, OUT, 0x04);
-    add_byte(to, OUT, value);
-    add_bare(to, STOP);
-}
-
 /* The rows stand at the start and nothing else is touched; in any smaller room nothing is. */
 static void given(const struct stream *of, const int64_t *wanted, size_t cells)
 {
@@ -94,9 +56,9 @@ static void season(void)
     add_five(&made, 1, 1, 1, 1, 1);
     add_bare(&made, BOOT);
     add_five(&made, 6144, 7000, 0, 1000, 16383);
-    add_control(&made, 0x00);
+    add_write(&made, 0x04, 0x00);
     add_five(&made, 2, 2, 2, 2, 2);
-    add_control(&made, 0x10);
+    add_write(&made, 0x04, 0x10);
     add_five(&made, 7952, 999, 0, 1001, 16382);
     add_five(&made, 3, 3, 3, 3, 16384);
     add_bare(&made, POR);

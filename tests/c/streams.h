@@ -39,4 +39,49 @@ static inline void add_byte(struct stream *to, unsigned kind, uint8_t byte)
     add(to, kind, &byte, 1);
 }
 
+/* SETUP: no CRC, address 0x08, gain code 10, offset 30, floor 1,000. */
+static inline struct stream asleep(uint8_t part)
+{
+    uint8_t payload[7] = {1, 0, 0x08, 0x0A, 0x1E, 0xE8, 0x03};
+    struct stream made;
+    payload[0] = part;
+    made.length = 0;
+    add(&made, SETUP, payload, sizeof payload);
+    return made;
+}
+
+/* Numbers of two bytes each. */
+static inline void add_words(struct stream *to, unsigned kind, const uint16_t *words, size_t many)
+{
+    uint8_t payload[30];
+    size_t at;
+    for (at = 0; at < many; at++) {
+        payload[2 * at] = (uint8_t)(words[at] & 0xFF);
+        payload[2 * at + 1] = (uint8_t)(words[at] >> 8);
+    }
+    add(to, kind, payload, 2 * many);
+}
+
+/* A scan of five inputs. */
+static inline void add_five(struct stream *to, uint16_t a, uint16_t b, uint16_t c, uint16_t d, uint16_t e)
+{
+    uint16_t words[5];
+    words[0] = a;
+    words[1] = b;
+    words[2] = c;
+    words[3] = d;
+    words[4] = e;
+    add_words(to, SCAN, words, 5);
+}
+
+/* A register written over the bus. */
+static inline void add_write(struct stream *to, uint8_t at, uint8_t value)
+{
+    add_bare(to, START);
+    add_byte(to, OUT, 0x10);
+    add_byte(to, OUT, at);
+    add_byte(to, OUT, value);
+    add_bare(to, STOP);
+}
+
 #endif
