@@ -25,6 +25,7 @@ import shutil
 import struct
 import subprocess
 import threading
+from itertools import repeat
 from pathlib import Path
 from typing import Any, Iterable, NamedTuple, Optional, Sequence, Union
 
@@ -123,8 +124,16 @@ class Inside(NamedTuple):
     place: int
 
 
+class Spread(NamedTuple):
+    """A pointer for each of many calls: into one buffer, so many bytes after its beginning."""
+
+    buffer: Any
+    places: Sequence[int]
+
+
 Argument = Union[int, bytes, "ctypes.Array[Any]", Inside]
 Call = tuple[str, Sequence[Argument]]
+Column = Union[int, Sequence[int], Spread]
 
 _WIDTHS = {
     "uint8_t": ctypes.c_uint8, "uint16_t": ctypes.c_uint16, "uint32_t": ctypes.c_uint32, "uint64_t": ctypes.c_uint64,
@@ -185,9 +194,41 @@ class Library:
         """Makes calls one after the other and gives their answers."""
         return [self.call(name, *arguments) for name, arguments in many]
 
+    def each(self, name: str, many: int, *columns: Column) -> list[int]:
+        """Makes one call many times and gives its answers. An argument is the same number for all, or one for each."""
+        return list(map(self._function(name), *(_column(one, many) for one in columns)))
+
     def text(self, name: str, *arguments: int) -> str:
         """Makes a call that answers text."""
         return bytes(self._function(name)(*arguments)).decode()
+
+
+def _column(column: Column, many: int) -> Iterable[int]:
+    """The numbers of an argument for many calls; pointers as addresses."""
+    if isinstance(column, int):
+        return repeat(column, many)
+    if not isinstance(column, Spread):
+        return column
+    if isinstance(column.buffer, bytes):
+        base = ctypes.cast(ctypes.c_char_p(column.buffer), ctypes.c_void_p).value or 0
+    else:
+        base = ctypes.addressof(column.buffer)
+    return [base + place for place in column.places]
+
+
+class _Lent:
+    """The buffers that calls are lent, each with its place in the shared memory."""
+
+    def __init__(self, following: int) -> None:
+        self.following = following
+        self.places: dict[int, tuple[int, Any]] = {}
+
+    def place(self, buffer: Any) -> int:
+        """Where a buffer stands; the same one always at the same place."""
+        if id(buffer) not in self.places:
+            self.places[id(buffer)] = (self.following, buffer)
+            self.following += memoryview(buffer).nbytes + 15 & ~15
+        return self.places[id(buffer)][0]
 
 
 class Bridge(Library):
@@ -285,36 +326,52 @@ class Bridge(Library):
                 return []
             return self._made(listed)
 
+    def each(self, name: str, many: int, *columns: Column) -> list[int]:
+        with self._lock:
+            self._here()
+            if self._handle(name) < 0:
+                raise NotThere(f"{self.path} has no call {name}: {ADVICE}")
+            lent = _Lent(self._ROW.size * many)
+            pointers, given = 0, [_column(0, many) for _ in range(6)]
+            for at, column in enumerate(columns):
+                if isinstance(column, Spread):
+                    pointers |= 1 << at
+                    base = lent.place(column.buffer)
+                    given[at] = [base + place for place in column.places]
+                else:
+                    given[at] = _column(column, many)
+            head = (self._handles[name], pointers, signature(name).answer == "uint8_t")
+            pack = self._ROW.pack
+            return self._together(b"".join([pack(*head, *six, 0) for six in zip(*given)]), lent)
+
     def _made(self, listed: list[Call]) -> list[int]:
-        """Lays the calls and what they are lent into the shared memory, has them made, and takes back what was written."""
-        places: dict[int, tuple[int, Any, bool]] = {}
-        following = self._ROW.size * len(listed)
+        lent = _Lent(self._ROW.size * len(listed))
         rows = bytearray()
         for name, arguments in listed:
-            shape, pointers, numbers = signature(name), 0, [0] * 6
+            pointers, numbers = 0, [0] * 6
             for at, one in enumerate(arguments):
                 if isinstance(one, int):
-                    numbers[at] = one if one < 1 << 63 else one - (1 << 64)
+                    numbers[at] = one
                     continue
                 buffer, inside = (one.buffer, one.place) if isinstance(one, Inside) else (one, 0)
-                if id(buffer) not in places:
-                    places[id(buffer)] = (following, buffer, not isinstance(buffer, bytes))
-                    following += memoryview(buffer).nbytes + 15 & ~15
                 pointers |= 1 << at
-                numbers[at] = places[id(buffer)][0] + inside
-            rows += self._ROW.pack(self._handles[name], pointers, shape.answer == "uint8_t", *numbers, 0)
-        self._need(following)
-        self._memory[:len(rows)] = bytes(rows)
-        for place, buffer, _ in places.values():
+                numbers[at] = lent.place(buffer) + inside
+            rows += self._ROW.pack(self._handles[name], pointers, signature(name).answer == "uint8_t", *numbers, 0)
+        return self._together(bytes(rows), lent)
+
+    def _together(self, rows: bytes, lent: "_Lent") -> list[int]:
+        """Lays the calls and what they are lent into the shared memory, has them made, and takes back what was written."""
+        self._need(lent.following)
+        self._memory[:len(rows)] = rows
+        for place, buffer in lent.places.values():
             held = memoryview(buffer).cast("B")
             self._memory[place:place + held.nbytes] = held
-        self._ask(len(listed), 0)
-        for place, buffer, written in places.values():
-            if written:
+        self._ask(len(rows) // self._ROW.size, 0)
+        for place, buffer in lent.places.values():
+            if not isinstance(buffer, bytes):
                 held = memoryview(buffer).cast("B")
                 held[:] = self._memory[place:place + held.nbytes]
-        answers = self._memory[:len(rows)]
-        return [row[-1] for row in self._ROW.iter_unpack(answers)]
+        return [row[-1] for row in self._ROW.iter_unpack(self._memory[:len(rows)])]
 
     def text(self, name: str, *arguments: int) -> str:
         with self._lock:

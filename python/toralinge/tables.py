@@ -3,12 +3,13 @@ from __future__ import annotations
 
 import ctypes
 import os
+from itertools import accumulate
 from typing import TYPE_CHECKING, Any, Iterable, Iterator, Mapping, NamedTuple, Optional, Sequence, Union
 
-from .library import Call, Inside, constant, library, room
+from .library import Spread, constant, library, room
 from .refused import Refused
-from .season import MOST_CELLS, CellSeason, Report, cell_season, extremes, is_mixed, row_places, scans
-from .streams import Setup, Stream, setup_of, stream_of
+from .season import MOST_CELLS, CellSeason, Report, cell_season, mixed_of, row_places
+from .streams import Stream, setup_of, stream_of
 
 if TYPE_CHECKING:
     import numpy
@@ -23,7 +24,7 @@ NUMBERS = CellSeason._fields
 COLUMNS = ("pack", *NUMBERS, "refused_number", "refused_words", "refused_stream")
 """All columns. A pack that cannot be read has one row, with nothing but the last three."""
 
-TOGETHER = 256
+TOGETHER = 512
 """How many streams are handed to the library at a time."""
 
 
@@ -117,86 +118,102 @@ def _broken_piece(name: str, broken: Broken) -> Piece:
 
 # ---- packs of one stream each, many at a time -----------------------------------------------------------------------------
 
-def _single_pieces(packs: Sequence[Pack]) -> list[Piece]:
-    """The pieces of packs of one stream each: a few rounds of calls for all of them together."""
+def _single_piece(packs: Sequence[Pack]) -> Piece:
+    """The piece of packs of one stream each: three rounds of calls for all of them together."""
+    import numpy
+
     read = [_read(pack.parts[0], at) for at, pack in enumerate(packs)]
-    held = [one for one in read if isinstance(one, bytes)]
-    answers, rows = _season_calls(held)
-    setups = [setup_of(one) if answer >= 0 else None for one, answer in zip(held, answers)]
-    voltages = _voltages(setups, answers, rows)
-    pieces: list[Piece] = []
-    at = 0
-    for pack, one in zip(packs, read):
-        if isinstance(one, Broken):
-            pieces.append(_broken_piece(pack.name, one._replace(stream=pack.name)))
-            continue
-        if answers[at] < 0:
-            refused = Refused(-answers[at])
-            pieces.append(_broken_piece(pack.name, Broken(refused.number, refused.words, pack.name)))
-        else:
-            pieces.append(_single_piece(pack.name, one, rows[at, :answers[at]], voltages[at, :answers[at]]))
-        at += 1
-    return pieces
+    held = [one if isinstance(one, bytes) else b"" for one in read]
+    joined, starts, lengths = _joined(held)
+    answers, rows = _season_calls(joined, starts, lengths)
+    numbers, nothing = _columns(rows, _voltages(_codes(joined, starts, lengths), rows))
+    cells = numpy.array(answers)
+    broken: list[Optional[Broken]] = [None] * len(packs)
+    for at in numpy.flatnonzero(cells < 0).tolist():
+        one, name = read[at], packs[at].name
+        refused = Refused(-answers[at])
+        broken[at] = one._replace(stream=name) if isinstance(one, Broken) else Broken(refused.number, refused.words, name)
+        nothing[at, 0] = True
+    cells[cells < 0] = 1
+    place = row_places()
+    connected = rows[:, :, place.connected]
+    for at in numpy.flatnonzero(((connected > 0) & (connected < rows[:, :, place.scans])).any(axis=1)).tolist():
+        numbers[at, :cells[at]], nothing[at, :cells[at]] = _mixed(held[at], rows[at, :cells[at]].tolist())
+    there = numpy.arange(MOST_CELLS) < cells[:, None]
+    numbers[nothing] = 0
+    return Piece([pack.name for pack, many in zip(packs, cells.tolist()) for _ in range(many)], numbers[there], nothing[there],
+                 [one for one, many in zip(broken, cells.tolist()) for _ in range(many)])
 
 
-def _season_calls(held: Sequence[bytes]) -> tuple[list[int], Any]:
+def _joined(held: Sequence[bytes]) -> tuple[bytes, list[int], list[int]]:
+    """Streams as one, where each begins, and how long each is."""
+    lengths = [len(one) for one in held]
+    return b"".join(held) + b"\0", [0, *accumulate(lengths)][:-1], lengths
+
+
+def _season_calls(joined: bytes, starts: list[int], lengths: list[int]) -> tuple[list[int], Any]:
     """The library's answer for each stream, and its rows as an array: stream, cell, number."""
     import numpy
 
     size = constant("TORALINGE_SEASON_SIZE")
-    each = MOST_CELLS * size
-    buffer = room(ctypes.c_int64, len(held) * each)
-    calls: list[Call] = [
-        ("toralinge_season", (one or b"\0", len(one), Inside(buffer, 8 * each * at), each)) for at, one in enumerate(held)]
-    answers = library().calls(calls)
-    return answers, numpy.frombuffer(buffer, numpy.int64)[:len(held) * each].reshape(len(held), MOST_CELLS, size)
+    many, each = len(starts), MOST_CELLS * size
+    buffer = room(ctypes.c_int64, many * each)
+    answers = library().each(
+        "toralinge_season", many, Spread(joined, starts), lengths, Spread(buffer, range(0, 8 * many * each, 8 * each)), each)
+    return answers, numpy.frombuffer(buffer, numpy.int64)[:many * each].reshape(many, MOST_CELLS, size)
 
 
-def _voltages(setups: Sequence[Optional[Setup]], answers: Sequence[int], rows: Any) -> Any:
+def _codes(joined: bytes, starts: list[int], lengths: list[int]) -> Any:
+    """The gain code and the offset, as a byte, of each stream's SETUP; 0 where there is none."""
+    import numpy
+
+    many, most = len(starts), 16
+    kinds, values = room(ctypes.c_uint32, 1), room(ctypes.c_int64, many * most)
+    library().each("toralinge_values", many, Spread(joined, starts), lengths, 0, Spread(kinds, [0] * many),
+                   Spread(values, range(0, 8 * many * most, 8 * most)), most)
+    return numpy.frombuffer(values, numpy.int64)[:many * most].reshape(many, most)[:, 3:5]
+
+
+def _voltages(codes: Any, rows: Any) -> Any:
     """The voltages of each least and greatest count, by the library's conversion: each that occurs is asked for once."""
     import numpy
 
     place = row_places()
     counts = rows[:, :, (place.least, place.greatest)]
-    codes = numpy.array([(one.gain_code, one.offset) if one else (0, 0) for one in setups], dtype=numpy.int64).reshape(-1, 2)
-    asked = numpy.empty((*counts.shape, 3), numpy.int64)
-    asked[..., :2] = codes[:, None, None, :]
-    asked[..., 2] = counts
-    each, back = numpy.unique(asked.reshape(-1, 3), axis=0, return_inverse=True)
+    asked = codes[:, 0] << 22 | codes[:, 1] << 14
+    each, back = numpy.unique((asked[:, None, None] | counts).ravel(), return_inverse=True)
     converted = room(ctypes.c_int64, len(each))
-    calls: list[Call] = [
-        ("toralinge_cell_microvolts", (code, byte & 0xFF, count, Inside(converted, 8 * at)))
-        for at, (code, byte, count) in enumerate(each.tolist())]
-    library().calls(calls)
+    library().each("toralinge_cell_microvolts", len(each), (each >> 22).tolist(), (each >> 14 & 0xFF).tolist(), (each & 0x3FFF).tolist(),
+                   Spread(converted, range(0, 8 * len(each), 8)))
     return numpy.frombuffer(converted, numpy.int64)[back].reshape(counts.shape)
 
 
-def _single_piece(name: str, held: bytes, rows: Any, voltages: Any) -> Piece:
+def _columns(rows: Any, voltages: Any) -> tuple[Any, Any]:
+    """The table's numbers of each stream and cell, and where there are none, for cells that were connected always or never."""
     import numpy
 
     place = row_places()
-    seen, connected = rows[:, place.present] != 0, rows[:, place.connected]
-    whole = seen & (connected == rows[:, place.scans])
-    if (~whole & (connected > 0)).any():
-        found = list(scans(held))
-        setup = setup_of(held)
-        return _cells_piece(name, [
-            cell_season(setup, cell, row, extremes(found, cell) if is_mixed(row) else None) for cell, row in enumerate(rows.tolist(), 1)])
+    seen = rows[:, :, place.present] != 0
+    whole = seen & (rows[:, :, place.connected] == rows[:, :, place.scans])
     columns = {
-        "cell": numpy.arange(1, len(rows) + 1), "scans": rows[:, place.scans],
-        "least_count": rows[:, place.least], "least_count_scan": rows[:, place.least_scan],
-        "greatest_count": rows[:, place.greatest], "greatest_count_scan": rows[:, place.greatest_scan],
-        "total_counts": rows[:, place.sum], "connected_scans": connected, "total_microvolts": rows[:, place.microvolts],
-        "least_microvolts": voltages[:, 0], "least_microvolts_scan": rows[:, place.least_scan],
-        "greatest_microvolts": voltages[:, 1], "greatest_microvolts_scan": rows[:, place.greatest_scan],
+        "cell": numpy.broadcast_to(numpy.arange(1, MOST_CELLS + 1), seen.shape), "scans": rows[:, :, place.scans],
+        "least_count": rows[:, :, place.least], "least_count_scan": rows[:, :, place.least_scan],
+        "greatest_count": rows[:, :, place.greatest], "greatest_count_scan": rows[:, :, place.greatest_scan],
+        "total_counts": rows[:, :, place.sum], "connected_scans": rows[:, :, place.connected],
+        "total_microvolts": rows[:, :, place.microvolts],
+        "least_microvolts": voltages[:, :, 0], "least_microvolts_scan": rows[:, :, place.least_scan],
+        "greatest_microvolts": voltages[:, :, 1], "greatest_microvolts_scan": rows[:, :, place.greatest_scan],
     }
-    nothing = numpy.zeros((len(rows), len(NUMBERS)), bool)
-    for at, column in enumerate(NUMBERS):
-        if column.startswith(("least", "greatest")):
-            nothing[:, at] = ~(whole if "microvolts" in column else seen)
-    numbers = numpy.stack([columns[column] for column in NUMBERS], axis=1)
-    numbers[nothing] = 0
-    return Piece([name] * len(rows), numbers, nothing, [None] * len(rows))
+    missing = {column: ~(whole if "microvolts" in column else seen) if column.startswith(("least", "greatest"))
+               else numpy.zeros(seen.shape, bool) for column in NUMBERS}
+    return numpy.stack([columns[column] for column in NUMBERS], axis=2), numpy.stack([missing[column] for column in NUMBERS], axis=2)
+
+
+def _mixed(held: bytes, rows: Sequence[Sequence[int]]) -> tuple[Any, Any]:
+    """The numbers of a pack with a cell that was connected in some scans and not in others."""
+    setup, found = setup_of(held), mixed_of(held, rows)
+    piece = _cells_piece("", [cell_season(setup, cell, row, found.get(cell)) for cell, row in enumerate(rows, 1)])
+    return piece.numbers, piece.nothing
 
 
 # ---- the table ------------------------------------------------------------------------------------------------------------
@@ -206,8 +223,7 @@ def pieces_of(packs: Sequence[Pack]) -> list[Piece]:
     pieces: list[Piece] = []
     for alone, run in _runs(packs):
         if alone:
-            for at in range(0, len(run), TOGETHER):
-                pieces += _single_pieces(run[at:at + TOGETHER])
+            pieces += [_single_piece(run[at:at + TOGETHER]) for at in range(0, len(run), TOGETHER)]
         else:
             pieces += [piece_of_report(pack.name, report_of(pack)) for pack in run]
     return pieces
