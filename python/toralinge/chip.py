@@ -197,15 +197,15 @@ class Chip:
     def feed(self, stream: Stream) -> list[Entry]:
         """Plays records on the chip and gives their entries. Refused ones are entries with their number and raise nothing."""
         held = stream_of(stream)
-        many = entry_room(len(held))
-        entries = room(ctypes.c_uint8, many)
-        count = checked(self._call("toralinge_feed", held or b"\0", len(held), entries, many))
+        room_ = entry_room(len(held))
+        entries = room(ctypes.c_uint8, room_)
+        many = checked(self._call("toralinge_feed", held or b"\0", len(held), entries, room_))
         size, given = entry_size(), []
-        for at, place in zip(range(count), places(held)):
+        for at, place in zip(range(many), places(held)):
             given.append(entry_of(entries[size * at:size * at + size], self._records + at, place.kind))
         if self._setup is None and given and not given[0].number:
             self._setup = setup_of(held)
-        self._records += count
+        self._records += many
         return given
 
     def _one(self, one: bytes) -> Entry:

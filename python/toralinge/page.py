@@ -39,7 +39,7 @@ ol.changes .refused .what { color: #b00020; font-weight: 600; } .filters { margi
 .wide { overflow: auto; } table { border-collapse: collapse; font-size: .9em; } th, td { padding: .25rem .6rem; border-bottom: 1px solid var(--line); }
 th { text-align: right; font-weight: 600; vertical-align: bottom; background: #f6f8fa; position: sticky; top: 0; } td { text-align: right; font-variant-numeric: tabular-nums; }
 th.text, td.text { text-align: left; } td.nothing { color: var(--pale); } tr:target, tr.picked { background: var(--mark); }
-tr.gap td { color: var(--pale); text-align: center; font-style: italic; } .records { max-height: 30rem; overflow: auto; border: 1px solid var(--line); border-radius: 6px; }
+tr.gap td { color: var(--pale); text-align: center; font-style: italic; } .records { max-height: 22rem; overflow: auto; border: 1px solid var(--line); border-radius: 6px; }
 .records table { width: 100%; } code { font-family: "DejaVu Sans Mono", ui-monospace, monospace; font-size: .92em; }
 @media (max-width: 60rem) { .run { grid-template-columns: minmax(0, 1fr); } }
 @media print { ol.changes, .records { max-height: none; } }
@@ -62,6 +62,12 @@ SCRIPT = """
     made.setAttribute('d', 'M' + x + ',' + frame.dataset.top + 'V' + frame.dataset.bottom);
     svg.appendChild(made);
   }
+  function show(row) {
+    if (!row) { return; }
+    var box = document.querySelector('.records');
+    box.scrollTop += row.getBoundingClientRect().top - box.getBoundingClientRect().top - box.clientHeight / 2;
+    box.scrollIntoView({block: 'nearest'});
+  }
   function pick(change) {
     clear();
     change.classList.add('picked');
@@ -71,8 +77,7 @@ SCRIPT = """
       if (row) { row.classList.add('picked'); }
       line(Number(number));
     });
-    var first = document.getElementById('record-' + records[0]);
-    if (first) { first.scrollIntoView({block: 'center'}); }
+    show(document.getElementById('record-' + records[0]));
   }
   document.querySelectorAll('ol.changes li').forEach(function (change) {
     change.querySelector('a').addEventListener('click', function (event) {
@@ -118,7 +123,7 @@ def _whole(history: History, named: str, found: list[Change]) -> str:
         "<meta name=\"viewport\" content=\"width=device-width, initial-scale=1\">\n",
         f"<title>{escape(named)}</title>\n<style>{STYLE}</style>\n</head>\n<body>\n",
         f"<h1>{escape(named)}</h1>\n<p class=\"about\">{escape(about)}</p>\n<div class=\"run\">\n",
-        _picture(history, named), _changes(found), "</div>\n", _season(history), _refusals(history), _records(history, found),
+        _picture(history, named), _changes(found), "</div>\n", _records(history, found), _season(history), _refusals(history),
         f"<script>{SCRIPT}</script>\n</body>\n</html>\n"))
 
 

@@ -152,7 +152,7 @@ class Run(Sequence[Entry]):
 def play(stream: Stream) -> Run:
     """Plays a stream on a new chip. Refused records are entries with their number and raise nothing."""
     held = stream_of(stream)
-    many = entry_room(len(held))
-    entries = room(ctypes.c_uint8, many)
-    count = checked(call("toralinge_play", held or b"\0", len(held), entries, many))
-    return Run(held, bytes(entries)[:count * entry_size()])
+    room_ = entry_room(len(held))
+    entries = room(ctypes.c_uint8, room_)
+    many = checked(call("toralinge_play", held or b"\0", len(held), entries, room_))
+    return Run(held, bytes(entries)[:many * entry_size()])

@@ -184,10 +184,11 @@ class Report:
         :raises Refused: 9, 1 or 2 where no chip stands, 22 more than 65,535 scans
         """
         held = stream_of(stream)
+        rows = season_rows(held)
         kept = room(ctypes.c_uint8, constant("TORALINGE_REPORT_SIZE"))
         chip = bytes(constant("TORALINGE_CHIP_SIZE"))
-        checked(call("toralinge_grow", kept, len(kept), chip, len(chip), held or b"\0", len(held)))
-        return cls(bytes(kept), setup_of(held), mixed_of(held, season_rows(held)))
+        checked(call("toralinge_grow", kept, len(kept), chip, len(chip), held, len(held)))
+        return cls(bytes(kept), setup_of(held), mixed_of(held, rows))
 
     def join(self, second: "Report") -> "Report":
         """This part of a season and the one straight after it, by the proved join. Scan numbers go on.

@@ -134,7 +134,7 @@ def setup_of(stream: bytes) -> Setup:
     """
     if not stream:
         raise Refused(constant("TORALINGE_CUT"))
-    kind, numbers = values(stream[:11], 0)
+    kind, numbers = values(stream[:next(places(stream)).end], 0)
     if kind != Kind.SETUP:
         raise Refused(constant("TORALINGE_BAD_KIND"), record=0)
     part, crc, address, gain_code, byte, floor = numbers

@@ -8,8 +8,8 @@ from typing import TYPE_CHECKING, Any, Iterable, Iterator, Mapping, NamedTuple, 
 
 from .library import Spread, constant, library, room
 from .refused import Refused
-from .season import MOST_CELLS, CellSeason, Report, cell_season, mixed_of, row_places
-from .streams import Stream, setup_of, stream_of
+from .season import MOST_CELLS, CellSeason, Report, row_places
+from .streams import Stream, stream_of
 
 if TYPE_CHECKING:
     import numpy
@@ -135,10 +135,7 @@ def _single_piece(packs: Sequence[Pack]) -> Piece:
         broken[at] = one._replace(stream=name) if isinstance(one, Broken) else Broken(refused.number, refused.words, name)
         nothing[at, 0] = True
     cells[cells < 0] = 1
-    place = row_places()
-    connected = rows[:, :, place.connected]
-    for at in numpy.flatnonzero(((connected > 0) & (connected < rows[:, :, place.scans])).any(axis=1)).tolist():
-        numbers[at, :cells[at]], nothing[at, :cells[at]] = _mixed(held[at], rows[at, :cells[at]].tolist())
+    _put_mixed(joined, starts, lengths, rows, numbers, nothing)
     there = numpy.arange(MOST_CELLS) < cells[:, None]
     numbers[nothing] = 0
     return Piece([pack.name for pack, many in zip(packs, cells.tolist()) for _ in range(many)], numbers[there], nothing[there],
@@ -209,11 +206,42 @@ def _columns(rows: Any, voltages: Any) -> tuple[Any, Any]:
     return numpy.stack([columns[column] for column in NUMBERS], axis=2), numpy.stack([missing[column] for column in NUMBERS], axis=2)
 
 
-def _mixed(held: bytes, rows: Sequence[Sequence[int]]) -> tuple[Any, Any]:
-    """The numbers of a pack with a cell that was connected in some scans and not in others."""
-    setup, found = setup_of(held), mixed_of(held, rows)
-    piece = _cells_piece("", [cell_season(setup, cell, row, found.get(cell)) for cell, row in enumerate(rows, 1)])
-    return piece.numbers, piece.nothing
+def _put_mixed(joined: bytes, starts: list[int], lengths: list[int], rows: Any, numbers: Any, nothing: Any) -> None:
+    """Puts in the least and greatest voltages of cells that were connected in some scans and not in others, from the scans."""
+    import numpy
+
+    place = row_places()
+    connected, scans = rows[:, :, place.connected], rows[:, :, place.scans]
+    mixed = (connected > 0) & (connected < scans)
+    packs = numpy.flatnonzero(mixed.any(axis=1)).tolist()
+    if not packs:
+        return
+    size = constant("TORALINGE_SCAN_SIZE")
+    rooms = [int(scans[at, 0]) * size for at in packs]
+    buffer = room(ctypes.c_int64, sum(rooms))
+    begins = [0, *accumulate(rooms)]
+    library().each("toralinge_scans", len(packs), Spread(joined, [starts[at] for at in packs]), [lengths[at] for at in packs],
+                   Spread(buffer, [8 * begin for begin in begins[:-1]]), rooms)
+    held = numpy.frombuffer(buffer, numpy.int64)
+    columns = [NUMBERS.index(name) for name in _VOLTAGES]
+    for at, begin, end in zip(packs, begins, begins[1:]):
+        found = held[begin:end].reshape(-1, size)
+        for cell in numpy.flatnonzero(mixed[at]).tolist():
+            numbers[at, cell, columns] = _found(found, cell)
+            nothing[at, cell, columns] = False
+
+
+_VOLTAGES = ("least_microvolts", "least_microvolts_scan", "greatest_microvolts", "greatest_microvolts_scan")
+
+
+def _found(found: Any, cell: int) -> tuple[int, int, int, int]:
+    """The least voltage of a cell, counted from 0, the first scan that had it, and the same of the greatest."""
+    import numpy
+
+    there = numpy.flatnonzero(found[:, 1] >> cell & 1)
+    voltages = found[there, 2 + cell]
+    least, greatest = int(voltages.argmin()), int(voltages.argmax())
+    return int(voltages[least]), int(there[least]) + 1, int(voltages[greatest]), int(there[greatest]) + 1
 
 
 # ---- the table ------------------------------------------------------------------------------------------------------------
