@@ -18,7 +18,7 @@ def _parser() -> argparse.ArgumentParser:
 
     def command(name: str, said: str, many: bool, output: str) -> argparse.ArgumentParser:
         one = commands.add_parser(name, help=said, description=said[0].upper() + said[1:] + ".")
-        one.add_argument("file", nargs="+" if many else None, metavar="FILE", help="a stream")
+        one.add_argument("file", nargs="+" if many else 1, metavar="FILE", help="a stream")
         one.add_argument("-o", "--output", metavar="OUT", required=not many, help=output)
         return one
 
@@ -65,16 +65,16 @@ def main(words: Optional[Sequence[str]] = None) -> int:
         if given.command == "page":
             from .page import page
 
-            page(given.file, given.output)
+            page(given.file[0], given.output)
             return 0
         from .pictures import picture, season_picture
 
-        (picture if given.command == "picture" else season_picture)(given.file, given.output)
+        (picture if given.command == "picture" else season_picture)(given.file[0], given.output)
         return 0
     except BrokenPipeError:
         return 1
     except (Refused, OSError, ValueError) as error:
-        print(f"toralinge: {getattr(given, 'file', '')}: {error}", file=sys.stderr)
+        print(f"toralinge: {given.file[0]}: {error}", file=sys.stderr)
         return 1
     except (NotThere, ImportError) as error:
         print(f"toralinge: {error}", file=sys.stderr)

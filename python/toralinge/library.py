@@ -63,8 +63,10 @@ def read_header(text: str) -> Header:
         numbers[name] = int(value, 0)
     for body in re.findall(r"enum(?:\s+\w+)?\s*\{([^}]*)\}", text):
         following = 0
-        for entry in filter(None, (part.strip() for part in body.split(","))):
+        for entry in body.split(","):
             name, _, value = (part.strip() for part in entry.partition("="))
+            if not name:
+                continue
             following = numbers[name] = int(value, 0) if value else following
             following += 1
     calls: dict[str, Signature] = {}

@@ -243,10 +243,12 @@ def _joined(first: CellSeason, second: CellSeason, before: int) -> Extremes:
         voltage, scan = getattr(cell, f"{which}_microvolts"), getattr(cell, f"{which}_microvolts_scan")
         return [] if voltage is None else [Extreme(voltage, scan + moved)]
 
+    def height(one: Extreme) -> int:
+        return one.microvolts
+
     least = of(first, "least", 0) + of(second, "least", before)
     greatest = of(first, "greatest", 0) + of(second, "greatest", before)
-    return (min(least, key=lambda one: one.microvolts, default=None),
-            max(greatest, key=lambda one: one.microvolts, default=None))
+    return min(least, key=height) if least else None, max(greatest, key=height) if greatest else None
 
 
 def is_mixed(row: Sequence[int]) -> bool:
