@@ -44,9 +44,7 @@ impl Chip {
         let registers = self.registers;
         let shown = registers.shown;
         let status = shown.status;
-        bits::weigh(status.alert(), 4)
-            + bits::weigh(shown.chg_on, 2)
-            + bits::weigh(shown.dsg_on, 1)
+        bits::weigh(status.alert(), 4) + bits::weigh(shown.chg_on, 2) + bits::weigh(shown.dsg_on, 1)
     }
 
     // The voltage of a cell of the pack, 1 to as many as it has: as the part has inputs where there is no wiring record.

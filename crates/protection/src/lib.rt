@@ -109,11 +109,7 @@ fn scd_limit(protect1: u8) -> u32
     let code = (protect1 % 8) as usize;
     let low = SCD_LOW[code];
     let high = SCD_HIGH[code];
-    if bits::bit(protect1, 128) {
-        high
-    } else {
-        low
-    }
+    if bits::bit(protect1, 128) { high } else { low }
 }
 
 fn ocd_limit(protect1: u8, protect2: u8) -> u32
@@ -122,11 +118,7 @@ fn ocd_limit(protect1: u8, protect2: u8) -> u32
     let code = (protect2 % 16) as usize;
     let low = OCD_LOW[code];
     let high = OCD_HIGH[code];
-    if bits::bit(protect1, 128) {
-        high
-    } else {
-        low
-    }
+    if bits::bit(protect1, 128) { high } else { low }
 }
 
 fn ov_scans(s: Settings) -> u16

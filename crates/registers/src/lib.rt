@@ -144,7 +144,10 @@ impl Shown {
         ensures { λ r. ⌜ r ≡ overriddenSpec self ⌝ }
     {
         let s = self.status;
-        let status = Status { ovrd_alert: true, ..s };
+        let status = Status {
+            ovrd_alert: true,
+            ..s
+        };
         Shown {
             status,
             dsg_on: false,
@@ -184,7 +187,10 @@ impl Shown {
         ensures { λ r. ⌜ r ≡ countingSpec self ⌝ }
     {
         let s = self.status;
-        let status = Status { cc_ready: true, ..s };
+        let status = Status {
+            cc_ready: true,
+            ..s
+        };
         Shown {
             status,
             cc_oneshot: false,
@@ -358,14 +364,20 @@ impl Registers {
     pub fn loaded(self, load: bool) -> Self
         ensures { λ r. ⌜ r ≡ withLoadLevel load self ⌝ }
     {
-        Registers { load_level: load, ..self }
+        Registers {
+            load_level: load,
+            ..self
+        }
     }
 
     // The outside level.
     pub fn leveled(self, outside: bool) -> Self
         ensures { λ r. ⌜ r ≡ withOutsideLevel outside self ⌝ }
     {
-        Registers { outside_level: outside, ..self }
+        Registers {
+            outside_level: outside,
+            ..self
+        }
     }
 
     // What the outside level does after an event.

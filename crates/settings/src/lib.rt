@@ -1,7 +1,5 @@
 // The settings as a value: what accepted writes alone move.
 ghost use mathlib.Core.Path.{_≡_};
-ghost use Prim.Native.Nat.{_≤_};
-ghost use Rattle.bits.specs.Bit.{bit as bitSpec, weighed};
 ghost use Rattle.settings.specs.State.{resetSettings};
 ghost use Rattle.settings.specs.Write.{ships as shipsSpec, protect1Of, protect2Of, protect3Of, ccCfgOf, settingsWith};
 ghost use Rattle.settings.specs.Read.{settingsByte};
@@ -23,23 +21,6 @@ pub struct Settings {
     pub cc_cfg: u8,
 }
 
-// The bit of weight 1, 2, 4, .. of a byte; no byte has a bit of weight 0.
-pub fn bit(v: u8, w: u8) -> bool
-    ensures { λ r. ⌜ r ≡ bitSpec v w ⌝ }
-{
-    if w == 0 {
-        return false;
-    }
-    v / w % 2 == 1
-}
-
-// What a bit of weight `w` adds to its byte.
-pub fn weigh(up: bool, w: u8) -> u8
-    ensures { λ r. ⌜ (r ≡ weighed up w) × (r ≤ w) ⌝ }
-{
-    if up { w } else { 0 }
-}
-
 // The bits that 0x06, 0x07, 0x08 and 0x0B have: the others are neither kept nor read.
 fn protect1_of(v: u8) -> u8
     ensures { λ r. ⌜ r ≡ protect1Of v ⌝ }
@@ -59,7 +40,7 @@ fn protect3_of(v: u8) -> u8
     v / 16 * 16
 }
 
-fn cfg_of(v: u8) -> u8
+fn cc_cfg_of(v: u8) -> u8
     ensures { λ r. ⌜ r ≡ ccCfgOf v ⌝ }
 {
     v % 64
@@ -89,7 +70,7 @@ impl Settings {
     pub fn ships(self, a: u8, v: u8) -> bool
         ensures { λ r. ⌜ r ≡ shipsSpec a v self ⌝ }
     {
-        (a == 0x04) & self.shut_b & bit(v, 2) & !bit(v, 1)
+        (a == 0x04) & self.shut_b & bits::bit(v, 2) & !bits::bit(v, 1)
     }
 
     pub fn write(mut self, a: u8, v: u8) -> Self
@@ -97,15 +78,15 @@ impl Settings {
     {
         match a {
             0x04 => {
-                let shut_b = !self.shut_b & !bit(v, 2) & bit(v, 1);
-                self.adc_en = bit(v, 16);
-                self.temp_sel = bit(v, 8);
+                let shut_b = !self.shut_b & !bits::bit(v, 2) & bits::bit(v, 1);
+                self.adc_en = bits::bit(v, 16);
+                self.temp_sel = bits::bit(v, 8);
                 self.shut_b = shut_b;
                 self
             }
             0x05 => {
-                self.delay_dis = bit(v, 128);
-                self.cc_en = bit(v, 64);
+                self.delay_dis = bits::bit(v, 128);
+                self.cc_en = bits::bit(v, 64);
                 self
             }
             0x06 => Settings {
@@ -120,16 +101,10 @@ impl Settings {
                 protect3: protect3_of(v),
                 ..self
             },
-            0x09 => Settings {
-                ov_trip: v,
-                ..self
-            },
-            0x0A => Settings {
-                uv_trip: v,
-                ..self
-            },
+            0x09 => Settings { ov_trip: v, ..self },
+            0x0A => Settings { uv_trip: v, ..self },
             0x0B => Settings {
-                cc_cfg: cfg_of(v),
+                cc_cfg: cc_cfg_of(v),
                 ..self
             },
             _ => self,
@@ -146,7 +121,7 @@ impl Settings {
             0x08 => protect3_of(self.protect3),
             0x09 => self.ov_trip,
             0x0A => self.uv_trip,
-            0x0B => cfg_of(self.cc_cfg),
+            0x0B => cc_cfg_of(self.cc_cfg),
             _ => 0,
         }
     }
