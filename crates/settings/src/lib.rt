@@ -3,6 +3,8 @@ ghost use mathlib.Core.Path.{_≡_};
 ghost use Rattle.settings.specs.State.{resetSettings};
 ghost use Rattle.settings.specs.Write.{ships as shipsSpec, protect1Of, protect2Of, protect3Of, ccCfgOf, settingsWith};
 ghost use Rattle.settings.specs.Read.{settingsByte};
+use constants::address;
+use constants::weight;
 
 pub struct Settings {
     // ADC_EN, TEMP_SEL and whether the pair (0,1) is held.
@@ -70,40 +72,45 @@ impl Settings {
     pub fn ships(self, a: u8, v: u8) -> bool
         ensures { λ r. ⌜ r ≡ shipsSpec a v self ⌝ }
     {
-        (a == 0x04) & self.shut_b & bits::bit(v, 2) & !bits::bit(v, 1)
+        (a == address::SYS_CTRL1)
+            & self.shut_b
+            & bits::bit(v, weight::SHUT_A)
+            & !bits::bit(v, weight::SHUT_B)
     }
 
     pub fn write(mut self, a: u8, v: u8) -> Self
         ensures { λ r. ⌜ r ≡ settingsWith a v self ⌝ }
     {
         match a {
-            0x04 => {
-                let shut_b = !self.shut_b & !bits::bit(v, 2) & bits::bit(v, 1);
-                self.adc_en = bits::bit(v, 16);
-                self.temp_sel = bits::bit(v, 8);
+            address::SYS_CTRL1 => {
+                let shut_b = !self.shut_b
+                    & !bits::bit(v, weight::SHUT_A)
+                    & bits::bit(v, weight::SHUT_B);
+                self.adc_en = bits::bit(v, weight::ADC_EN);
+                self.temp_sel = bits::bit(v, weight::TEMP_SEL);
                 self.shut_b = shut_b;
                 self
             }
-            0x05 => {
-                self.delay_dis = bits::bit(v, 128);
-                self.cc_en = bits::bit(v, 64);
+            address::SYS_CTRL2 => {
+                self.delay_dis = bits::bit(v, weight::DELAY_DIS);
+                self.cc_en = bits::bit(v, weight::CC_EN);
                 self
             }
-            0x06 => Settings {
+            address::PROTECT1 => Settings {
                 protect1: protect1_of(v),
                 ..self
             },
-            0x07 => Settings {
+            address::PROTECT2 => Settings {
                 protect2: protect2_of(v),
                 ..self
             },
-            0x08 => Settings {
+            address::PROTECT3 => Settings {
                 protect3: protect3_of(v),
                 ..self
             },
-            0x09 => Settings { ov_trip: v, ..self },
-            0x0A => Settings { uv_trip: v, ..self },
-            0x0B => Settings {
+            address::OV_TRIP => Settings { ov_trip: v, ..self },
+            address::UV_TRIP => Settings { uv_trip: v, ..self },
+            address::CC_CFG => Settings {
                 cc_cfg: cc_cfg_of(v),
                 ..self
             },
@@ -116,12 +123,12 @@ impl Settings {
         ensures { λ r. ⌜ r ≡ settingsByte self a ⌝ }
     {
         match a {
-            0x06 => protect1_of(self.protect1),
-            0x07 => protect2_of(self.protect2),
-            0x08 => protect3_of(self.protect3),
-            0x09 => self.ov_trip,
-            0x0A => self.uv_trip,
-            0x0B => cc_cfg_of(self.cc_cfg),
+            address::PROTECT1 => protect1_of(self.protect1),
+            address::PROTECT2 => protect2_of(self.protect2),
+            address::PROTECT3 => protect3_of(self.protect3),
+            address::OV_TRIP => self.ov_trip,
+            address::UV_TRIP => self.uv_trip,
+            address::CC_CFG => cc_cfg_of(self.cc_cfg),
             _ => 0,
         }
     }
