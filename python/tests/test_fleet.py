@@ -64,7 +64,7 @@ def test_a_cluster_of_two_workers_with_some_killed(packs, plain):  # type: ignor
     distributed = pytest.importorskip("distributed")
     with distributed.LocalCluster(n_workers=2, threads_per_worker=1, processes=True, dashboard_address=None, silence_logs=50) as cluster:
         with distributed.Client(cluster) as client:
-            many = {f"{name} {again}": parts for again in range(30) for name, parts in packs.items()}
+            many = {f"{name} {again}": parts for again in range(16) for name, parts in packs.items()}
             at_work = threading.Event()
             at_work.set()
             killed: list[int] = []

@@ -12,7 +12,7 @@ import toralinge
 WORDS = re.compile(r"offset|gain|microvolt|voltage|volts\b|count(?!er)|\b1_?000\b|\b344\b|\b354\b", re.I)
 ARITHMETIC = (ast.Add, ast.Sub, ast.Mult)
 ALLOWED = {
-    "8200 + 16 * code",     # the count of a trip register, no voltage: document 01's judging
+    "8200 + 16 * code",     # the count of a trip register, no voltage: how the chip judges
     "4096 + 16 * code",
 }
 

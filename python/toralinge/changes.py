@@ -1,11 +1,11 @@
 """What changed in a run, record by record, as sentences.
 
 The sentences say what the entries and the registers show: that a bit rose or fell, that a drive went on or off, that a setting moved,
-that a record was refused. They do not say which earlier records made a fault due.
+that a record was refused. They do not say which earlier records made a fault due; who knows that tells it as a :data:`Why`.
 """
 from __future__ import annotations
 
-from typing import Iterator, NamedTuple, Optional
+from typing import Callable, Iterator, NamedTuple, Optional
 
 from .history import History, over_count, under_count
 from .names import MEANINGS, Ctrl1, Ctrl2, Pin, Register, Stat
@@ -16,6 +16,17 @@ WHAT = ("refused", "mode", "bit", "alert", "drive", "setting")
 """What can change."""
 
 
+class Cause(NamedTuple):
+    """Why a bit rose: in words that end its sentence, and the records that made it due."""
+
+    words: str
+    records: tuple[int, ...]
+
+
+Why = Callable[[Entry, Stat], Optional[Cause]]
+"""Tells why a bit rose at an entry; None where it does not know."""
+
+
 class Change(NamedTuple):
     """A change at a record.
 
@@ -24,7 +35,7 @@ class Change(NamedTuple):
     :ivar name: the bit, pin or register; the number for a refusal
     :ivar now: whether it is up or on now; None where that is no question
     :ivar sentence: the change in words
-    :ivar records: the records that made it, as far as it is known: its own
+    :ivar records: the records that made it, as far as is known: its own where nobody tells more
     """
 
     record: int
@@ -35,12 +46,12 @@ class Change(NamedTuple):
     records: tuple[int, ...]
 
 
-def changes(stream: Stream) -> list[Change]:
+def changes(stream: Stream, why: Optional[Why] = None) -> list[Change]:
     """Every change of a run, in order."""
-    return list(changes_of(History(stream)))
+    return list(changes_of(History(stream), why))
 
 
-def changes_of(history: History) -> Iterator[Change]:
+def changes_of(history: History, why: Optional[Why] = None) -> Iterator[Change]:
     """Every change of a run that is already played."""
     stat, pins = Stat(0), Pin(0)
     for entry in history.run:
@@ -52,7 +63,9 @@ def changes_of(history: History) -> Iterator[Change]:
         for bit in Stat:
             if (entry.stat ^ stat) & bit:
                 rose = bit in entry.stat
-                yield _change(entry, "bit", str(bit.name), rose, f"{bit.name} {'rose' if rose else 'fell'} ({MEANINGS[bit]})")
+                cause = why(entry, bit) if why is not None and rose else None
+                said = f"{bit.name} {'rose' if rose else 'fell'} ({MEANINGS[bit]})"
+                yield _change(entry, "bit", str(bit.name), rose, said if cause is None else f"{said}: {cause.words}", cause)
         if (entry.pins ^ pins) & Pin.ALERT:
             yield _change(entry, "alert", "ALERT", entry.alert, f"ALERT went {'up' if entry.alert else 'down'}")
         for pin, drive in ((Pin.CHG, "charge"), (Pin.DSG, "discharge")):
@@ -69,8 +82,9 @@ def _words(entry: Entry) -> str:
     return refused.words if refused is not None else ""
 
 
-def _change(entry: Entry, what: str, name: str, now: Optional[bool], said: str) -> Change:
-    return Change(entry.record, what, name, now, f"record {entry.record}, {kind_name(entry.kind)}: {said}", (entry.record,))
+def _change(entry: Entry, what: str, name: str, now: Optional[bool], said: str, cause: Optional[Cause] = None) -> Change:
+    return Change(entry.record, what, name, now, f"record {entry.record}, {kind_name(entry.kind)}: {said}",
+                  (entry.record,) if cause is None else cause.records)
 
 
 def _mode(history: History, entry: Entry) -> Iterator[Change]:
@@ -91,13 +105,15 @@ def _settings(history: History, entry: Entry) -> Iterator[Change]:
         elif register == Register.SYS_CTRL1:
             old, new = old & ~Ctrl1.LOAD_PRESENT, new & ~Ctrl1.LOAD_PRESENT
         if old != new:
-            yield _change(entry, "setting", register.name, None, f"{register.name} went from 0x{old:02X} to 0x{new:02X}{_line(register, new)}")
+            yield _change(entry, "setting", register.name, None, f"{register.name} went from 0x{old:02X} to 0x{new:02X}{_means(register, old, new)}")
 
 
-def _line(register: Register, code: int) -> str:
-    """What a trip register says of its line."""
+def _means(register: Register, old: int, new: int) -> str:
+    """What a register's new value says: of its line, or which of its bits moved."""
     if register == Register.OV_TRIP:
-        return f": a cell above {over_count(code):,} is over"
+        return f": a cell above {over_count(new):,} is over"
     if register == Register.UV_TRIP:
-        return f": a cell below {under_count(code):,} is under"
-    return ""
+        return f": a cell below {under_count(new):,} is under"
+    bits = {Register.SYS_CTRL1: Ctrl1, Register.SYS_CTRL2: Ctrl2}.get(register, ())
+    moved = [f"{bit.name} {'on' if new & bit else 'off'}" for bit in bits if (old ^ new) & bit]
+    return f": {', '.join(moved)}" if moved else ""

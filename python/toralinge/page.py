@@ -7,7 +7,7 @@ import re
 from html import escape
 from typing import Iterable, Iterator, Optional, Union
 
-from .changes import Change, changes_of
+from .changes import Change, Why, changes_of
 from .history import History
 from .names import Pin, Stat
 from .pictures import label_of, picture
@@ -31,9 +31,9 @@ h1 { font-size: 1.35rem; margin: 0 0 .2rem; } h2 { font-size: 1.05rem; margin: 0
 section { margin-bottom: 1.6rem; min-width: 0; }
 ol.changes { margin: 0; padding: 0; list-style: none; max-height: 34rem; overflow: auto; border: 1px solid var(--line); border-radius: 6px; }
 ol.changes li { border-bottom: 1px solid var(--line); } ol.changes li:last-child { border: 0; }
-ol.changes a { display: block; padding: .35rem .7rem; color: var(--ink); text-decoration: none; }
+ol.changes a { display: flex; padding: .35rem .7rem; color: var(--ink); text-decoration: none; }
 ol.changes a:hover, ol.changes a:focus { background: #eef4fa; outline: none; } ol.changes li.picked a { background: var(--mark); }
-ol.changes .what { display: inline-block; min-width: 4.6rem; color: var(--pale); font-size: .82em; }
+ol.changes .what { flex: 0 0 4.8rem; color: var(--pale); font-size: .82em; padding-top: .15em; }
 ol.changes .refused .what { color: #b00020; font-weight: 600; } .filters { margin: 0 0 .5rem; font-size: .9em; color: var(--pale); }
 .filters label { margin-right: .9rem; white-space: nowrap; }
 .wide { overflow: auto; } table { border-collapse: collapse; font-size: .9em; } th, td { padding: .25rem .6rem; border-bottom: 1px solid var(--line); }
@@ -97,17 +97,18 @@ SCRIPT = """
 WORDS = {"refused": "refusals", "mode": "SHIP and waking", "bit": "bits", "alert": "ALERT", "drive": "drives", "setting": "settings"}
 
 
-def page(stream: Stream, path: Union[None, str, "os.PathLike[str]"] = None, *, title: Optional[str] = None) -> str:
+def page(stream: Stream, path: Union[None, str, "os.PathLike[str]"] = None, *, title: Optional[str] = None, why: Optional[Why] = None) -> str:
     """The page of a run: its picture, what changed as sentences, the season of each cell, the refusals and the records.
 
     A click on a change leads to the records that made it. The sentences are those of :func:`toralinge.changes`.
 
     :param path: where to write it, as ``run.html``
+    :param why: tells why a bit rose, and which records made it due
     :returns: the page's text
     """
     history = History(stream)
     named = title or label_of(stream)
-    found = list(changes_of(history))
+    found = list(changes_of(history, why))
     text = _whole(history, named, found)
     if path is not None:
         with open(path, "w", encoding="utf-8") as file:
@@ -153,7 +154,7 @@ def _changes(found: list[Change]) -> str:
     boxes = "".join(f"<label><input type=\"checkbox\" value=\"{what}\" checked> {WORDS[what]}</label>" for what in there)
     items = "".join(
         f"<li id=\"change-{at}\" class=\"{change.what}\" data-records=\"{' '.join(map(str, change.records))}\">"
-        f"<a href=\"#record-{change.records[0]}\"><span class=\"what\">{change.what}</span> {escape(change.sentence)}</a></li>\n"
+        f"<a href=\"#record-{change.records[0]}\"><span class=\"what\">{change.what}</span> <span>{escape(change.sentence)}</span></a></li>\n"
         for at, change in enumerate(found))
     none = "" if found else "<p class=\"about\">Nothing changed.</p>"
     return f"<section>\n<h2>What changed</h2>\n<p class=\"filters\">{boxes}</p>\n<ol class=\"changes\">\n{items}</ol>{none}\n</section>\n"

@@ -21,7 +21,7 @@ def words(number: int) -> str:
 class Refused(Exception):
     """The library refuses a record or a call.
 
-    :ivar number: why, as document 01 numbers it
+    :ivar number: why, as ``toralinge.h`` numbers it
     :ivar words: the same in words
     :ivar record: the record that was refused, numbered from 0; None where no single record is at fault
     """
