@@ -177,7 +177,8 @@ want_bridge() {
 # want_python: what the Python package and its tests are made of, in one go.
 want_python() {
     local pair place=/usr/lib/python3/dist-packages last='' missing=()
-    for pair in "$place/pip python3-pip" "/usr/share/doc/python3-venv python3-venv" "$place/numpy python3-numpy" "$place/pandas python3-pandas" \
+    for pair in "$place/pip python3-pip" "/usr/share/doc/python3-venv python3-venv" "$place/numpy python3-numpy" \
+        "$place/pandas python3-pandas" \
         "$place/matplotlib python3-matplotlib" "$place/dask python3-dask" "$place/distributed python3-distributed" "$place/pytest python3-pytest" \
         "$place/hypothesis python3-hypothesis" "$place/selenium python3-selenium" "/usr/bin/chromium chromium" "/usr/bin/chromedriver chromium-driver" \
         "/usr/bin/mypy mypy"; do
