@@ -107,8 +107,38 @@ want_built() {
         fi
     done
     command -v rt >/dev/null || give_up 1 "${2#"$root"/} is to be built, and there is no rt to prove and build it"
-    (cd "$root" && rt "$3" "$name") >&2 || give_up 1 "rt $3 $name does not pass"
+    proved "$3" "$name" || give_up 1 "rt $3 $name does not pass: target/log/$name.log has what it said"
     touch "$built"
+}
+
+# standing_on NAME: the crates of the repository that NAME stands on, and NAME itself.
+standing_on() {
+    awk -v name="$1" '
+        /^[^#]*:/ { sub(/#.*/, ""); crate = $1; sub(/:.*/, "", crate); sub(/^[^:]*:/, ""); below[crate] = $0 }
+        function take(crate,    words, n, i) {
+            if (!(crate in below) || crate in taken) return
+            taken[crate] = 1
+            n = split(below[crate], words, " ")
+            for (i = 1; i <= n; i++) take(words[i])
+        }
+        END { take(name); for (crate in taken) print crate }
+    ' "$root/crates.txt"
+}
+
+# proved VERB NAME: rt VERB NAME, with a line for each crate that is proved anew and how many are left; all else that rt says goes to a log.
+proved() {
+    local log=$root/target/log/$2.log left
+    mkdir -p "$root/target/log"
+    left=$(standing_on "$2" | wc -l)
+    printf '%s: rt %s %s proves %d crates where they changed; target/log/%s.log has what it says\n' "$me" "$1" "$2" "$left" "$2" >&2
+    (cd "$root" && rt "$1" "$2" 2>&1) | tee "$log" | awk -v me="$me" -v left="$left" '
+        /^rt: [a-z0-9_]+ proved/ {
+            left--
+            if ($0 !~ /unchanged/) { printf "%s: %s is proved %s, %d left\n", me, $2, $4 " " $5, left; fflush() }
+        }
+        /NOT PROVED/ { printf "%s: %s\n", me, $0; fflush() }
+    ' >&2
+    return "${PIPESTATUS[0]}"
 }
 
 # want_input WORD..: one file at most, which can be read, or standard input that is no terminal; `usage` says what is asked for.
