@@ -7,9 +7,8 @@
  * toralinge_bleed and toralinge_reply, season_stream for toralinge_season, plain for toralinge_plain, and
  * stream for all other calls.
  *
- * "Document 01" is the paper that gives the rules; requests of document 02 have added to it and changed
- * some (docs/landings). Every call here answers for every value of its arguments, and is proved to
- * answer exactly as these papers say.
+ * The rules stand in docs/CHIP.md, each with a number. Every call here answers for every value of its
+ * arguments, and is proved to answer exactly as these rules say.
  *
  * What every call asks of its caller:
  *   - no pointer is NULL, also where its length or room is 0;
@@ -104,7 +103,7 @@ enum toralinge_season_place {
  * Plays a whole stream of records on a new chip and writes one entry of five bytes for each record.
  *
  * stream, length   the records: payload length (2 bytes), kind (2 bytes), payload, little-endian.
- *                  Kinds 0000 to 0013 are document 01's. Kinds of later requests:
+ *                  Kinds 0000 to 0013 are in the table of docs/CHIP.md, with these:
  *                    0014  ticks of one value: 4 bytes signed, as SENSE has them, and a repeat number of
  *                          2 bytes, 1 to 4,096; one entry for the whole
  *                    0015  the outside level, one byte: while it is 1 a second protector holds ALERT
