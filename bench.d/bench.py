@@ -1,0 +1,124 @@
+"""./bench. `check WORD ..` judges the words and starts nothing; `run PROGRAM .. --- WORD ..` makes the chip, the bus and the place
+where events come in, and runs the command."""
+import ctypes
+import os
+import signal
+import subprocess
+import sys
+import threading
+
+import place
+from options import HELP, judged
+
+HELPED = 64             # what `check` ends with after the help
+PATIENCE = 5
+
+
+class Ended(Exception):
+    """A signal asked the bench to end."""
+
+
+def ended(number, _):
+    raise Ended(number)
+
+
+def with_the_bench():
+    """In the child: what the bench ignores is back, and it hears a hang-up where the bench is killed."""
+    signal.signal(signal.SIGINT, signal.SIG_DFL)
+    ctypes.CDLL(None).prctl(1, signal.SIGHUP)
+
+
+def watch(chip, command):
+    """Ends the command where the chip cannot go on."""
+    with chip.changed:
+        chip.changed.wait_for(lambda: chip.gone)
+    print(f'bench: {chip.gone}', file=sys.stderr)
+    command.terminate()
+
+
+def waited(command):
+    """Waits for the command; its status as a shell has it."""
+    try:
+        status = command.wait()
+    except Ended as signalled:
+        command.send_signal(signal.SIGHUP)
+        try:
+            command.wait(PATIENCE)
+        except subprocess.TimeoutExpired:
+            command.kill()
+            command.wait()
+        return 128 + signalled.args[0]
+    return 128 - status if status < 0 else status
+
+
+def opened(options):
+    """The record file's descriptor."""
+    if options.record is None:
+        return None
+    try:
+        return os.open(options.record, os.O_WRONLY | os.O_CREAT | os.O_EXCL | os.O_APPEND, 0o666)
+    except OSError as error:
+        print(f'bench: --record cannot make {options.record}: {error.strerror}', file=sys.stderr)
+        sys.exit(2)
+
+
+def shell():
+    return [os.environ.get('SHELL') or '/bin/sh']
+
+
+def on_the_bus(options, program):
+    """Makes the chip and its bus, and runs the command there."""
+    descriptor = opened(options)
+    temporary = os.environ.get('TMPDIR')
+    os.environ['TMPDIR'] = place.folder(options.bus)      # umockdev's folder is made, and cleared, with ours
+    from chip import Chip
+    from device import Device
+    from events import Server
+    chip = Chip(program, options, descriptor)
+    device = Device(options.bus, f'toralinge {options.name()}', chip)
+    server = Server(place.socket_of(options.bus), chip)
+    threading.Thread(target=server.serve_forever, daemon=True).start()
+    environment = {**os.environ, **device.environment(), place.INSIDE: str(options.bus)}
+    environment.pop('TMPDIR')
+    if temporary is not None:
+        environment['TMPDIR'] = temporary
+    if '/usr/sbin' not in environment.get('PATH', '').split(':'):
+        environment['PATH'] = environment.get('PATH', '') + ':/usr/sbin'
+    command = subprocess.Popen(options.command or shell(), env=environment, preexec_fn=with_the_bench)
+    threading.Thread(target=watch, args=(chip, command), daemon=True).start()
+    status = waited(command)
+    failed = chip.gone is not None
+    chip.close()
+    return 1 if failed else status
+
+
+def run(options, program):
+    try:
+        lock = place.hold(options.bus)
+    except place.Taken as error:
+        print(f'bench: {error}', file=sys.stderr)
+        return 2
+    signal.signal(signal.SIGINT, signal.SIG_IGN)
+    for number in (signal.SIGTERM, signal.SIGHUP):
+        signal.signal(number, ended)
+    try:
+        return on_the_bus(options, program)
+    finally:
+        place.leave(options.bus)
+        lock.close()
+
+
+def main(verb, *words):
+    if verb == 'check':
+        if judged(words) is None:
+            print(HELP)
+            return HELPED
+        return 0
+    at = words.index('---')
+    return run(judged(words[at + 1:]), list(words[:at]))
+
+
+if __name__ == '__main__':
+    status = main(*sys.argv[1:])
+    sys.stdout.flush()
+    os._exit(status)      # umockdev's thread would wait for clients that are still open
