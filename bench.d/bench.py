@@ -1,6 +1,5 @@
 """./bench. `check WORD ..` judges the words and starts nothing; `run PROGRAM .. --- WORD ..` makes the chip, the bus and the place
 where events come in, and runs the command."""
-import ctypes
 import os
 import signal
 import subprocess
@@ -20,12 +19,6 @@ class Ended(Exception):
 
 def ended(number, _):
     raise Ended(number)
-
-
-def with_the_bench():
-    """In the child: what the bench ignores is back, and it hears a hang-up where the bench is killed."""
-    signal.signal(signal.SIGINT, signal.SIG_DFL)
-    ctypes.CDLL(None).prctl(1, signal.SIGHUP)
 
 
 def watch(chip, command):
@@ -84,7 +77,8 @@ def on_the_bus(options, program):
         environment['TMPDIR'] = temporary
     if '/usr/sbin' not in environment.get('PATH', '').split(':'):
         environment['PATH'] = environment.get('PATH', '') + ':/usr/sbin'
-    command = subprocess.Popen(options.command or shell(), env=environment, preexec_fn=with_the_bench)
+    hangs_up = ['setpriv', '--pdeathsig', 'HUP', '--']      # where the bench is killed
+    command = subprocess.Popen(hangs_up + (options.command or shell()), env=environment)
     threading.Thread(target=watch, args=(chip, command), daemon=True).start()
     status = waited(command)
     failed = chip.gone is not None
@@ -98,7 +92,7 @@ def run(options, program):
     except place.Taken as error:
         print(f'bench: {error}', file=sys.stderr)
         return 2
-    signal.signal(signal.SIGINT, signal.SIG_IGN)
+    signal.signal(signal.SIGINT, lambda *_: None)      # it is for the command
     for number in (signal.SIGTERM, signal.SIGHUP):
         signal.signal(number, ended)
     try:

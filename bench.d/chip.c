@@ -17,6 +17,7 @@
  */
 #define _POSIX_C_SOURCE 200809L
 #include <errno.h>
+#include <signal.h>
 #include <stdbool.h>
 #include <stdio.h>
 #include <stdlib.h>
@@ -59,20 +60,22 @@ static void *room_for(size_t size)
     return room;
 }
 
-/* One write, so that a reader finds whole records; what a full disk cuts is taken back. */
+/* One write, so that a reader finds whole records; what a full disk cuts is taken back. 0, or an errno. */
 static int append(const uint8_t *records, size_t length)
 {
     off_t end = lseek(file, 0, SEEK_END);
-    ssize_t done;
-    do
-        done = write(file, records, length);
-    while (done < 0 && errno == EINTR);
-    if (done == (ssize_t)length)
-        return 0;
-    int why = done < 0 ? errno : ENOSPC;
-    if (end < 0 || (done > 0 && ftruncate(file, end) != 0))
-        fail("the file of records cannot be mended");
-    return why;
+    for (size_t done = 0; done < length;) {
+        ssize_t more = write(file, records + done, length - done);
+        if (more >= 0) {
+            done += (size_t)more;
+        } else if (errno != EINTR) {
+            int why = errno;
+            if (end < 0 || ftruncate(file, end) != 0)
+                fail("the record file cannot be mended");
+            return why;
+        }
+    }
+    return 0;
 }
 
 static void answer(int64_t result, const void *bytes, size_t length)
@@ -147,6 +150,7 @@ static void serve(int letter, const uint8_t *bytes, size_t length)
 int main(int count, char **words)
 {
     uint8_t head[5];
+    signal(SIGXFSZ, SIG_IGN);
     if (count > 1)
         file = atoi(words[1]);
     while (fread(head, 1, sizeof head, stdin) == sizeof head) {
