@@ -97,7 +97,8 @@ def options_of(words):
     """The options that the words say, or None for --help."""
     options, words, seen = Options(), list(words), set()
     while words:
-        name, given, value = words.pop(0).partition('=')
+        word = words.pop(0)
+        name, given, value = word.partition('=')
         if name == '--':
             options.command = words
             break
@@ -114,9 +115,9 @@ def options_of(words):
             attribute, reader = TAKES[name]
             setattr(options, attribute, reader(name, value if given else words.pop(0)))
         elif name.startswith('-'):
-            raise Wrong(f'no option {name}: ./bench --help lists them')
+            raise Wrong(f'no option {word}: ./bench --help lists them')
         else:
-            raise Wrong(f'a command comes after --, as in ./bench -- {name}')
+            raise Wrong(f'a command comes after --, as in ./bench -- {word}')
     judge(options)
     return options
 
