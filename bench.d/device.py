@@ -26,8 +26,8 @@ class Bus(UMockdev.IoctlBase):
         self.chip, self.clients = chip, {}
 
     def do_client_connected(self, client):
+        self.clients = {one: kept for one, kept in self.clients.items() if one.get_connected()}      # umockdev tells of no close
         self.clients[client] = adapter.Client()
-        client.connect('notify::connected', lambda *_: self.clients.pop(client, None))
 
     def do_handle_ioctl(self, client):
         return self.answered(client, lambda mine, arg: self.ioctl(mine, client.get_request(), arg))
