@@ -8,7 +8,7 @@ from chip import BYTE
 LONGEST = 8192          # bytes of a message, and of read() and write()
 MESSAGES = 42           # of an I2C_RDWR
 BLOCK = 32              # bytes of an SMBus block
-READ, TEN, RECV_LEN = 0x0001, 0x0010, 0x0400
+READ, DMA_SAFE, RECV_LEN = 0x0001, 0x0200, 0x0400
 QUICK, BYTE_ALONE, BYTE_DATA, WORD_DATA, PROC_CALL, BLOCK_DATA, BROKEN, BLOCK_PROC_CALL, I2C_BLOCK = range(9)
 FUNCTIONS = 0x0FFF8009  # I2C_FUNC_I2C and I2C_FUNC_SMBUS_EMUL_ALL
 

@@ -77,6 +77,9 @@ def on_the_bus(options, program):
         environment['TMPDIR'] = temporary
     if '/usr/sbin' not in environment.get('PATH', '').split(':'):
         environment['PATH'] = environment.get('PATH', '') + ':/usr/sbin'
+    if not options.command and sys.stdin.isatty():
+        print(f'bench: /dev/i2c-{options.bus} is an {options.name()} at 0x{options.address:02X}; ./bench-event makes things happen to it;'
+              ' `exit` ends it', file=sys.stderr)
     hangs_up = ['setpriv', '--pdeathsig', 'HUP', '--']      # where the bench is killed
     command = subprocess.Popen(hangs_up + (options.command or shell()), env=environment)
     threading.Thread(target=watch, args=(chip, command), daemon=True).start()
@@ -98,8 +101,7 @@ def run(options, program):
     try:
         return on_the_bus(options, program)
     finally:
-        place.leave(options.bus)
-        lock.close()
+        place.leave(options.bus, lock)
 
 
 def main(verb, *words):

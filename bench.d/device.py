@@ -93,7 +93,7 @@ class Bus(UMockdev.IoctlBase):
             address, flags, length = struct.unpack_from('<HHH', lines, 16 * place)
             if length > adapter.LONGEST:
                 raise adapter.fault(errno.EINVAL)
-            if flags & ~(adapter.READ | adapter.RECV_LEN) or address > 0x7F:
+            if flags & ~(adapter.READ | adapter.RECV_LEN | adapter.DMA_SAFE) or address > 0x7F:
                 raise adapter.fault(errno.EOPNOTSUPP)
             buffer = table.resolve(16 * place + 8, length)
             if length:
