@@ -8,7 +8,7 @@ import sys
 import gi
 
 gi.require_version('UMockdev', '1.0')
-from gi.repository import UMockdev  # noqa: E402
+from gi.repository import GLib, UMockdev  # noqa: E402
 
 import adapter  # noqa: E402
 from chip import Gone  # noqa: E402
@@ -23,11 +23,10 @@ class Bus(UMockdev.IoctlBase):
 
     def __init__(self, chip):
         super().__init__()
-        self.chip, self.clients = chip, {}
+        self.chip = chip
 
     def do_client_connected(self, client):
-        self.clients = {one: kept for one, kept in self.clients.items() if one.get_connected()}      # umockdev tells of no close
-        self.clients[client] = adapter.Client()
+        client.mine = adapter.Client()      # ends with umockdev's own object, when the file is closed or its program killed
 
     def do_handle_ioctl(self, client):
         return self.answered(client, lambda mine, arg: self.ioctl(mine, client.get_request(), arg))
@@ -41,10 +40,10 @@ class Bus(UMockdev.IoctlBase):
     def answered(self, client, call):
         result, number = -1, errno.EIO
         try:
-            result, number = call(self.clients[client], client.get_arg()), 0
+            result, number = call(client.mine, client.get_arg()), 0
         except OSError as error:
             number = error.errno
-        except Gone:
+        except (Gone, GLib.Error):      # the second: the client was killed in the middle of its call
             pass
         except Exception as error:  # a mistake of the bench's must not leave the client hanging
             print(f'bench: {type(error).__name__}: {error}', file=sys.stderr)
@@ -133,10 +132,17 @@ def message_of(address, flags, length, buffer):
     return adapter.Message(address, take=data[0], counted=True)
 
 
+def heard(_domain, _level, text, *_):
+    """umockdev's complaints, but for the one over a client that was killed in the middle of a call."""
+    if 'open stream' not in text:
+        print(f'bench: umockdev: {text}', file=sys.stderr)
+
+
 class Device:
     """/dev/i2c-N in a testbed of its own, for every program that runs in `environment`."""
 
     def __init__(self, number, name, chip):
+        GLib.log_set_handler(None, GLib.LogLevelFlags.LEVEL_CRITICAL | GLib.LogLevelFlags.LEVEL_WARNING, heard)
         self.testbed, self.bus = UMockdev.Testbed.new(), Bus(chip)
         self.testbed.add_from_string(
             f'P: /devices/i2c-{number}/i2c-dev/i2c-{number}\nN: i2c-{number}\nE: DEVNAME=/dev/i2c-{number}\nE: SUBSYSTEM=i2c-dev\n'
