@@ -134,7 +134,7 @@ def judge(options):
 
 
 def judge_file(name):
-    folder = os.path.dirname(os.path.abspath(name))
+    folder = os.path.dirname(name) or '.'
     if os.path.lexists(name):
         raise Wrong(f'--record takes a new file, and {name} exists: move it away or choose another name')
     if not os.path.isdir(folder) or not os.access(folder, os.W_OK):

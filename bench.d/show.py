@@ -4,7 +4,7 @@ from chip import ALERT, CHG, DSG, NUMBER, PINS, STAT
 STATS = (('CC_READY', 7), ('XREADY', 5), ('OVRD_ALERT', 4), ('UV', 3), ('OV', 2), ('SCD', 1), ('OCD', 0))
 CTRL1 = (('LOAD_PRESENT', 7), ('ADC_EN', 4), ('TEMP_SEL', 3), ('SHUT_A', 1), ('SHUT_B', 0))
 CTRL2 = (('DELAY_DIS', 7), ('CC_EN', 6), ('CC_ONESHOT', 5), ('DSG_ON', 1), ('CHG_ON', 0))
-# Document 01, "Judging": delays by code, and thresholds in microvolts by RSNS and code.
+# As the rules of judging have them: delays by code, and thresholds in microvolts by RSNS and code.
 OV_SCANS, UV_SCANS = (4, 8, 16, 32), (4, 16, 32, 64)
 SCD_TICKS, OCD_TICKS = (3, 4, 7, 13), (256, 640, 1280, 2560, 5120, 10240, 20480, 40960)
 SCD_LIMITS = (

@@ -1,5 +1,5 @@
 """What the real clients are to print: expected.py MODEL off|on. The chip's answers come from tests/model, the CRCs from python3-crccheck,
-the frames and SMBus forms from their papers; no line is shared with bench.d/. tests/busing/off.text and on.text are what this prints,
+the frames and SMBus forms from their specifications; no line is shared with bench.d/. tests/busing/off.text and on.text are what this prints,
 and what the clients print is held to these."""
 import struct
 import subprocess
