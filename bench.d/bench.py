@@ -25,8 +25,7 @@ def watch(chip, command):
     """Ends the command where the chip cannot go on."""
     with chip.changed:
         chip.changed.wait_for(lambda: chip.gone)
-    print(f'bench: {chip.gone}', file=sys.stderr)
-    command.terminate()
+    command.send_signal(signal.SIGHUP)
 
 
 def waited(command):
@@ -55,8 +54,26 @@ def opened(options):
         sys.exit(2)
 
 
-def shell():
-    return [os.environ.get('SHELL') or '/bin/sh']
+def surroundings(device, bus, temporary):
+    """What the command finds in its environment: the bench's, with the bus, and i2c-tools on the path."""
+    found = {**os.environ, **device.environment(), place.INSIDE: str(bus)}
+    found.pop('TMPDIR')
+    if temporary is not None:
+        found['TMPDIR'] = temporary
+    if '/usr/sbin' not in found.get('PATH', '').split(':'):
+        found['PATH'] = found.get('PATH', '') + ':/usr/sbin'
+    return found
+
+
+def command_of(options):
+    """The command, or a shell that is told where it is; it hears a hang-up where the bench is killed."""
+    words = options.command
+    if not words:
+        words = [os.environ.get('SHELL') or '/bin/sh']
+        if sys.stdin.isatty():
+            print(f'bench: /dev/i2c-{options.bus} is an {options.name()} at 0x{options.address:02X}; ./bench-event makes things happen'
+                  ' to it; `exit` ends it', file=sys.stderr)
+    return ['setpriv', '--pdeathsig', 'HUP', '--', *words]
 
 
 def on_the_bus(options, program):
@@ -71,22 +88,13 @@ def on_the_bus(options, program):
     device = Device(options.bus, f'toralinge {options.name()}', chip)
     server = Server(place.socket_of(options.bus), chip)
     threading.Thread(target=server.serve_forever, daemon=True).start()
-    environment = {**os.environ, **device.environment(), place.INSIDE: str(options.bus)}
-    environment.pop('TMPDIR')
-    if temporary is not None:
-        environment['TMPDIR'] = temporary
-    if '/usr/sbin' not in environment.get('PATH', '').split(':'):
-        environment['PATH'] = environment.get('PATH', '') + ':/usr/sbin'
-    if not options.command and sys.stdin.isatty():
-        print(f'bench: /dev/i2c-{options.bus} is an {options.name()} at 0x{options.address:02X}; ./bench-event makes things happen to it;'
-              ' `exit` ends it', file=sys.stderr)
-    hangs_up = ['setpriv', '--pdeathsig', 'HUP', '--']      # where the bench is killed
-    command = subprocess.Popen(hangs_up + (options.command or shell()), env=environment)
+    command = subprocess.Popen(command_of(options), env=surroundings(device, options.bus, temporary))
     threading.Thread(target=watch, args=(chip, command), daemon=True).start()
     status = waited(command)
-    failed = chip.gone is not None
+    if chip.gone:
+        raise RuntimeError(chip.gone)
     chip.close()
-    return 1 if failed else status
+    return status
 
 
 def run(options, program):
@@ -100,6 +108,11 @@ def run(options, program):
         signal.signal(number, ended)
     try:
         return on_the_bus(options, program)
+    except Ended as signalled:
+        return 128 + signalled.args[0]
+    except RuntimeError as error:
+        print(f'bench: {error}', file=sys.stderr)
+        return 1
     finally:
         place.leave(options.bus, lock)
 

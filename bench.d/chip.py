@@ -24,7 +24,7 @@ class Refused(Exception):
         self.number, self.words = number, words
 
 
-class Gone(Exception):
+class Gone(RuntimeError):
     """The chip can go on no more; the text says why."""
 
 
