@@ -66,6 +66,10 @@ def smbus(wire, address, form, way, register=0, data=(), take=0, pec=False):
     write, read = (address << 1), (address << 1 | 1)
     ends = lambda *sent: bytes(sent) + (bytes([crc(write, *sent)]) if pec else b'')
     more = 1 if pec else 0
+    if form == 'block' and way == 'r':
+        return block(wire, address, register, more)
+    if form == 'proc':
+        way, take = 'r', 2
     if form == 'quick':
         return wire.transfer((address, 0 if way == 'r' else b''))
     if form == 'byte' and way == 'w':
@@ -83,6 +87,21 @@ def smbus(wire, address, form, way, register=0, data=(), take=0, pec=False):
             return 'EBADMSG'
         given = given[:-1]
     return given
+
+
+def block(wire, address, register, more):
+    """A block read: the chip's byte says how many follow, 1 to 32, and the host ends it there where it is none."""
+    before = wire.stream
+    count = wire.transfer((address, bytes([register])), (address, 1))
+    if isinstance(count, str):
+        return count
+    if not 1 <= count[0] <= 32:
+        return 'EPROTO'
+    wire.stream = before
+    given = wire.transfer((address, bytes([register])), (address, 1 + count[0] + more))
+    if more and crc(address << 1, register, address << 1 | 1, *given[:-1]) != given[-1]:
+        return 'EBADMSG'
+    return given[:1 + count[0]]
 
 
 def text(command, lines, status=0):
@@ -197,13 +216,15 @@ class File:
             return shown(self.wire.transfer((self.slave, body)), len(body) if name == 'write' else 0)
         if name == 'rdwr':
             return rdwr(self.wire, words.partition(':')[2])
-        if name in ('quick', 'byte', 'data', 'word', 'block', 'i2c'):
+        if name == 'lens':
+            return shown(block(self.wire, int(rest[0], 16), int(rest[1], 16), 0), 0)
+        if name in ('quick', 'byte', 'data', 'word', 'proc', 'block', 'i2c'):
             return self.smbus(name, *rest)
         return {'funcs': '0 0fff8009', 'other': 'ENOTTY'}[name]
 
     def smbus(self, form, way, register='0', data=''):
         register = int(register, 16)
-        if way == 'w' or form == 'quick':
+        if way == 'w' or form in ('quick', 'block'):
             return shown(smbus(self.wire, self.slave, form, way, register, bytes.fromhex(data), pec=self.pec), 0)
         take = {'byte': 1, 'data': 1, 'word': 2, 'i2c': int(data or 0)}[form]
         given = smbus(self.wire, self.slave, form, 'r', register, take=take, pec=self.pec and form != 'i2c')
@@ -241,7 +262,8 @@ def smbus2(wire, *calls):
         given = smbus(wire, data[0] if form == 'at' else wire.address, 'byte' if form == 'at' else form, way, register, () if form == 'at' else data,
                       take, pec and form != 'i2c')
         if not isinstance(given, str):
-            given = given if way == 'r' and form == 'i2c' else int.from_bytes(bytes(given), 'little') if way == 'r' else None
+            given = given[1:] if form == 'block' else given
+            given = given if way == 'r' and form in ('i2c', 'block') else int.from_bytes(bytes(given), 'little') if way == 'r' else None
         lines.append(f'{words} -> {given}')
     words = ' '.join(call[0] for call in calls)
     text(f'/usr/bin/python3 tests/busing/smbus_client.py 9 {words}', lines)
@@ -295,11 +317,15 @@ def off(model):
     event(wire, 'xready', 9)
     i2cdetect(wire, '-r')
     driver(wire, 'funcs', 'slave:08', 'write:0903', 'write:09', 'read:1', 'read:4', 'rdwr:w08:04,r08:2', 'data:r:0a', 'data:w:0a:97', 'word:r:09',
-           'word:w:09:ac97', 'quick:w', 'quick:r', 'byte:w:0b', 'byte:r', 'i2c:r:09:3', 'i2c:w:01:1f1f', 'block:w:01:0102', 'rdwr:w08:01,r08:4,w08:0b,r08:1')
+           'word:w:09:ac97', 'quick:w', 'quick:r', 'byte:w:0b', 'byte:r', 'i2c:r:09:3', 'i2c:w:01:1f1f', 'block:w:01:0102',
+           'rdwr:w08:01,r08:4,w08:0b,r08:1', 'block:r:0b', 'read:1', 'block:r:0c', 'read:1', 'lens:08:0b', 'lens:08:00', 'lens:09:0b', 'proc:w:09:acb4',
+           'pec:1', 'block:r:0b', 'proc:w:09:ac97', 'data:r:09', 'byte:r', 'pec:0', f'word:w:09:ac{crc(0x10, 0x09, 0x11, 0xAC):02x}', 'pec:1', 'data:r:09',
+           'pec:0', 'data:w:0a:97')
     driver(wire, 'read:1', 'slave:80', 'slave:09', 'read:1', 'write:00', 'quick:w', 'data:r:00', 'rdwr:r09:1', 'force:08', 'data:r:09', 'other')
     smbus2(wire, ('read_byte_data=8,9', 'data', 'r', 9, (), 1), ('write_byte_data=8,9,0xf1', 'data', 'w', 9, (0xF1,), 0),
            ('read_word_data=8,9', 'word', 'r', 9, (), 2), ('read_i2c_block_data=8,0x0c,10', 'i2c', 'r', 0x0C, (), 10),
-           ('write_i2c_block_data=8,1,1.2', 'i2c', 'w', 1, (1, 2), 0), ('write_quick=8', 'quick', 'w', 0, (), 0), ('read_byte=9', 'at', 'r', 0, (9,), 1),
+           ('write_i2c_block_data=8,1,1.2', 'i2c', 'w', 1, (1, 2), 0), ('write_block_data=8,1,3.4', 'block', 'w', 1, (3, 4), 0),
+           ('read_block_data=8,0x0b', 'block', 'r', 0x0B, (), 0), ('read_block_data=8,0', 'block', 'r', 0, (), 0), ('write_quick=8', 'quick', 'w', 0, (), 0), ('read_byte=9', 'at', 'r', 0, (9,), 1),
            ('rdwr=w08:01,r08:3', 'rdwr', '', 0, (), 0), ('rdwr=w09:01', 'rdwr', '', 0, (), 0))
     i2ctransfer(wire, (0x08, [0x04, 0x01]))
     i2ctransfer(wire, (0x08, [0x04, 0x02, 0x00]))
