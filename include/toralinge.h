@@ -279,7 +279,8 @@ uint8_t toralinge_crc8(uint8_t start, const uint8_t *bytes, size_t length);
  *
  * Returns how many bytes the records are, from records[0] on; every later byte keeps its value. Each
  * message is START, OUT of its address byte, and an OUT or IN for each of its bytes; in a read every
- * byte is acknowledged but the last. STOP comes after the last message. No SETUP is written.
+ * byte is acknowledged but the last. STOP comes after the last message. No SETUP is written. Playing goes
+ * on after a byte that is not acknowledged, where an adapter of Linux stops.
  *
  * Otherwise writes nothing and returns, looked at in this order: -20 (not a list of this grammar),
  * -21 (an address outside 0x08 to 0x77), -5 (the records do not fit into room). A message takes 9 bytes
