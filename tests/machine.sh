@@ -215,3 +215,33 @@ fed() {
         "${runner[@]}" "$program" <"$1"
     fi
 }
+
+# want_bridge: where the machine's own Python cannot load the library, the program that loads it for Python under the emulator.
+want_bridge() {
+    local bridge=$root/target/toralinge-bridge
+    if native; then
+        return
+    fi
+    want_runner
+    want_compiler
+    if [[ ! -e $bridge || $root/python/bridge.c -nt $bridge ]]; then
+        "${compiler[@]}" -std=c99 -O2 -Wall -Wextra -Werror -pedantic "$root/python/bridge.c" -o "$bridge"
+    fi
+}
+
+# want_python: what the Python package and its tests are made of, in one go.
+want_python() {
+    local pair place=/usr/lib/python3/dist-packages last='' missing=()
+    for pair in "$place/pip python3-pip" "/usr/share/doc/python3-venv python3-venv" "$place/numpy python3-numpy" "$place/pandas python3-pandas" \
+        "$place/matplotlib python3-matplotlib" "$place/dask python3-dask" "$place/distributed python3-distributed" "$place/pytest python3-pytest" \
+        "$place/hypothesis python3-hypothesis" "$place/selenium python3-selenium" "/usr/bin/chromium chromium" "/usr/bin/chromedriver chromium-driver" \
+        "/usr/bin/mypy mypy"; do
+        if [[ ! -e ${pair% *} ]]; then
+            last=${pair% *}
+            missing+=("${pair#* }")
+        fi
+    done
+    if [[ -n $last ]]; then
+        want "$last" "${missing[@]}"
+    fi
+}

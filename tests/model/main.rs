@@ -7,6 +7,7 @@ mod generate;
 mod plant;
 mod season;
 mod stream;
+mod tell;
 mod values;
 
 use plant::Plant;
@@ -15,7 +16,7 @@ use std::process::ExitCode;
 
 const USAGE: &str =
     "usage: model cases | plants [--seed S] [--streams N] | generate [--seed S] [--streams N] [--first K]
-    | stream [--seed S] [--first K] | play [FILE] | forecast [FILE]";
+    | stream [--seed S] [--first K] | play [FILE] | forecast [FILE] | tell [FILE] | values";
 
 struct Options {
     seed: u64,
@@ -192,6 +193,8 @@ fn run(words: &[String]) -> Result<(), String> {
         }
         "play" => print!("{}", stream::lines(&stream_of(rest)?)),
         "forecast" => print!("{}", forecast(&stream_of(rest)?)),
+        "tell" => print!("{}", tell::tell(&stream_of(rest)?)),
+        "values" => print!("{}", tell::grid()),
         _ => return Err(USAGE.to_string()),
     }
     Ok(())
