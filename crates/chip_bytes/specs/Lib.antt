@@ -1,0 +1,5 @@
+pub mod Layout
+pub mod Listed
+pub mod Phases
+pub mod Trip
+pub mod One
