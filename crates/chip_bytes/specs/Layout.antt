@@ -18,7 +18,7 @@ use Rattle.bus.specs.declared.Bus.{Bus}
 use Rattle.settings.specs.declared.Settings.{Settings}
 use Rattle.registers.specs.declared.Status.{Status}
 use Rattle.registers.specs.declared.Shown.{Shown}
-use Rattle.registers.specs.declared.Balance.{Balance}
+use Rattle.registers.specs.declared.Cellbal.{Cellbal}
 use Rattle.registers.specs.declared.Measured.{Measured}
 use Rattle.registers.specs.declared.Registers.{Registers}
 use Rattle.registers.specs.State.{alert}
@@ -86,26 +86,26 @@ listed b i (suc n) = getD b i 0 ∷ listed b (suc i) n
 unfoldable pub plainOf : Chip → List ℕ
 plainOf c =
     1
-    ∷ c .setup .part ∷ c .setup .address ∷ c .setup .gain ∷ c .setup .offset ∷ c .setup .cells
+    ∷ c .setup .part ∷ c .setup .address ∷ c .setup .«gain_code» ∷ c .setup .offset ∷ c .setup .cells
     ∷ c .bus .line .pointer ∷ c .bus .owed .sum ∷ c .bus .owed .low
     ∷ tagOf (c .bus .line .phase) ∷ firstOf (c .bus .line .phase) ∷ secondOf (c .bus .line .phase)
     ∷ c .registers .settings .protect1 ∷ c .registers .settings .protect2 ∷ c .registers .settings .protect3
-    ∷ c .registers .settings .overtrip ∷ c .registers .settings .undertrip ∷ c .registers .settings .cfg
-    ∷ c .registers .balance .one ∷ c .registers .balance .two ∷ c .registers .balance .three
+    ∷ c .registers .settings .«ov_trip» ∷ c .registers .settings .«uv_trip» ∷ c .registers .settings .«cc_cfg»
+    ∷ c .registers .cellbal .cellbal1 ∷ c .registers .cellbal .cellbal2 ∷ c .registers .cellbal .cellbal3
     ∷ []
 
 abbrev pub statusSwitches : Status → List ℕ
 statusSwitches t =
-    bitOf (t .ready) ∷ bitOf (t .xready) ∷ bitOf (t .ovrd) ∷ bitOf (t .uv) ∷ bitOf (t .ov) ∷ bitOf (t .scd) ∷ bitOf (t .ocd) ∷ []
+    bitOf (t .«cc_ready») ∷ bitOf (t .xready) ∷ bitOf (t .«ovrd_alert») ∷ bitOf (t .uv) ∷ bitOf (t .ov) ∷ bitOf (t .scd) ∷ bitOf (t .ocd) ∷ []
 
 unfoldable pub switchesOf : Chip → Bool → List ℕ
 switchesOf c fresh =
-    bitOf (c .setup .crc) ∷ bitOf (c .awake) ∷ bitOf fresh
-    ∷ bitOf (c .registers .settings .adc) ∷ bitOf (c .registers .settings .temp) ∷ bitOf (c .registers .settings .held)
-    ∷ bitOf (c .registers .settings .hasty) ∷ bitOf (c .registers .settings .counter)
+    bitOf (c .setup .crc) ∷ bitOf (c .normal) ∷ bitOf fresh
+    ∷ bitOf (c .registers .settings .«adc_en») ∷ bitOf (c .registers .settings .«temp_sel») ∷ bitOf (c .registers .settings .held)
+    ∷ bitOf (c .registers .settings .«delay_dis») ∷ bitOf (c .registers .settings .«cc_en»)
     ∷ statusSwitches (c .registers .shown .status)
-    ++ (bitOf (c .registers .shown .oneshot) ∷ bitOf (c .registers .shown .dsg) ∷ bitOf (c .registers .shown .chg)
-    ∷ bitOf (c .registers .load) ∷ bitOf (c .registers .outside)
+    ++ (bitOf (c .registers .shown .«cc_oneshot») ∷ bitOf (c .registers .shown .«dsg_on») ∷ bitOf (c .registers .shown .«chg_on»)
+    ∷ bitOf (c .registers .«load_level») ∷ bitOf (c .registers .«outside_level»)
     ∷ [])
 
 unfoldable pub wordsOf : Chip → List ℕ
@@ -130,7 +130,7 @@ setupFrom b ws = record {
   part = getD b 1 0;
   crc = switchAt b 21;
   address = getD b 2 0;
-  gain = getD b 3 0;
+  «gain_code» = getD b 3 0;
   offset = getD b 4 0;
   floor = getD ws 0 0;
   cells = getD b 5 0;
@@ -144,24 +144,24 @@ busAt b = record {
 
 abbrev pub settingsAt : List ℕ → Settings
 settingsAt b = record {
-  adc = switchAt b 24;
-  temp = switchAt b 25;
-  held = switchAt b 26;
-  hasty = switchAt b 27;
-  counter = switchAt b 28;
+  «adc_en» = switchAt b 24;
+  «temp_sel» = switchAt b 25;
+  «shut_b» = switchAt b 26;
+  «delay_dis» = switchAt b 27;
+  «cc_en» = switchAt b 28;
   protect1 = getD b 12 0;
   protect2 = getD b 13 0;
   protect3 = getD b 14 0;
-  overtrip = getD b 15 0;
-  undertrip = getD b 16 0;
-  cfg = getD b 17 0;
+  «ov_trip» = getD b 15 0;
+  «uv_trip» = getD b 16 0;
+  «cc_cfg» = getD b 17 0;
 }
 
 abbrev pub statusAt : List ℕ → Status
 statusAt b = record {
-  ready = switchAt b 29;
+  «cc_ready» = switchAt b 29;
   xready = switchAt b 30;
-  ovrd = switchAt b 31;
+  «ovrd_alert» = switchAt b 31;
   uv = switchAt b 32;
   ov = switchAt b 33;
   scd = switchAt b 34;
@@ -169,9 +169,9 @@ statusAt b = record {
 }
 
 abbrev pub shownAt : List ℕ → Shown
-shownAt b = record { status = statusAt b; oneshot = switchAt b 36; dsg = switchAt b 37; chg = switchAt b 38 }
+shownAt b = record { status = statusAt b; «cc_oneshot» = switchAt b 36; «dsg_on» = switchAt b 37; «chg_on» = switchAt b 38 }
 
-abbrev pub balanceAt : List ℕ → Balance
+abbrev pub balanceAt : List ℕ → Cellbal
 balanceAt b = record { one = getD b 18 0; two = getD b 19 0; three = getD b 20 0 }
 
 abbrev pub measuredFrom : List ℕ → List ℕ → Measured
@@ -189,16 +189,16 @@ abbrev pub registersFrom : List ℕ → List ℕ → Registers
 registersFrom b ws = record {
   settings = settingsAt b;
   shown = shownAt b;
-  balance = balanceAt b;
+  cellbal = balanceAt b;
   measured = measuredFrom b ws;
   load = switchAt b 39;
-  outside = switchAt b 40;
+  «outside_level» = switchAt b 40;
 }
 
 abbrev pub chipFrom : List ℕ → List ℕ → Chip
 chipFrom b ws = record {
   setup = setupFrom b ws;
-  awake = switchAt b 22;
+  normal = switchAt b 22;
   bus = busAt b;
   registers = registersFrom b ws;
   runs = runsFrom b ws;
@@ -226,13 +226,13 @@ formed b = eqb (getD b 0 0) 1 && within 1 (listed b 21 20) && phaseGood (getD b 
 -- ── a chip that could stand: a setup in range, with a row of its part or none, and not the outside level 1 with SYS_STAT 0; a wiring
 -- record is taken by a chip in SHIP that has none ──
 unfoldable pub setupStands : Setup → Bool
-setupStands v = setupFits (v .part) (bitOf (v .crc)) (v .address) (v .gain) (v .floor) && (eqb (v .cells) 0 || hasRow (v .part) (v .cells))
+setupStands v = setupFits (v .part) (bitOf (v .crc)) (v .address) (v .«gain_code») (v .floor) && (eqb (v .cells) 0 || hasRow (v .part) (v .cells))
 
 unfoldable pub couldStand : Chip → Bool → Bool
 couldStand c fresh =
     setupStands (c .setup)
-    && (alert (c .registers .shown .status) || not (c .registers .outside))
-    && (not fresh || (not (c .awake) && eqb (c .setup .cells) 0))
+    && (alert (c .registers .shown .status) || not (c .registers .«outside_level»))
+    && (not fresh || (not (c .normal) && eqb (c .setup .cells) 0))
 
 -- ── what is kept ──
 abbrev pub none : Chip

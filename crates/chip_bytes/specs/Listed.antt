@@ -10,7 +10,7 @@ use lib.Seq.{drop-cons, take-all, getD-drop}
 use borrow.Author.Tests.{leb-true, eqb-true, eqb-false}
 use Rattle.events.specs.Event.{within}
 use Rattle.records.specs.Numbers.{bitOf, le16, words}
-use Rattle.records.specs.Sound.{and-left, and-right}
+use Rattle.records.specs.SoundLaws.{and-left, and-right}
 use Rattle.chip_bytes.specs.Layout.{listed, wordIn}
 
 pub listed-is : (b : List ℕ) (i n : ℕ) → i + n ≤ length b → listed b i n ≡ take n (drop i b)

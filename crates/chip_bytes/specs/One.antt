@@ -12,8 +12,8 @@ use borrow.Author.Tests.{leb-true, ne-eqb}
 use Rattle.events.specs.Event.{within}
 use Rattle.events.specs.Setup.{setupFits}
 use Rattle.records.specs.Numbers.{bitOf}
-use Rattle.records.specs.Sound.{and-left, and-right}
-use Rattle.writer.specs.Bytes.{Bytes}
+use Rattle.records.specs.SoundLaws.{and-left, and-right}
+use Rattle.writer.specs.BytesLaws.{Bytes}
 use Rattle.chip.specs.declared.Chip.{Chip}
 use Rattle.chip_bytes.specs.declared.Kept.{Kept}
 use Rattle.chip_bytes.specs.Layout.{plainOf, chipBytes, switchAt, chipAt, formed, setupStands, couldStand}
@@ -29,7 +29,7 @@ pub data Stood : Chip → Bool → Type 0 where
 pub part-not : (c : Chip) (fresh : Bool) → couldStand c fresh ≡ true → c .setup .part ≢ 0
 unfolding couldStand setupStands
 part-not c fresh h z =
-    let fits : setupFits (c .setup .part) (bitOf (c .setup .crc)) (c .setup .address) (c .setup .gain) (c .setup .floor) ≡ true =
+    let fits : setupFits (c .setup .part) (bitOf (c .setup .crc)) (c .setup .address) (c .setup .«gain_code») (c .setup .floor) ≡ true =
     and-left _ _ (and-left _ _ (and-left _ _ h)) in
     let part : leb 1 (c .setup .part) ≡ true = and-left _ _ (and-left _ _ (and-left _ _ (and-left _ _ (and-left _ _ (and-left _ _ fits))))) in
     omega (arith, z, leb-true 1 (c .setup .part) part)

@@ -5,8 +5,8 @@ use Prim.Native.Nat.{ℕ}
 use lib.Dec.{eqb, leb}
 use borrow.Author.Tests.{eqb-true, leb-true}
 use Rattle.records.specs.Numbers.{bitOf}
-use Rattle.records.specs.Sound.{and-left, and-right}
-use Rattle.writer.specs.Bytes.{bit-same}
+use Rattle.records.specs.SoundLaws.{and-left, and-right}
+use Rattle.writer.specs.BytesLaws.{bit-same}
 use Rattle.bus.specs.declared.Phase.{Phase}
 use Rattle.bus.specs.declared.Phase.the-variants.{Idle, Address, Pointing, Writing, Checking, Reading, Summing}
 use Rattle.chip_bytes.specs.Layout.{tagOf, firstOf, secondOf, phaseOf, phaseGood}

@@ -9,10 +9,10 @@ use lib.ListN.{length, getD, take, drop, replicate, length-drop, take-append-dro
 use borrow.Author.Tests.{eqb-true}
 use Rattle.events.specs.Event.{within}
 use Rattle.records.specs.Numbers.{bitOf, words}
-use Rattle.records.specs.Counted.{words-count}
-use Rattle.records.specs.Sound.{and-left, and-right}
+use Rattle.records.specs.CountedLaws.{words-count}
+use Rattle.records.specs.SoundLaws.{and-left, and-right}
 use Rattle.writer.specs.Write.{wordBytes}
-use Rattle.writer.specs.Bytes.{Bytes, bytes-drop, words-back, words-forth, bit-same}
+use Rattle.writer.specs.BytesLaws.{Bytes, bytes-drop, words-back, words-forth, bit-same}
 use Rattle.bus.specs.declared.Phase.{Phase}
 use Rattle.registers.specs.declared.Measured.{Measured}
 use Rattle.chip.specs.declared.Chip.{Chip}

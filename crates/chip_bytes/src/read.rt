@@ -12,7 +12,7 @@ use bus::Phase;
 use chip::Chip;
 use events::Setup;
 use protection::Runs;
-use registers::Balance;
+use registers::Cellbal;
 use registers::Measured;
 use registers::Registers;
 use registers::Shown;
@@ -27,7 +27,7 @@ fn no_chip() -> Chip
         part: 0,
         crc: false,
         address: 0,
-        gain: 0,
+        gain_code: 0,
         offset: 0,
         floor: 0,
         cells: 0,
@@ -83,7 +83,7 @@ fn setup_at(b: &[u8]) -> Setup
         part: b[1],
         crc: b[21] == 1,
         address: b[2],
-        gain: b[3],
+        gain_code: b[3],
         offset: b[4],
         floor,
         cells: b[5],
@@ -111,17 +111,17 @@ fn settings_at(b: &[u8]) -> Settings
     ensures { λ r. ⌜ r ≡ settingsAt (now (b .entry)) ⌝ }
 {
     Settings {
-        adc: b[24] == 1,
+        adc_en: b[24] == 1,
         temp: b[25] == 1,
         held: b[26] == 1,
-        hasty: b[27] == 1,
-        counter: b[28] == 1,
+        delay_dis: b[27] == 1,
+        cc_en: b[28] == 1,
         protect1: b[12],
         protect2: b[13],
         protect3: b[14],
-        overtrip: b[15],
-        undertrip: b[16],
-        cfg: b[17],
+        ov_trip: b[15],
+        uv_trip: b[16],
+        cc_cfg: b[17],
     }
 }
 
@@ -132,7 +132,7 @@ fn status_at(b: &[u8]) -> Status
     Status {
         ready: b[29] == 1,
         xready: b[30] == 1,
-        ovrd: b[31] == 1,
+        ovrd_alert: b[31] == 1,
         uv: b[32] == 1,
         ov: b[33] == 1,
         scd: b[34] == 1,
@@ -147,17 +147,17 @@ fn shown_at(b: &[u8]) -> Shown
     let status = status_at(b);
     Shown {
         status,
-        oneshot: b[36] == 1,
-        dsg: b[37] == 1,
-        chg: b[38] == 1,
+        cc_oneshot: b[36] == 1,
+        dsg_on: b[37] == 1,
+        chg_on: b[38] == 1,
     }
 }
 
-fn balance_at(b: &[u8]) -> Balance
+fn balance_at(b: &[u8]) -> Cellbal
     requires { ⌜ length (now b) ≡ 96 ⌝ }
     ensures { λ r. ⌜ r ≡ balanceAt (now (b .entry)) ⌝ }
 {
-    Balance {
+    Cellbal {
         one: b[18],
         two: b[19],
         three: b[20],
@@ -209,12 +209,12 @@ fn registers_at(b: &[u8]) -> Registers
 {
     let settings = settings_at(b);
     let shown = shown_at(b);
-    let balance = balance_at(b);
+    let cellbal = balance_at(b);
     let measured = measured_at(b);
     Registers {
         settings,
         shown,
-        balance,
+        cellbal,
         measured,
         load: b[39] == 1,
         outside: b[40] == 1,
@@ -231,7 +231,7 @@ fn chip_at(b: &[u8]) -> Chip
     let runs = runs_at(b);
     Chip {
         setup,
-        awake: b[22] == 1,
+        normal: b[22] == 1,
         bus,
         registers,
         runs,
@@ -289,7 +289,7 @@ fn setup_stands(v: Setup) -> bool
         & (v.part <= 3)
         & (0x08 <= v.address)
         & (v.address <= 0x77)
-        & (v.gain <= 31)
+        & (v.gain_code <= 31)
         & (v.floor <= 4095)
         & ((v.cells == 0) | wiring::has_row(v.part, v.cells))
 }
@@ -304,7 +304,7 @@ fn could_stand(chip: Chip, fresh: bool) -> bool
     let status = shown.status;
     setup_stands(setup)
         & (status.alert() | !registers.outside)
-        & (!fresh | (!chip.awake & (setup.cells == 0)))
+        & (!fresh | (!chip.normal & (setup.cells == 0)))
 }
 
 // Whether every byte is 0.

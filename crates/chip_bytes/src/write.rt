@@ -62,13 +62,13 @@ fn plain_of(chip: Chip) -> [u8; 21]
     let owed = bus.owed;
     let registers = chip.registers;
     let s = registers.settings;
-    let balance = registers.balance;
+    let cellbal = registers.cellbal;
     let phase = line.phase;
     [
         1,
         setup.part,
         setup.address,
-        setup.gain,
+        setup.gain_code,
         setup.offset,
         setup.cells,
         line.pointer,
@@ -80,12 +80,12 @@ fn plain_of(chip: Chip) -> [u8; 21]
         s.protect1,
         s.protect2,
         s.protect3,
-        s.overtrip,
-        s.undertrip,
-        s.cfg,
-        balance.one,
-        balance.two,
-        balance.three,
+        s.ov_trip,
+        s.uv_trip,
+        s.cc_cfg,
+        cellbal.cellbal1,
+        cellbal.cellbal2,
+        cellbal.cellbal3,
     ]
 }
 
@@ -100,23 +100,23 @@ fn switches_of(chip: Chip, fresh: bool) -> [u8; 20]
     let t = shown.status;
     [
         weigh(setup.crc, 1),
-        weigh(chip.awake, 1),
+        weigh(chip.normal, 1),
         weigh(fresh, 1),
-        weigh(s.adc, 1),
-        weigh(s.temp, 1),
+        weigh(s.adc_en, 1),
+        weigh(s.temp_sel, 1),
         weigh(s.held, 1),
-        weigh(s.hasty, 1),
-        weigh(s.counter, 1),
+        weigh(s.delay_dis, 1),
+        weigh(s.cc_en, 1),
         weigh(t.ready, 1),
         weigh(t.xready, 1),
-        weigh(t.ovrd, 1),
+        weigh(t.ovrd_alert, 1),
         weigh(t.uv, 1),
         weigh(t.ov, 1),
         weigh(t.scd, 1),
         weigh(t.ocd, 1),
-        weigh(shown.oneshot, 1),
-        weigh(shown.dsg, 1),
-        weigh(shown.chg, 1),
+        weigh(shown.cc_oneshot, 1),
+        weigh(shown.dsg_on, 1),
+        weigh(shown.chg_on, 1),
         weigh(registers.load, 1),
         weigh(registers.outside, 1),
     ]

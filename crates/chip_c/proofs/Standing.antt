@@ -14,8 +14,8 @@ use Rattle.values.specs.declared.Reading.{Reading}
 use Rattle.registers.specs.Read.{readAt}
 use Rattle.wiring.specs.Rows.{packCells}
 use Rattle.wiring.specs.Numbered.{few-cells}
-use Rattle.smart.specs.declared.Pack.{Pack}
-use Rattle.smart.specs.Words.{known, wordFor}
+use Rattle.smart_battery.specs.declared.Pack.{Pack}
+use Rattle.smart_battery.specs.Words.{known, wordFor}
 use Rattle.chip.specs.declared.Chip.{Chip}
 use Rattle.chip.specs.Outward.{voltageSaid, Reads, forecastNumber}
 use Rattle.stream.specs.Convert.{Gives}

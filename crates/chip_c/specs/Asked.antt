@@ -10,10 +10,10 @@ use lib.ListN.{length}
 use Rattle.values.specs.Values.{Said, gives, refuses}
 use Rattle.registers.specs.Read.{readAt}
 use Rattle.bleed.specs.declared.Choice.{Choice}
-use Rattle.smart.specs.Words.{wordFor}
+use Rattle.smart_battery.specs.Words.{wordFor}
 use Rattle.chip.specs.declared.Chip.{Chip}
 use Rattle.chip.specs.Outward.{voltageSaid, forecastNumber}
-use Rattle.care.specs.Care.{proposalSaid, packOf, linkedTotal}
+use Rattle.services_chip.specs.Care.{proposalSaid, packOf, linkedTotal}
 use Rattle.stream.specs.Forecast.{Contents}
 use Rattle.chip_bytes.specs.declared.Kept.{Kept}
 

@@ -4,10 +4,10 @@ ghost use Rattle.chip_bytes.specs.Layout.{keptOf};
 ghost use Rattle.values.specs.Values.{numberSaid};
 ghost use Rattle.chip.specs.Outward.{saidForecast};
 ghost use Rattle.stream.specs.Convert.{Gives};
-ghost use Rattle.smart.specs.Reply.{Replied};
-ghost use Rattle.asks.specs.Asks.{Bled};
+ghost use Rattle.smart_battery.specs.Reply.{Replied};
+ghost use Rattle.services_stream.specs.Asks.{Bled};
 ghost use Rattle.chip_c.specs.Asked.{byteOr, standsNumber, registerSaid, voltageOf, proposalOf, wordOf, ReadOf};
-use care::Proposal;
+use services_chip::Proposal;
 use chip::CellAnswer;
 use chip::ForecastAnswer;
 use chip_bytes::Kept;
@@ -88,10 +88,10 @@ pub extern "C" fn toralinge_bleed_of(chip: &[u8], margin: u32, cellbal: &mut [u8
     if number != 0 {
         return number;
     }
-    let answer = care::bleeding(kept.chip, margin);
+    let answer = services_chip::bleeding(kept.chip, margin);
     match answer {
         Proposal::No(why) => why,
-        Proposal::Is(choice) => asks::put_choice(cellbal, choice),
+        Proposal::Is(choice) => services_stream::put_choice(cellbal, choice),
     }
 }
 
@@ -114,7 +114,7 @@ pub extern "C" fn toralinge_reply_of(
     if 255 < command {
         return 23;
     }
-    care::reply(kept.chip, command as u8, milliohms, reply)
+    services_chip::reply(kept.chip, command as u8, milliohms, reply)
 }
 
 // The number of a reading, 0 where it is given.

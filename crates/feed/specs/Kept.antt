@@ -17,18 +17,18 @@ use Rattle.records.specs.declared.Read.{Read}
 use Rattle.records.specs.declared.Read.the-variants.{Record, Refused, Cut}
 use Rattle.records.specs.Numbers.{bitOf}
 use Rattle.records.specs.Record.{setupGood, readOf, countsBeside}
-use Rattle.records.specs.Sound.{and-left, and-right, IsSetup, first-setup, isWires, wires-by, later-means}
+use Rattle.records.specs.SoundLaws.{and-left, and-right, IsSetup, first-setup, isWires, wires-by, later-means}
 use Rattle.wiring.specs.Rows.{hasRow, wiredWith}
 use Rattle.wiring.specs.declared.Wiring.the-variants.{With, NoRow}
 use Rattle.registers.specs.State.{alert}
 use Rattle.chip.specs.declared.Chip.{Chip}
 use Rattle.chip.specs.declared.Stepped.{Stepped}
-use Rattle.chip.specs.Chip.{quiet, inShip, steppedAs, steppedBy}
+use Rattle.chip.specs.Chip.{numbered, inShip, steppedAs, steppedBy}
 use Rattle.chip.specs.Calm.{Calmed}
-use Rattle.chip.specs.Repeat.{setup-as, calm-as}
+use Rattle.chip.specs.RepeatLaws.{setup-as, calm-as}
 use Rattle.demands.specs.Refused.{refused-as}
 use Rattle.stream.specs.Stream.{Turn, none, bornOf, wiredAs, acted, staysFresh, turned, turnOf}
-use Rattle.stream.specs.Standing.{acted-is}
+use Rattle.stream.specs.StandingLaws.{acted-is}
 use Rattle.chip_bytes.specs.Layout.{setupStands, couldStand}
 use Rattle.chip_bytes.specs.Trip.{Sized}
 use Rattle.chip_bytes.specs.One.{Stood, not-yet, stands, part-not}
@@ -36,7 +36,7 @@ use Rattle.feed.specs.Sizes.{ship-sized, sized-as}
 
 -- ── what a chip that could stand has ──
 abbrev still : Chip → Bool → Bool
-still c fresh = not fresh || (not (c .awake) && eqb (c .setup .cells) 0)
+still c fresh = not fresh || (not (c .normal) && eqb (c .setup .cells) 0)
 
 both : {a b : Bool} → a ≡ true → b ≡ true → a && b ≡ true
 both p q = ap₂ _&&_ p q
@@ -59,16 +59,16 @@ pub record Parts (c : Chip) (fresh : Bool) : Type 0 where
 pub parts : (c : Chip) (fresh : Bool) → couldStand c fresh ≡ true → Parts c fresh
 unfolding couldStand
 parts c fresh h =
-    let s : (setupStands (c .setup) && (alert (c .registers .shown .status) || not (c .registers .outside))) ≡ true = and-left _ (still c fresh) h in
+    let s : (setupStands (c .setup) && (alert (c .registers .shown .status) || not (c .registers .«outside_level»))) ≡ true = and-left _ (still c fresh) h in
     record {
-      setup = and-left _ (alert (c .registers .shown .status) || not (c .registers .outside)) s;
-      calm = calm-of (alert (c .registers .shown .status)) (c .registers .outside) (and-right (setupStands (c .setup)) _ s);
-      rest = and-right (setupStands (c .setup) && (alert (c .registers .shown .status) || not (c .registers .outside))) (still c fresh) h;
+      setup = and-left _ (alert (c .registers .shown .status) || not (c .registers .«outside_level»)) s;
+      calm = calm-of (alert (c .registers .shown .status)) (c .registers .«outside_level») (and-right (setupStands (c .setup)) _ s);
+      rest = and-right (setupStands (c .setup) && (alert (c .registers .shown .status) || not (c .registers .«outside_level»))) (still c fresh) h;
     }
 
 pub whole : (c : Chip) (fresh : Bool) → Parts c fresh → couldStand c fresh ≡ true
 unfolding couldStand
-whole c fresh p = both (both (p .setup) (calm-to (alert (c .registers .shown .status)) (c .registers .outside) (p .calm))) (p .rest)
+whole c fresh p = both (both (p .setup) (calm-to (alert (c .registers .shown .status)) (c .registers .«outside_level») (p .calm))) (p .rest)
 
 -- ── an event of a chip ──
 still-step : (m : Meant) (c : Chip) (o t : Bool) → eqb (steppedAs m c .number) 0 ≡ t → still c o ≡ true → still (steppedAs m c .chip) (o && not t) ≡ true
@@ -92,8 +92,8 @@ stepped-stands m c o h z =
 good-stands : (v : SetupValues) → setupGood v ≡ true → setupStands v ≡ true
 unfolding setupStands
 good-stands v h =
-    let f : setupFits (v .part) (bitOf (v .crc)) (v .address) (v .gain) (v .floor) ≡ true = and-left _ (eqb (v .cells) 0) h in
-    let z : eqb (v .cells) 0 ≡ true = and-right (setupFits (v .part) (bitOf (v .crc)) (v .address) (v .gain) (v .floor)) (eqb (v .cells) 0) h in
+    let f : setupFits (v .part) (bitOf (v .crc)) (v .address) (v .«gain_code») (v .floor) ≡ true = and-left _ (eqb (v .cells) 0) h in
+    let z : eqb (v .cells) 0 ≡ true = and-right (setupFits (v .part) (bitOf (v .crc)) (v .address) (v .«gain_code») (v .floor)) (eqb (v .cells) 0) h in
     both f (ap (λ (t : Bool). t || hasRow (v .part) (v .cells)) z)
 
 born-stands : (v : SetupValues) → setupGood v ≡ true → Stood (inShip v) true
@@ -103,7 +103,7 @@ born-stands v h =
     (record {
       setup = good-stands v h;
       calm = λ e. absurd (true≢false (sym e));
-      rest = and-right (setupFits (v .part) (bitOf (v .crc)) (v .address) (v .gain) (v .floor)) (eqb (v .cells) 0) h;
+      rest = and-right (setupFits (v .part) (bitOf (v .crc)) (v .address) (v .«gain_code») (v .floor)) (eqb (v .cells) 0) h;
     }))
     (ship-sized v)
 
@@ -111,14 +111,14 @@ born-stands v h =
 row-stands : (u : SetupValues) (n : ℕ) → setupStands u ≡ true → hasRow (u .part) n ≡ true → setupStands (withCells n u) ≡ true
 unfolding setupStands
 row-stands u n s r =
-    both (and-left (setupFits (u .part) (bitOf (u .crc)) (u .address) (u .gain) (u .floor)) _ s) (by (eqb n 0))
+    both (and-left (setupFits (u .part) (bitOf (u .crc)) (u .address) (u .«gain_code») (u .floor)) _ s) (by (eqb n 0))
   where
     by : (t : Bool) → (t || hasRow (u .part) n) ≡ true
     by true = refl
     by false = r
 
 wired-stands : (c : Chip) (o : Bool) (n : ℕ) → couldStand c o ≡ true → Sized c → (t : Bool) → hasRow (c .setup .part) n ≡ t
-    → let s : Stepped = cond o (wiredAs (cond t (With (withCells n (c .setup))) NoRow) c) (quiet 2 c) in Stood (s .chip) (o && not (eqb (s .number) 0))
+    → let s : Stepped = cond o (wiredAs (cond t (With (withCells n (c .setup))) NoRow) c) (numbered 2 c) in Stood (s .chip) (o && not (eqb (s .number) 0))
 wired-stands c true n h z true r =
     let p : Parts c true = parts c true h in
     stands

@@ -10,12 +10,12 @@ use Rattle.events.specs.declared.BusEvent.{BusEvent}
 use Rattle.events.specs.declared.BusEvent.the-variants.{Start, Stop, Out, In}
 use Rattle.events.specs.Event.{Event, Por, Boot, Pin, Xready, Scan, Temp, Count, Sense, Load, OnBus, Level, ticksFit, Meant, means, ticks, unfit}
 use Rattle.bus.specs.Bus.{outed}
-use Rattle.scan.specs.Scan.{padded}
+use Rattle.cell_counts.specs.Scan.{padded}
 use Rattle.registers.specs.declared.Measured.{Measured}
 use Rattle.registers.specs.Judging.{cellsOf, tsOf, ccOf}
 use Rattle.chip.specs.declared.Chip.{Chip}
-use Rattle.chip.specs.Chip.{quiet, inShip, onBus, watched, settled, normally, asleep, happened, next, ticking, steppedAs}
-use Rattle.chip.specs.Moves.{next-by, asleep-by, stored-by}
+use Rattle.chip.specs.Chip.{numbered, inShip, onBus, watched, settled, normally, asleep, happened, next, ticking, steppedAs}
+use Rattle.chip.specs.MovesLaws.{next-by, asleep-by, stored-by}
 use Rattle.chip_bytes.specs.Trip.{Sized}
 
 padded-length : (k : ℕ) (xs : List ℕ) → length (padded k xs) ≡ k
@@ -32,7 +32,7 @@ same z e = record { cells = ap (λ (m : Measured). length (m .cells)) e ∙ z .c
 
 module _ (c : Chip) (z : Sized c) where
   scan-sized : (xs : List ℕ) → Sized (watched (normally (Scan xs) c .chip))
-  scan-sized xs = record { cells = by (c .registers .settings .adc); ts = by-ts (c .registers .settings .adc) }
+  scan-sized xs = record { cells = by (c .registers .settings .«adc_en»); ts = by-ts (c .registers .settings .«adc_en») }
     where
       by : (t : Bool) → length (cond t (cellsOf xs (c .registers .measured)) (c .registers .measured) .cells) ≡ 15
       by true = padded-length 15 xs
@@ -43,7 +43,7 @@ module _ (c : Chip) (z : Sized c) where
       by-ts false = z .ts
 
   temp-sized : (xs : List ℕ) → Sized (watched (normally (Temp xs) c .chip))
-  temp-sized xs = record { cells = by (c .registers .settings .adc); ts = by-ts (c .registers .settings .adc) }
+  temp-sized xs = record { cells = by (c .registers .settings .«adc_en»); ts = by-ts (c .registers .settings .«adc_en») }
     where
       by : (t : Bool) → length (cond t (tsOf xs (c .registers .measured)) (c .registers .measured) .cells) ≡ 15
       by true = z .cells
@@ -54,7 +54,7 @@ module _ (c : Chip) (z : Sized c) where
       by-ts false = z .ts
 
   count-sized : (n : ℕ) → Sized (watched (normally (Count n) c .chip))
-  count-sized n = record { cells = by (c .registers .settings .counter || c .registers .shown .oneshot); ts = by-ts (c .registers .settings .counter || c .registers .shown .oneshot) }
+  count-sized n = record { cells = by (c .registers .settings .«cc_en» || c .registers .shown .«cc_oneshot»); ts = by-ts (c .registers .settings .«cc_en» || c .registers .shown .«cc_oneshot») }
     where
       by : (t : Bool) → length (cond t (ccOf n (c .registers .measured)) (c .registers .measured) .cells) ≡ 15
       by true = z .cells
@@ -91,7 +91,7 @@ module _ (c : Chip) (z : Sized c) where
 
   tick-sized : (v : ℤ) → Sized (happened (Sense v) c .chip)
   unfolding happened
-  tick-sized v = by (c .awake)
+  tick-sized v = by (c .normal)
     where
       by : (t : Bool) → Sized (cond t (settled (normally (Sense v) c)) (asleep (Sense v) c) .chip)
       by true = normal-sized (Sense v)
@@ -103,9 +103,9 @@ ticking-sized (suc n) v c z = tick-sized (ticking n v c) (ticking-sized n v c z)
 
 pub sized-as : (m : Meant) (c : Chip) → Sized c → Sized (steppedAs m c .chip)
 sized-as (means e) c z = next-sized c z e
-sized-as (ticks most v n) c z = by (ticksFit most v n) (c .awake)
+sized-as (ticks most v n) c z = by (ticksFit most v n) (c .normal)
   where
-    by : (f t : Bool) → Sized (cond f (cond t (quiet 0 (ticking n v c)) (quiet 4 c)) (quiet 3 c) .chip)
+    by : (f t : Bool) → Sized (cond f (cond t (numbered 0 (ticking n v c)) (numbered 4 c)) (numbered 3 c) .chip)
     by true true = ticking-sized n v c z
     by true false = z
     by false t = z

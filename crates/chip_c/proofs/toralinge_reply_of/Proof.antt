@@ -1,8 +1,8 @@
 -- By whether a chip stands, then by the command.
 use mathlib.Core.Path.{_∙_}
-use Rattle.smart.specs.Words.{wordFor}
-use Rattle.care.specs.Care.{packOf, linkedTotal}
-use Rattle.asks.proofs.Standing.{replied-as, replied-refused}
+use Rattle.smart_battery.specs.Words.{wordFor}
+use Rattle.services_chip.specs.Care.{packOf, linkedTotal}
+use Rattle.services_stream.proofs.Standing.{replied-as, replied-refused}
 use Rattle.chip_c.proofs.Standing.{none-said, some-said, command-large}
 use borrow.Author.Needs.{needs}
 use Rattle.chip_c.proofs.toralinge_reply_of.Statement.{statement}
