@@ -101,7 +101,7 @@ statusSwitches t =
 unfoldable pub switchesOf : Chip → Bool → List ℕ
 switchesOf c fresh =
     bitOf (c .setup .crc) ∷ bitOf (c .normal) ∷ bitOf fresh
-    ∷ bitOf (c .registers .settings .«adc_en») ∷ bitOf (c .registers .settings .«temp_sel») ∷ bitOf (c .registers .settings .held)
+    ∷ bitOf (c .registers .settings .«adc_en») ∷ bitOf (c .registers .settings .«temp_sel») ∷ bitOf (c .registers .settings .«shut_b»)
     ∷ bitOf (c .registers .settings .«delay_dis») ∷ bitOf (c .registers .settings .«cc_en»)
     ∷ statusSwitches (c .registers .shown .status)
     ++ (bitOf (c .registers .shown .«cc_oneshot») ∷ bitOf (c .registers .shown .«dsg_on») ∷ bitOf (c .registers .shown .«chg_on»)
@@ -171,8 +171,8 @@ statusAt b = record {
 abbrev pub shownAt : List ℕ → Shown
 shownAt b = record { status = statusAt b; «cc_oneshot» = switchAt b 36; «dsg_on» = switchAt b 37; «chg_on» = switchAt b 38 }
 
-abbrev pub balanceAt : List ℕ → Cellbal
-balanceAt b = record { one = getD b 18 0; two = getD b 19 0; three = getD b 20 0 }
+abbrev pub cellbalAt : List ℕ → Cellbal
+cellbalAt b = record { cellbal1 = getD b 18 0; cellbal2 = getD b 19 0; cellbal3 = getD b 20 0 }
 
 abbrev pub measuredFrom : List ℕ → List ℕ → Measured
 measuredFrom b ws = record {
@@ -189,9 +189,9 @@ abbrev pub registersFrom : List ℕ → List ℕ → Registers
 registersFrom b ws = record {
   settings = settingsAt b;
   shown = shownAt b;
-  cellbal = balanceAt b;
+  cellbal = cellbalAt b;
   measured = measuredFrom b ws;
-  load = switchAt b 39;
+  «load_level» = switchAt b 39;
   «outside_level» = switchAt b 40;
 }
 

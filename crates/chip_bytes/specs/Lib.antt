@@ -1,5 +1,5 @@
 pub mod Layout
-pub mod Listed
-pub mod Phases
-pub mod Trip
-pub mod One
+pub mod ListedLaws
+pub mod PhaseLaws
+pub mod TripLaws
+pub mod OneLaws

@@ -3,7 +3,7 @@ ghost use mathlib.Core.Path.{_≡_};
 ghost use Prim.Native.Nat.{_<_};
 ghost use lib.ListN.{length};
 ghost use Rattle.events.specs.Event.{within};
-ghost use Rattle.chip_bytes.specs.Layout.{phaseOf, phaseGood, listed, wordIn, setupAt, busAt, settingsAt, statusAt, shownAt, balanceAt, measuredAt, runsAt, registersAt, chipAt, formed as formedSpec, setupStands, couldStand, keptAt, keptOf, noChip, none};
+ghost use Rattle.chip_bytes.specs.Layout.{phaseOf, phaseGood, listed, wordIn, setupAt, busAt, settingsAt, statusAt, shownAt, cellbalAt, measuredAt, runsAt, registersAt, chipAt, formed as formedSpec, setupStands, couldStand, keptAt, keptOf, noChip, none};
 use crate::Kept;
 use bus::Bus;
 use bus::Line;
@@ -112,8 +112,8 @@ fn settings_at(b: &[u8]) -> Settings
 {
     Settings {
         adc_en: b[24] == 1,
-        temp: b[25] == 1,
-        held: b[26] == 1,
+        temp_sel: b[25] == 1,
+        shut_b: b[26] == 1,
         delay_dis: b[27] == 1,
         cc_en: b[28] == 1,
         protect1: b[12],
@@ -130,7 +130,7 @@ fn status_at(b: &[u8]) -> Status
     ensures { λ r. ⌜ r ≡ statusAt (now (b .entry)) ⌝ }
 {
     Status {
-        ready: b[29] == 1,
+        cc_ready: b[29] == 1,
         xready: b[30] == 1,
         ovrd_alert: b[31] == 1,
         uv: b[32] == 1,
@@ -153,14 +153,14 @@ fn shown_at(b: &[u8]) -> Shown
     }
 }
 
-fn balance_at(b: &[u8]) -> Cellbal
+fn cellbal_at(b: &[u8]) -> Cellbal
     requires { ⌜ length (now b) ≡ 96 ⌝ }
-    ensures { λ r. ⌜ r ≡ balanceAt (now (b .entry)) ⌝ }
+    ensures { λ r. ⌜ r ≡ cellbalAt (now (b .entry)) ⌝ }
 {
     Cellbal {
-        one: b[18],
-        two: b[19],
-        three: b[20],
+        cellbal1: b[18],
+        cellbal2: b[19],
+        cellbal3: b[20],
     }
 }
 
@@ -209,15 +209,15 @@ fn registers_at(b: &[u8]) -> Registers
 {
     let settings = settings_at(b);
     let shown = shown_at(b);
-    let cellbal = balance_at(b);
+    let cellbal = cellbal_at(b);
     let measured = measured_at(b);
     Registers {
         settings,
         shown,
         cellbal,
         measured,
-        load: b[39] == 1,
-        outside: b[40] == 1,
+        load_level: b[39] == 1,
+        outside_level: b[40] == 1,
     }
 }
 
@@ -303,7 +303,7 @@ fn could_stand(chip: Chip, fresh: bool) -> bool
     let shown = registers.shown;
     let status = shown.status;
     setup_stands(setup)
-        & (status.alert() | !registers.outside)
+        & (status.alert() | !registers.outside_level)
         & (!fresh | (!chip.normal & (setup.cells == 0)))
 }
 

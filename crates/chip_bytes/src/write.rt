@@ -8,7 +8,7 @@ ghost use Rattle.writer.specs.Write.{wordBytes};
 ghost use Rattle.chip_bytes.specs.Layout.{tagOf, firstOf, secondOf, plainOf, switchesOf, wordsOf, chipBytes, keptIn};
 use bus::Phase;
 use chip::Chip;
-use settings::weigh;
+use bits::weigh;
 
 fn tag_of(phase: Phase) -> u8
     ensures { λ r. ⌜ r ≡ tagOf phase ⌝ }
@@ -104,10 +104,10 @@ fn switches_of(chip: Chip, fresh: bool) -> [u8; 20]
         weigh(fresh, 1),
         weigh(s.adc_en, 1),
         weigh(s.temp_sel, 1),
-        weigh(s.held, 1),
+        weigh(s.shut_b, 1),
         weigh(s.delay_dis, 1),
         weigh(s.cc_en, 1),
-        weigh(t.ready, 1),
+        weigh(t.cc_ready, 1),
         weigh(t.xready, 1),
         weigh(t.ovrd_alert, 1),
         weigh(t.uv, 1),
@@ -117,8 +117,8 @@ fn switches_of(chip: Chip, fresh: bool) -> [u8; 20]
         weigh(shown.cc_oneshot, 1),
         weigh(shown.dsg_on, 1),
         weigh(shown.chg_on, 1),
-        weigh(registers.load, 1),
-        weigh(registers.outside, 1),
+        weigh(registers.load_level, 1),
+        weigh(registers.outside_level, 1),
     ]
 }
 

@@ -1,2 +1,2 @@
-pub mod Sizes
-pub mod Kept
+pub mod SizeLaws
+pub mod KeptLaws

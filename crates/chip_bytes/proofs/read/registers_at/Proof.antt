@@ -4,7 +4,7 @@ use Rattle.chip_bytes.proofs.read.registers_at.Statement.{statement}
 use Rattle.chip_bytes.proofs.read.registers_at.Tie as tie
 
 returns : tie.Need-returns
-returns c = simp (c .before .before .measured-at .ensures, c .before .before .before .balance-at .ensures, c .before .before .before .before .shown-at .ensures, c .before .before .before .before .before .settings-at .ensures)
+returns c = simp (c .before .before .measured-at .ensures, c .before .before .before .cellbal-at .ensures, c .before .before .before .before .shown-at .ensures, c .before .before .before .before .before .settings-at .ensures)
 
 pub registers-at-spec : {M : Type 1} → statement M
 registers-at-spec =

@@ -2,7 +2,7 @@
 use lib.Dec.{leb}
 use lib.ListN.{getD}
 use Rattle.chip_bytes.specs.Layout.{listed}
-use Rattle.chip_bytes.specs.Listed.{joins}
+use Rattle.chip_bytes.specs.ListedLaws.{joins}
 use borrow.Author.Needs.{needs}
 use Rattle.chip_bytes.proofs.read.rest_zero.Statement.{statement}
 use Rattle.chip_bytes.proofs.read.rest_zero.Tie as tie

@@ -1,6 +1,6 @@
 -- The ranges of a setup; a switch is always 0 or 1.
 use mathlib.Core.Bool.{and-true}
-use Rattle.chip_bytes.specs.Listed.{bit-small}
+use Rattle.chip_bytes.specs.ListedLaws.{bit-small}
 use Rattle.chip_bytes.specs.Layout.{setupStands}
 use borrow.Author.Needs.{needs}
 use Rattle.chip_bytes.proofs.read.setup_stands.Statement.{statement}

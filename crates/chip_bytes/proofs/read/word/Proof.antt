@@ -1,7 +1,7 @@
 -- Two bytes, the low one first: both are below 256.
 use native.Mathlib.Omega.{arith}
 use Prim.Native.Nat.{_+_, _*_}
-use Rattle.chip_bytes.specs.Listed.{word-is}
+use Rattle.chip_bytes.specs.ListedLaws.{word-is}
 use borrow.Author.Needs.{needs}
 use Rattle.chip_bytes.proofs.read.word.Statement.{statement}
 use Rattle.chip_bytes.proofs.read.word.Tie as tie

@@ -30,9 +30,9 @@ use Rattle.demands.specs.Refused.{refused-as}
 use Rattle.stream.specs.Stream.{Turn, none, bornOf, wiredAs, acted, staysFresh, turned, turnOf}
 use Rattle.stream.specs.StandingLaws.{acted-is}
 use Rattle.chip_bytes.specs.Layout.{setupStands, couldStand}
-use Rattle.chip_bytes.specs.Trip.{Sized}
-use Rattle.chip_bytes.specs.One.{Stood, not-yet, stands, part-not}
-use Rattle.feed.specs.Sizes.{ship-sized, sized-as}
+use Rattle.chip_bytes.specs.TripLaws.{Sized}
+use Rattle.chip_bytes.specs.OneLaws.{Stood, not-yet, stands, part-not}
+use Rattle.feed.specs.SizeLaws.{ship-sized, sized-as}
 
 -- ── what a chip that could stand has ──
 abbrev still : Chip → Bool → Bool

@@ -18,8 +18,8 @@ use Rattle.chip.specs.declared.Chip.{Chip}
 use Rattle.chip_bytes.specs.declared.Kept.{Kept}
 use Rattle.chip_bytes.specs.Layout.{plainOf, chipBytes, switchAt, chipAt, formed, setupStands, couldStand}
 use Rattle.chip_bytes.specs.Layout.{none, keeps, noChip, keptAt, keptBytes}
-use Rattle.chip_bytes.specs.Listed.{zeros-forth}
-use Rattle.chip_bytes.specs.Trip.{Sized, back, back-fresh, back-formed, forth, sized}
+use Rattle.chip_bytes.specs.ListedLaws.{zeros-forth}
+use Rattle.chip_bytes.specs.TripLaws.{Sized, back, back-fresh, back-formed, forth, sized}
 
 -- no chip yet, or a chip that could stand
 pub data Stood : Chip → Bool → Type 0 where

@@ -10,7 +10,7 @@ use Rattle.writer.specs.BytesLaws.{bit-same}
 use Rattle.bus.specs.declared.Phase.{Phase}
 use Rattle.bus.specs.declared.Phase.the-variants.{Idle, Address, Pointing, Writing, Checking, Reading, Summing}
 use Rattle.chip_bytes.specs.Layout.{tagOf, firstOf, secondOf, phaseOf, phaseGood}
-use Rattle.chip_bytes.specs.Listed.{bit-small, bit-forth}
+use Rattle.chip_bytes.specs.ListedLaws.{bit-small, bit-forth}
 
 pub phase-back : (p : Phase) → phaseOf (tagOf p) (firstOf p) (secondOf p) ≡ p
 unfolding phaseOf

@@ -18,8 +18,8 @@ use Rattle.registers.specs.declared.Measured.{Measured}
 use Rattle.chip.specs.declared.Chip.{Chip}
 use Rattle.chip_bytes.specs.Layout.{phaseOf, phaseGood, listed, plainOf, switchesOf, wordsOf, chipBytes}
 use Rattle.chip_bytes.specs.Layout.{switchAt, chipFrom, chipAt, formed}
-use Rattle.chip_bytes.specs.Listed.{listed-is, listed-all, bit-small, bits-forth, zeros-forth}
-use Rattle.chip_bytes.specs.Phases.{phase-back, phase-good, Same, phase-forth}
+use Rattle.chip_bytes.specs.ListedLaws.{listed-is, listed-all, bit-small, bits-forth, zeros-forth}
+use Rattle.chip_bytes.specs.PhaseLaws.{phase-back, phase-good, Same, phase-forth}
 
 -- the arrays of a chip, as long as its type makes them
 pub record Sized (c : Chip) : Type 0 where
