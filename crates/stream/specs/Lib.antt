@@ -5,6 +5,8 @@ pub mod Counted
 pub mod Convert
 pub mod Forecast
 pub mod Asked
+pub mod Calm
 pub mod Prefix
+pub mod Pieces
 pub mod Standing
 pub mod Same
