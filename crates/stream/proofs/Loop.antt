@@ -17,14 +17,14 @@ use borrow.Author.Tests.{le-leb, lt-leb, leb-true, leb-false}
 use Rattle.records.specs.Record.{readOf, numberOf}
 use Rattle.records.specs.declared.Read.{Read}
 use Rattle.records.specs.declared.Read.the-variants.{Record, Refused, Cut}
-use Rattle.records.specs.Reading.{Placed, placed}
+use Rattle.records.specs.ReadingLaws.{Placed, placed}
 use Rattle.records.proofs.Read.{the-type as read-type}
 use types.Run.{OneOf}
 use denote.Enum.Declared.{tagOf}
 use mathlib.Core.Logic.{⊎-elim}
 use Rattle.chip.specs.declared.Chip.{Chip}
 use Rattle.chip.specs.declared.Stepped.{Stepped}
-use Rattle.chip.specs.Chip.{quiet}
+use Rattle.chip.specs.Chip.{numbered}
 use Rattle.chip.specs.Calm.{Calmed, ship-calm}
 use Rattle.stream.specs.Stream.{Turn, turn, turnOf, turned, runs, stands, stays, entries, entriesFrom, chipFrom, freshFrom, none, entryOf, entryBytes, bytesOf, noted, entered, passed, Ran, Played}
 use Rattle.stream.specs.Calm.{turn-calm}
@@ -269,28 +269,28 @@ module _ (o₀ : Bool) (c₀ : Chip) (s old out : List ℕ) (o : Bool) (chip : C
     room = ap length (rest-is s at) ∙ length-drop at s
 
     abbrev refused : ℕ → ℕ → Bool → Turn
-    refused k next b = turn (quiet k chip) o next b
+    refused k next b = turn (numbered k chip) o next b
 
     refused-is : (k next : ℕ) (b : Bool) → Refused k next ≡ readOf (chip .setup .part) here → eqb (chip .setup .part) 0 ≡ b → refused k next b ≡ turnOf o chip here
     unfolding turnOf
     refused-is k next b q e = ap (refused k next) (sym e) ∙ ap (turned o chip here) q
 
-    refused-goes : (k next : ℕ) → Refused k next ≡ readOf (chip .setup .part) here → new ≡ noted out n (entryOf (quiet k chip)) → (b : Bool) → eqb (chip .setup .part) 0 ≡ b
+    refused-goes : (k next : ℕ) → Refused k next ≡ readOf (chip .setup .part) here → new ≡ noted out n (entryOf (numbered k chip)) → (b : Bool) → eqb (chip .setup .part) 0 ≡ b
         → Going o₀ c₀ s old new o chip (at + cond b (length here) next) (n + 1)
     refused-goes k next q w true e =
         subst (λ (a : ℕ). Going o₀ c₀ s old new o chip a (n + 1)) (omega (arith, room)) (going-stop h (refused k next true) (refused-is k next true q e) new w refl)
     refused-goes k next q w false e = going-more h (refused k next false) (refused-is k next false q e) new w refl
 
-    cut-is : Cut ≡ readOf (chip .setup .part) here → turn (quiet 9 chip) o 0 true ≡ turnOf o chip here
+    cut-is : Cut ≡ readOf (chip .setup .part) here → turn (numbered 9 chip) o 0 true ≡ turnOf o chip here
     unfolding turnOf
     cut-is q = ap (turned o chip here) q
 
-    pub going-skip : (x : Read) → x ≡ readOf (chip .setup .part) here → Skipped x → new ≡ noted out n (entryOf (quiet (numberOf x) chip))
+    pub going-skip : (x : Read) → x ≡ readOf (chip .setup .part) here → Skipped x → new ≡ noted out n (entryOf (numbered (numberOf x) chip))
         → Going o₀ c₀ s old new o chip (at + passed (chip .setup .part) (length here) x) (n + 1)
     going-skip (Record e next) q k w = absurd k
     going-skip (Refused number next) q k w = refused-goes number next q w (eqb (chip .setup .part) 0) refl
     going-skip Cut q k w =
-        subst (λ (a : ℕ). Going o₀ c₀ s old new o chip a (n + 1)) (omega (arith, room)) (going-stop h (turn (quiet 9 chip) o 0 true) (cut-is q) new w refl)
+        subst (λ (a : ℕ). Going o₀ c₀ s old new o chip a (n + 1)) (omega (arith, room)) (going-stop h (turn (numbered 9 chip) o 0 true) (cut-is q) new w refl)
 
     -- it goes on, and stays within the bytes
     pub passes : (x : Read) → x ≡ readOf (chip .setup .part) here → Skipped x → (0 < passed (chip .setup .part) (length here) x) × (at + passed (chip .setup .part) (length here) x ≤ length s)

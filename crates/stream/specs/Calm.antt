@@ -15,13 +15,13 @@ use Rattle.records.specs.declared.Read.{Read}
 use Rattle.records.specs.declared.Read.the-variants.{Record, Refused, Cut}
 use Rattle.records.specs.Record.{readOf, countsBeside}
 use Rattle.chip.specs.declared.Chip.{Chip}
-use Rattle.chip.specs.Chip.{quiet}
+use Rattle.chip.specs.Chip.{numbered}
 use Rattle.chip.specs.Calm.{Calmed, ship-calm}
-use Rattle.chip.specs.Repeat.{calm-as}
+use Rattle.chip.specs.RepeatLaws.{calm-as}
 use Rattle.stream.specs.Stream.{wiredAs, acted, turned, turnOf, stands, chipFrom}
 
 -- after a record
-wires-calm : (o t : Bool) (u : SetupValues) (c : Chip) → Calmed c → Calmed (cond o (wiredAs (cond t (With u) NoRow) c) (quiet 2 c) .chip)
+wires-calm : (o t : Bool) (u : SetupValues) (c : Chip) → Calmed c → Calmed (cond o (wiredAs (cond t (With u) NoRow) c) (numbered 2 c) .chip)
 wires-calm true true u c k = ship-calm u
 wires-calm true false u c k = k
 wires-calm false t u c k = k

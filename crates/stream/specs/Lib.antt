@@ -1,12 +1,12 @@
 pub mod Stream
 pub mod Often
 pub mod Frames
-pub mod Counted
+pub mod CountedLaws
 pub mod Convert
 pub mod Forecast
-pub mod Asked
+pub mod AskedLaws
 pub mod Calm
-pub mod Prefix
+pub mod PrefixLaws
 pub mod Pieces
-pub mod Standing
-pub mod Same
+pub mod StandingLaws
+pub mod SameLaws

@@ -16,9 +16,9 @@ use Rattle.records.specs.Record.{readOf}
 use Rattle.chip.specs.declared.Chip.{Chip}
 use Rattle.stream.specs.declared.Entry.{Entry}
 use Rattle.stream.specs.Stream.{Turn, none, turned, turnOf, runs, stands, stays, entriesFrom, chipFrom, freshFrom, entries}
-use Rattle.stream.specs.Counted.{Framed, framed}
-use Rattle.stream.specs.Standing.{setup-turn}
-use Rattle.stream.specs.Prefix.{Whole-records, none-left, one-more, same-turn, turn-inside, turn-past}
+use Rattle.stream.specs.CountedLaws.{Framed, framed}
+use Rattle.stream.specs.StandingLaws.{setup-turn}
+use Rattle.stream.specs.PrefixLaws.{Whole-records, none-left, one-more, same-turn, turn-inside, turn-past}
 
 -- ── fuel: each record takes a byte at least, so more than there are bytes changes nothing ──
 abbrev Alike : ℕ → ℕ → Bool → Chip → List ℕ → Type 0

@@ -19,7 +19,7 @@ use Rattle.records.specs.Record.{readOf, numberOf, countsBeside}
 use Rattle.protection.specs.Judged.{tickJudged}
 use Rattle.chip.specs.declared.Chip.{Chip}
 use Rattle.chip.specs.declared.Stepped.{Stepped}
-use Rattle.chip.specs.Chip.{quiet, withBus, withRuns, happenedBy}
+use Rattle.chip.specs.Chip.{numbered, withBus, withRuns, happenedBy}
 use Rattle.chip.specs.Parts.{landed}
 use Rattle.chip.specs.Calm.{Calmed, calm-bus}
 use Rattle.stream.specs.Often.{often, workOf, Sorted, sorted}
@@ -118,10 +118,10 @@ module _ (p : tie.After-note Inv-loop μ-loop Inv-stream μ-stream) where
   no-record : Skipped said
   no-record = skipped said (p .before .before .before .before .before .match .keys2)
 
-  number-noted : p .note .last .0 ≡ noted (head not-done .loop .out) (n not-done) (entryOf (quiet (numberOf said) (chip not-done)))
+  number-noted : p .note .last .0 ≡ noted (head not-done .loop .out) (n not-done) (entryOf (numbered (numberOf said) (chip not-done)))
   number-noted =
       p .note .ensures ∙ ap (noted (head not-done .loop .out) (n not-done))
-      (entry-is (quiet (numberOf said) (chip not-done)) (p .before .entry-of .ensures) (p .before .before .unanswered .ensures ∙ ap unanswered (p .before .before .before .number-of .ensures)) (head not-done .loop .inv .1))
+      (entry-is (numbered (numberOf said) (chip not-done)) (p .before .entry-of .ensures) (p .before .before .unanswered .ensures ∙ ap unanswered (p .before .before .before .number-of .ensures)) (head not-done .loop .inv .1))
 
   passing : (0 < passed (chip not-done .setup .part) (length (rest not-done)) said) × (at not-done + passed (chip not-done .setup .part) (length (rest not-done)) said ≤ length (stream (head not-done)))
   passing =
@@ -175,8 +175,8 @@ module _ (k : tie.After-known-told Inv-loop μ-loop Inv-stream μ-stream) where
   shut : (s : Stepped) (f : Event) → event ≡ f → often f ≡ true → s .number ≡ 0 → s ≡ acted (fresh was) event beside (chip was) → turn s false next false ≡ turnOf (fresh was) (chip was) (rest was)
   shut s f q o z h = ap (λ (t : Bool). turn s t next false) (closes (fresh was) (chip was) (rest was) event f next s read q o z) ∙ did s h
 
-  kinds : (v : Work) → v ≡ workOf (chip was .awake) event → Sorted (chip was .awake) event v
-  kinds v h = subst (Sorted (chip was .awake) event) (sym h) (sorted (chip was .awake) event)
+  kinds : (v : Work) → v ≡ workOf (chip was .normal) event → Sorted (chip was .normal) event v
+  kinds v h = subst (Sorted (chip was .normal) event) (sym h) (sorted (chip was .normal) event)
 
 counted-requires : tie.Need-counted-requires Inv-loop μ-loop Inv-stream μ-stream
 counted-requires c κs = read (c .before .before .before .before)
@@ -215,7 +215,7 @@ module _ (c : tie.At-match2-came Inv-loop μ-loop Inv-stream μ-stream) where
   calm = going (head (was told)) .calm
 
   -- what the event is to the loop
-  sort : (v : Work) → c .before .work-of .result ≡ v → Sorted (k .awake) (event told) v
+  sort : (v : Work) → c .before .work-of .result ≡ v → Sorted (k .normal) (event told) v
   sort v e = kinds told v (sym e ∙ c .before .work-of .ensures)
 
   -- an answer that is not given
