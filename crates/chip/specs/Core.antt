@@ -14,7 +14,7 @@ use Rattle.chip.specs.declared.Chip.{Chip}
 use Rattle.chip.specs.Chip.{inShip, next}
 
 pub record Core : Type 0 where
-  pub awake : Bool
+  pub normal : Bool
   pub line : Line
   pub settings : Settings
 

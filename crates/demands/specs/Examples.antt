@@ -10,7 +10,7 @@ use Rattle.events.specs.declared.Setup.{Setup}
 use Rattle.events.specs.declared.BusEvent.the-variants.{Start, Stop, Out, In}
 use Rattle.events.specs.Setup.{groups, inputs}
 use Rattle.events.specs.Event.{Event, Por, Boot, Pin, Xready, Scan, Sense, OnBus, Level, fits}
-use Rattle.bus.specs.Bus.{addressed, fed, checked, outed, taken, given, owing, afterData, afterSum, keeps}
+use Rattle.bus.specs.Bus.{addressed, fed, checked, outed, taken, byteGiven, owing, afterData, afterSum, keeps}
 use Rattle.settings.specs.Write.{settingsWith}
 use Rattle.settings.specs.Read.{settingsByte}
 use Rattle.registers.specs.State.{alert}
@@ -194,7 +194,7 @@ guarded-writes = (refl, refl, refl)
 -- ── a pair's low byte is of the value whose high byte was given: 1F 10, though 0 is stored between ──
 pub pairs : entries (ran (inShip plain) (Boot ∷ cell 0x1F10 ∷ OnBus Start ∷ out 0x10 ∷ out 0x0C ∷ OnBus Start ∷ out 0x11 ∷ [])) (read ∷ cell 0 ∷ read ∷ [])
     ≡ gave 0x1F ∷ quietly 0 ∷ gave 0x10 ∷ []
-unfolding stepped happened fits outed taken given owing readAt controlByte cellbalByte half wordAt fixedByte settingsByte groups inputs byteOn rule over under addressed fed checked afterData afterSum keeps storedAt
+unfolding stepped happened fits outed taken byteGiven owing readAt controlByte cellbalByte half wordAt fixedByte settingsByte groups inputs byteOn rule over under addressed fed checked afterData afterSum keeps storedAt
 pairs = refl
 
 -- ── the byte that ships is acknowledged; then the bus is idle and XREADY is refused with 4 ──

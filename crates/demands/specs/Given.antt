@@ -13,7 +13,7 @@ use Rattle.bus.specs.declared.Line.{Line}
 use Rattle.bus.specs.declared.Bus.{Bus}
 use Rattle.bus.specs.declared.Outed.{Outed}
 use Rattle.bus.specs.declared.Phase.the-variants.{Address, Reading}
-use Rattle.bus.specs.Bus.{lineOf, outed, addressed, taken, given, owing, afterData, keeps, goes}
+use Rattle.bus.specs.Bus.{lineOf, outed, addressed, taken, byteGiven, owing, afterData, keeps, goes}
 use Rattle.chip.specs.declared.Chip.{Chip}
 use Rattle.chip.specs.declared.Stepped.{Stepped}
 use Rattle.chip.specs.Chip.{lineMoved, reads, onBus, watched, stepped, next}
@@ -27,13 +27,13 @@ reading s c = lineMoved (lineOf (Reading s false) (c .bus .line .pointer)) c
 
 -- IN gives the register at the pointer ..
 pub gives : (c : Chip) (s : ℕ) (nack : Bool) → c .normal ≡ true → stepped (OnBus (In nack)) (reading s c) .byte ≡ reads c (c .bus .line .pointer)
-unfolding fits given
+unfolding fits byteGiven
 gives c s nack on = ap (λ t. t .byte) (normal-is (OnBus (In nack)) (reading s c) refl on)
 
 -- .. and, CRC on, its CRC after it, whatever the register holds by then
 pub gives-its-crc : (c : Chip) (s : ℕ) (nack : Bool) → c .setup .crc ≡ true → c .normal ≡ true
     → stepped (OnBus (In nack)) (next (OnBus (In false)) (reading s c)) .byte ≡ byteOn s (reads c (c .bus .line .pointer))
-unfolding fits taken given owing afterData keeps
+unfolding fits taken byteGiven owing afterData keeps
 gives-its-crc c s nack k on =
     ap (λ t. stepped (OnBus (In nack)) (t .chip) .byte) (normal-is (OnBus (In false)) (reading s c) refl on)
     ∙ ap (λ t. t .byte) (normal-is (OnBus (In nack)) (watched (onBus (In false) (reading s c) .chip)) refl on)

@@ -11,7 +11,7 @@ use Rattle.events.specs.Event.{Event, Por, Boot, Pin, Xready, Scan, Temp, Count
 use Rattle.bus.specs.declared.Line.{Line}
 use Rattle.bus.specs.declared.Outed.{Outed}
 use Rattle.bus.specs.declared.Phase.the-variants.{Idle, Address, Writing, Checking}
-use Rattle.bus.specs.Bus.{checked, outed, taken, given, owing, refuses, stores}
+use Rattle.bus.specs.Bus.{checked, outed, taken, byteGiven, owing, refuses, stores}
 use Rattle.chip.specs.declared.Chip.{Chip}
 use Rattle.chip.specs.declared.Stepped.{Stepped}
 use Rattle.chip.specs.Chip.{numbered, answered, inShip, sent, onBus, settled, stepped, next}
@@ -93,7 +93,7 @@ module _ (es : List Event) (ih : Claim es) where
   -- its CRC was refused: the full stream's bus is idle, the remaining stream's is writing
   lost-step : (e : Event) (s : ℕ) (base : Chip) → Calmed base → base .normal ≡ true → View e
       → played (phased (Writing s) base) (remains Lost (phased Idle base) (e ∷ es)) ≡ remained Lost (phased Idle base) (e ∷ es)
-  unfolding played remains remained outed taken owing given
+  unfolding played remains remained outed taken owing byteGiven
   lost-step e s base m a (chips _ h) =
       rw h (subst₂ (λ x y. Stays (on Lost Chips x) e x y) (sym (apart Idle e base h a .0)) (sym (apart (Writing s) e base h a .0))
       (lost-on (λ w. Stays w e (mapped Idle (stepped e base)) (mapped (Writing s) (stepped e base))) (next e base .normal) (apart Idle e base h a .1)
@@ -133,7 +133,7 @@ module _ (es : List Event) (ih : Claim es) where
 
   open-step : (e : Event) (v t s : ℕ) (base : Chip) → Calmed base → base .normal ≡ true → spoiled (phased (Checking v t) base) (e ∷ es) ≡ true → View e
       → played (phased (Writing s) base) (remains Open (phased (Checking v t) base) (e ∷ es)) ≡ remained Open (phased (Checking v t) base) (e ∷ es)
-  unfolding played remains remained taken owing given
+  unfolding played remains remained taken owing byteGiven
   open-step e v t s base m a h (chips _ k) =
       let p : stepped e (phased (Checking v t) base) ≡ mapped (Checking v t) (stepped e base) = apart (Checking v t) e base k a .0 in
       let w : next e base .normal ≡ true = apart Idle e base k a .1 in

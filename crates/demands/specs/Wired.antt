@@ -19,7 +19,7 @@ use Rattle.bus.specs.declared.Line.{Line}
 use Rattle.bus.specs.declared.Store.{Store}
 use Rattle.bus.specs.declared.Store.the-variants.{Nothing, At}
 use Rattle.bus.specs.declared.Outed.{Outed}
-use Rattle.bus.specs.Bus.{outIn, outed, addressed, fed, inLine, taken, owing, given, gives, grown}
+use Rattle.bus.specs.Bus.{outIn, outed, addressed, fed, inLine, taken, owing, byteGiven, gives, grown}
 use Rattle.settings.specs.Write.{ships}
 use Rattle.registers.specs.declared.Registers.{Registers}
 use Rattle.registers.specs.Write.{cellbalWith}
@@ -78,7 +78,7 @@ module _ (n : ℕ) where
       ap (λ (o : Outed). sent o (celled n c)) (out-cells (c .setup) (c .bus .line .phase) (c .bus .line .pointer) b)
       ∙ (λ i. record { chip = stored-cells (outed (c .setup) (c .bus .line) b .line) (outed (c .setup) (c .bus .line) b .store) c i; number = 0; flag = true; byte = outed (c .setup) (c .bus .line) b .byte })
   bus-cells (In nack) c =
-      ap (λ (l : Line). handed (gives l (owing (reads c (c .bus .line .pointer)) (reads c (grown (c .bus .line .pointer))) (c .bus)) (given (reads c (c .bus .line .pointer)) (c .bus))) (celled n c))
+      ap (λ (l : Line). handed (gives l (owing (reads c (c .bus .line .pointer)) (reads c (grown (c .bus .line .pointer))) (c .bus)) (byteGiven (reads c (c .bus .line .pointer)) (c .bus))) (celled n c))
       (in-cells (c .setup) (c .bus .line) (c .bus .line .phase) nack)
 
   -- ── each event ──

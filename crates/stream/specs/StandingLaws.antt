@@ -153,9 +153,9 @@ numbered-checked Bad = λ z. omega (arith, z)
 two : _≢_ {A = ℕ} 2 0
 two z = omega (arith, z)
 
-numbered : (kind : ℕ) (b : List ℕ) → Numbered (payloadOf kind 0 b)
+payload-numbered : (kind : ℕ) (b : List ℕ) → Numbered (payloadOf kind 0 b)
 unfolding payloadOf setupIn
-numbered kind b =
+payload-numbered kind b =
     cond-by Numbered (eqb kind SETUP) _ (Unfit 2)
     (λ k. cond-by Numbered (eqb (length b) 7) _ (Unfit 2) (λ l. numbered-checked (checkedOf (getD b 0 0) (getD b 1 0) (getD b 2 0) (getD b 3 0) (getD b 4 0) (le16 b 5))) two)
     two
@@ -176,7 +176,7 @@ why r = by (ltb (length r) 4) (ltb (length r - 4) (le16 r 0))
     by : (t u : Bool) → Said-why (cond t Cut (cond u Cut (asRead (4 + le16 r 0) (payloadOf (le16 r 2) 0 (take (le16 r 0) (drop 4 r))))))
     by true u = tt
     by false true = tt
-    by false false = why-as (4 + le16 r 0) (payloadOf (le16 r 2) 0 (take (le16 r 0) (drop 4 r))) (numbered (le16 r 2) (take (le16 r 0) (drop 4 r)))
+    by false false = why-as (4 + le16 r 0) (payloadOf (le16 r 2) 0 (take (le16 r 0) (drop 4 r))) (payload-numbered (le16 r 2) (take (le16 r 0) (drop 4 r)))
 
 -- ── number 0 of the first record is a SETUP, and a chip ──
 pub record Made (s : List ℕ) : Type 0 where
