@@ -27,7 +27,7 @@ use Rattle.chip.specs.declared.Stepped.{Stepped}
 use Rattle.chip.specs.Chip.{numbered}
 use Rattle.chip.specs.Calm.{Calmed, ship-calm}
 use Rattle.stream.specs.Stream.{Turn, turn, turnOf, turned, runs, stands, stays, entries, entriesFrom, chipFrom, freshFrom, none, entryOf, entryBytes, bytesOf, noted, entered, passed, Ran, Played}
-use Rattle.stream.specs.Calm.{turn-calm}
+use Rattle.stream.specs.CalmLaws.{turn-calm}
 use Rattle.stream.specs.declared.Left.{Left}
 use Rattle.stream.specs.declared.Entry.{Entry}
 

@@ -5,7 +5,7 @@ pub mod CountedLaws
 pub mod Convert
 pub mod Forecast
 pub mod AskedLaws
-pub mod Calm
+pub mod CalmLaws
 pub mod PrefixLaws
 pub mod Pieces
 pub mod StandingLaws
