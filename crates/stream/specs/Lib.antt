@@ -5,6 +5,8 @@ pub mod CountedLaws
 pub mod Convert
 pub mod Forecast
 pub mod AskedLaws
+pub mod CalmLaws
 pub mod PrefixLaws
+pub mod Pieces
 pub mod StandingLaws
 pub mod SameLaws
