@@ -156,7 +156,7 @@ uint8_t toralinge_reading(const uint8_t *stream, size_t length, double *reading,
 
 /*
  * Plays a whole stream on a new chip and proposes which cells to bleed by the counts then in its cell
- * registers. (In libasks.a.)
+ * registers. (In libservices_stream.a.)
  *
  * margin          1 to 16,383 counts
  * cellbal, room   where the three CELLBAL bytes go, and how many bytes may stand there
@@ -180,7 +180,7 @@ uint8_t toralinge_bleed(const uint8_t *stream, size_t length, uint32_t margin, u
 
 /*
  * Plays a whole stream on a new chip and replies to a Smart Battery command for the chip as it then stands.
- * (In libasks.a.)
+ * (In libservices_stream.a.)
  *
  * command         0x08 Temperature(), tenths of a kelvin: (h + 546,300) / 200 rounded down, h the die value of
  *                 TS1 as toralinge_die_temperature gives it; 0x09 Voltage(), mV: the total of the connected
@@ -207,7 +207,7 @@ uint8_t toralinge_reply(const uint8_t *stream, size_t length, uint8_t command, u
                         size_t room);
 
 /*
- * Plays a whole stream on a new chip and gives the totals of the scans that it stored. (In libtally.a.)
+ * Plays a whole stream on a new chip and gives the totals of the scans that it stored. (In libseason_stream.a.)
  *
  * rows, room      where nine numbers for each cell of the pack go, and how many int64_t may stand there; 135
  *                 are always enough
@@ -270,7 +270,7 @@ int64_t toralinge_cc_hundredths(uint16_t reading);
 uint8_t toralinge_crc8(uint8_t start, const uint8_t *bytes, size_t length);
 
 /*
- * Turns a command list of i2ctransfer into records that toralinge_play takes. (In liblists.a.)
+ * Turns a command list of i2ctransfer into records that toralinge_play takes. (In libi2c_lists.a.)
  *
  * line, length    one list, without the end of its line: messages wN@ADDR followed by N bytes, and
  *                 rN@ADDR; N from 1 to 64 in decimal without leading zeros, addresses and bytes as 0x

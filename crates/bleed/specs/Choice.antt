@@ -5,7 +5,7 @@ use mathlib.Core.List.{List}
 use Prim.Native.Nat.{ℕ, zero, suc, _+_, _*_}
 use lib.Dec.{eqb, ltb}
 use lib.ListN.{getD}
-use Rattle.settings.specs.Bit.{bit, weighed}
+use Rattle.bits.specs.Bit.{bit, weighed}
 use Rattle.bleed.specs.declared.Choice.{Choice}
 
 -- ── a group: the five inputs from a place on; bit 0 of its byte is the first of them ──

@@ -8,10 +8,10 @@ use lib.Dec.{leb, ltb}
 use native.Mathlib.Omega.{arith}
 use lib.ListN.{length, getD}
 use borrow.Author.Tests.{ltb-true}
-use Rattle.settings.specs.Bit.{bit}
+use Rattle.bits.specs.Bit.{bit}
 use Rattle.bleed.specs.declared.Choice.{Choice}
 use Rattle.bleed.specs.Choice.{chosen}
-use Rattle.bleed.specs.Best.{left-of, right-of}
+use Rattle.bleed.specs.BestLaws.{left-of, right-of}
 
 -- the weight of an input in a number of fifteen bits, input 1 lowest
 abbrev pub weights : List ℕ

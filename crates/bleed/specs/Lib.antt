@@ -1,4 +1,4 @@
 pub mod Choice
-pub mod Best
+pub mod BestLaws
 pub mod Excess
-pub mod Readings
+pub mod ReadingsLaws

@@ -1,7 +1,7 @@
 // Which cells to bleed: the CELLBAL bytes with the largest total excess over the lowest cell, no two neighbours of a group together.
 ghost use mathlib.Core.Path.{_≡_};
 ghost use Prim.Native.Nat.{_+_, _≤_, _<_};
-ghost use Rattle.settings.specs.Bit.{bit, weighed};
+ghost use Rattle.bits.specs.Bit.{bit, weighed};
 ghost use Rattle.bleed.specs.Excess.{linkedAt, lowerAt, lowest as lowestSpec, excessAt, excessesOver, proposed};
 ghost use Rattle.bleed.specs.Choice.{excessIn, mayIn, betterIn, bestIn, chosen};
 

@@ -31,8 +31,8 @@ abbrev pub grown : ℕ → ℕ
 grown a = (a + 1) % 256
 
 -- on entering SHIP
-abbrev pub quietBus : Bus
-quietBus = record { line = lineOf Idle 0; owed = record { sum = 0; low = 0 } }
+abbrev pub idleBus : Bus
+idleBus = record { line = lineOf Idle 0; owed = record { sum = 0; low = 0 } }
 
 -- ── START begins afresh, STOP ends; the pointer outlives both ──
 abbrev pub started : Line → Line
@@ -111,8 +111,8 @@ inByte here o (Checking v s) = 0xFF
 inByte here o (Reading s k) = nextByte k (o .low) here
 inByte here o (Summing k) = o .sum
 
-unfoldable pub given : ℕ → Bus → ℕ
-given here b = inByte here (b .owed) (b .line .phase)
+unfoldable pub byteGiven : ℕ → Bus → ℕ
+byteGiven here b = inByte here (b .owed) (b .line .phase)
 
 -- when the high byte of a pair is given, its low byte is kept
 unfoldable pub keeps : Owed → ℕ → Bool → ℕ → ℕ → ℕ → Owed
@@ -147,4 +147,4 @@ abbrev pub gives : Line → Owed → ℕ → Taken
 gives l o byte = record { bus = record { line = l; owed = o }; byte = byte }
 
 abbrev pub takes : Setup → ℕ → ℕ → Bool → Bus → Taken
-takes u here low nack b = gives (taken u (b .line) nack) (owing here low b) (given here b)
+takes u here low nack b = gives (taken u (b .line) nack) (owing here low b) (byteGiven here b)

@@ -8,7 +8,7 @@ use native.Mathlib.Omega.{arith}
 use lib.Dec.{eqb}
 use borrow.Author.Tests.{eq-eqb, ne-eqb, eqb-true}
 use Rattle.crc8.specs.Crc.{crc, byteOn, crcOn}
-use Rattle.crc8.specs.Division.{crc-is}
+use Rattle.crc8.specs.DivisionLaws.{crc-is}
 use Rattle.events.specs.declared.Setup.{Setup}
 use Rattle.bus.specs.declared.Phase.{Phase}
 use Rattle.bus.specs.declared.Phase.the-variants.{Idle, Address, Pointing, Writing, Checking, Reading, Summing}
@@ -20,7 +20,7 @@ use Rattle.bus.specs.declared.Store.the-variants.{Nothing, At}
 use Rattle.bus.specs.declared.Outed.{Outed}
 use Rattle.bus.specs.declared.Want.{Want}
 use Rattle.bus.specs.declared.Want.the-variants.{Register, Nothing as NoRegister}
-use Rattle.bus.specs.Bus.{lineOf, grown, started, goes, refuses, stores, addressed, fed, checked, outIn, outed, isHigh, afterData, afterSum, nextByte, inLine, taken, inByte, given, keeps, inOwed, owing, wantedIn, wanted, takes}
+use Rattle.bus.specs.Bus.{lineOf, grown, started, goes, refuses, stores, addressed, fed, checked, outIn, outed, isHigh, afterData, afterSum, nextByte, inLine, taken, inByte, byteGiven, keeps, inOwed, owing, wantedIn, wanted, takes}
 
 -- ── the stores of bytes that the host sends one after the other ──
 abbrev pub sends : Setup → Line → List ℕ → List Store
@@ -100,7 +100,7 @@ reading s k a o = record { line = lineOf (Reading s k) a; owed = o }
 -- IN that asks for no register goes by what is owed alone, whatever it is told
 pub told-nothing : (u : Setup) (here low : ℕ) (nack : Bool) (p : Phase) (a : ℕ) (o : Owed) → wantedIn p a ≡ NoRegister
     → takes u here low nack (record { line = lineOf p a; owed = o }) ≡ takes u 0 0 nack (record { line = lineOf p a; owed = o })
-unfolding taken given owing
+unfolding taken byteGiven owing
 told-nothing u here low nack Idle a o e = refl
 told-nothing u here low nack Address a o e = refl
 told-nothing u here low nack (Pointing s) a o e = refl
@@ -130,19 +130,19 @@ wants-at b a e = wants-in (b .line .phase) (b .line .pointer) a e
 -- CRC off: the byte after a pair's high byte is the low byte of the same value, whatever the register holds by then
 pub pair-plain : (u : Setup) (s a here low here′ low′ : ℕ) (k n : Bool) (o : Owed) → u .crc ≡ false → isHigh a ≡ true
     → takes u here′ low′ n (takes u here low false (reading s k a o) .bus) .byte ≡ low
-unfolding taken given owing afterData keeps
+unfolding taken byteGiven owing afterData keeps
 pair-plain u s a here low here′ low′ k n o off high = simp (off, high)
 
 -- CRC on: so is the byte after the high byte's CRC
 pub pair-checked : (u : Setup) (s a here low h₁ l₁ h₂ l₂ : ℕ) (k n : Bool) (o : Owed) → u .crc ≡ true → isHigh a ≡ true
     → takes u h₂ l₂ n (takes u h₁ l₁ false (takes u here low false (reading s k a o) .bus) .bus) .byte ≡ low
-unfolding taken given owing afterData afterSum keeps
+unfolding taken byteGiven owing afterData afterSum keeps
 pair-checked u s a here low h₁ l₁ h₂ l₂ k n o on high = simp (on, high)
 
 -- CRC on: every data byte given and acknowledged is followed by its CRC, on the CRC that the read began with
 pub followed : (u : Setup) (s a here low h₁ l₁ : ℕ) (k n : Bool) (o : Owed) → u .crc ≡ true
     → takes u h₁ l₁ n (takes u here low false (reading s k a o) .bus) .byte ≡ byteOn s (takes u here low false (reading s k a o) .byte)
-unfolding taken given owing afterData keeps
+unfolding taken byteGiven owing afterData keeps
 followed u s a here low h₁ l₁ k n o on = simp on
 
 -- which is the read address byte's for the first data byte since START ..

@@ -1,6 +1,6 @@
 // The bus as a value: what START, OUT, IN and STOP do to it. It knows no register.
 ghost use mathlib.Core.Path.{_≡_};
-ghost use Rattle.bus.specs.Bus.{lineOf, quietBus, grown as grownSpec, goes as goesSpec, refuses as refusesSpec, stores as storesSpec, isHigh, started, stopped, addressed, fed, checked, outed, afterData, afterSum, nextByte, keeps, wanted, takes, gives as givesSpec};
+ghost use Rattle.bus.specs.Bus.{lineOf, idleBus, grown as grownSpec, goes as goesSpec, refuses as refusesSpec, stores as storesSpec, isHigh, started, stopped, addressed, fed, checked, outed, afterData, afterSum, nextByte, keeps, wanted, takes, gives as givesSpec};
 use crc8::crc_byte;
 use events::Setup;
 
@@ -288,8 +288,8 @@ fn gives(line: Line, owed: Owed, byte: u8) -> Taken
 }
 
 // The bus on entering SHIP.
-pub fn quiet() -> Bus
-    ensures { λ r. ⌜ r ≡ quietBus ⌝ }
+pub fn idle() -> Bus
+    ensures { λ r. ⌜ r ≡ idleBus ⌝ }
 {
     let phase = Phase::Idle;
     let line = Line { phase, pointer: 0 };

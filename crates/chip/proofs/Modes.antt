@@ -10,41 +10,41 @@ use Rattle.events.specs.declared.Event.{Event as Coded}
 use Rattle.events.specs.Event.{Event, Por, Scan, Temp, OnBus, within, countMost, fits, eventOf}
 use Rattle.chip.specs.declared.Chip.{Chip}
 use Rattle.chip.specs.declared.Stepped.{Stepped}
-use Rattle.chip.specs.Chip.{quiet, inShip, settled, normally, asleep, happened, stepped, steppedAs}
+use Rattle.chip.specs.Chip.{numbered, inShip, settled, normally, asleep, happened, stepped, steppedAs}
 
-pub in-normal : {s : Stepped} (e : Event) (c : Chip) → c .awake ≡ true → s ≡ settled (normally e c) → s ≡ happened e c
+pub in-normal : {s : Stepped} (e : Event) (c : Chip) → c .normal ≡ true → s ≡ settled (normally e c) → s ≡ happened e c
 unfolding happened
-in-normal e c a h = h ∙ sym (by (c .awake) a)
+in-normal e c a h = h ∙ sym (by (c .normal) a)
   where
     by : (b : Bool) → b ≡ true → cond b (settled (normally e c)) (asleep e c) ≡ settled (normally e c)
     by true q = refl
     by false q = cc
 
-pub in-sleep : {s : Stepped} (e : Event) (c : Chip) → c .awake ≡ false → s ≡ asleep e c → s ≡ happened e c
+pub in-sleep : {s : Stepped} (e : Event) (c : Chip) → c .normal ≡ false → s ≡ asleep e c → s ≡ happened e c
 unfolding happened
-in-sleep e c a h = h ∙ sym (by (c .awake) a)
+in-sleep e c a h = h ∙ sym (by (c .normal) a)
   where
     by : (b : Bool) → b ≡ false → cond b (settled (normally e c)) (asleep e c) ≡ asleep e c
     by true q = cc
     by false q = refl
 
 -- POR does the same in both
-pub in-either : {s : Stepped} (c : Chip) → s ≡ quiet 0 (inShip (c .setup)) → s ≡ happened Por c
+pub in-either : {s : Stepped} (c : Chip) → s ≡ numbered 0 (inShip (c .setup)) → s ≡ happened Por c
 unfolding happened
-in-either c h = h ∙ sym (by (c .awake))
+in-either c h = h ∙ sym (by (c .normal))
   where
-    by : (b : Bool) → cond b (settled (normally Por c)) (asleep Por c) ≡ quiet 0 (inShip (c .setup))
+    by : (b : Bool) → cond b (settled (normally Por c)) (asleep Por c) ≡ numbered 0 (inShip (c .setup))
     by true = refl
     by false = refl
 
 -- ── 3 before 4 ──
 pub in-range : {s : Stepped} (e : Event) (c : Chip) → fits e ≡ true → s ≡ happened e c → s ≡ stepped e c
 unfolding stepped
-in-range e c f h = h ∙ ap (λ (t : Bool). cond t (happened e c) (quiet 3 c)) (sym f)
+in-range e c f h = h ∙ ap (λ (t : Bool). cond t (happened e c) (numbered 3 c)) (sym f)
 
-pub out-of-range : {s : Stepped} (e : Event) (c : Chip) → fits e ≡ false → s ≡ quiet 3 c → s ≡ stepped e c
+pub out-of-range : {s : Stepped} (e : Event) (c : Chip) → fits e ≡ false → s ≡ numbered 3 c → s ≡ stepped e c
 unfolding stepped
-out-of-range e c f h = h ∙ ap (λ (t : Bool). cond t (happened e c) (quiet 3 c)) (sym f)
+out-of-range e c f h = h ∙ ap (λ (t : Bool). cond t (happened e c) (numbered 3 c)) (sym f)
 
 -- a look at as many counts as the event has
 pub scan-fits : {r b : Bool} (xs : List ℕ) {n m : ℕ} → r ≡ within countMost (take n xs) → n ≡ m → r ≡ b → fits (Scan (take m xs)) ≡ b

@@ -12,13 +12,13 @@ use Rattle.bus.specs.declared.Phase.{Phase}
 use Rattle.bus.specs.declared.Phase.the-variants.{Idle, Address, Pointing, Writing, Checking, Reading, Summing}
 use Rattle.bus.specs.declared.Taken.{Taken}
 use Rattle.bus.specs.declared.Want.the-variants.{Register, Nothing as NoRegister}
-use Rattle.bus.specs.Bus.{isHigh, grown, keeps, inOwed, owing, taken, given as givenOf, gives, wanted, takes}
+use Rattle.bus.specs.Bus.{isHigh, grown, keeps, inOwed, owing, taken, takenBy as givenOf, gives, wanted, takes}
 use Rattle.bus.specs.Laws.{wants-nothing, wants-at}
 use Rattle.registers.specs.declared.Pair.{Pair}
 use Rattle.registers.specs.Read.{readAt, pairAt}
 use Rattle.registers.specs.Laws.{pair-low}
 use Rattle.chip.specs.declared.Chip.{Chip}
-use Rattle.chip.specs.Chip.{reads, given}
+use Rattle.chip.specs.Chip.{reads, takenBy}
 
 both : (a b : Bool) → (a && b) ≡ true → (a ≡ true) × (b ≡ true)
 both true b h = (refl, h)
@@ -55,7 +55,7 @@ high-low c a h =
     pair-low (c .setup) (c .registers) a e f g ∙ ap (reads c) n
 
 pub told-pair : {t : Taken} (c : Chip) (nack : Bool) (a : ℕ) (p : Pair) → wanted (c .bus) ≡ Register a → p ≡ pairAt (c .setup) (c .registers) a
-    → t ≡ takes (c .setup) (p .here) (p .low) nack (c .bus) → t ≡ given nack c
+    → t ≡ takes (c .setup) (p .here) (p .low) nack (c .bus) → t ≡ takenBy nack c
 unfolding pairAt
 told-pair c nack a p w hp h =
     let at : a ≡ c .bus .line .pointer = sym (wants-at (c .bus) a w) in
@@ -63,5 +63,5 @@ told-pair c nack a p w hp h =
     h ∙ ap (λ (p : Pair). takes (c .setup) (p .here) (p .low) nack (c .bus)) q
     ∙ takes-low (c .setup) _ _ _ nack (c .bus) (λ (k : isHigh (c .bus .line .pointer) ≡ true). high-low c (c .bus .line .pointer) k)
 
-pub told-none : {t : Taken} (c : Chip) (nack : Bool) → wanted (c .bus) ≡ NoRegister → t ≡ takes (c .setup) 0 0 nack (c .bus) → t ≡ given nack c
+pub told-none : {t : Taken} (c : Chip) (nack : Bool) → wanted (c .bus) ≡ NoRegister → t ≡ takes (c .setup) 0 0 nack (c .bus) → t ≡ takenBy nack c
 told-none c nack w h = h ∙ sym (wants-nothing (c .setup) _ _ nack (c .bus) w)

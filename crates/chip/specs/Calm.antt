@@ -10,14 +10,14 @@ use Rattle.events.specs.Event.{Event, Scan}
 use Rattle.bus.specs.declared.Bus.{Bus}
 use Rattle.registers.specs.declared.Registers.{Registers}
 use Rattle.registers.specs.Judging.{scanned}
-use Rattle.registers.specs.Held.{Calm, held-calm, reset-calm, calm-held, raised-calm}
+use Rattle.registers.specs.LevelLaws.{Calm, level-calm, reset-calm, calm-level, raised-calm}
 use Rattle.protection.specs.declared.Runs.{Runs}
 use Rattle.protection.specs.Rule.{risen}
 use Rattle.chip.specs.declared.Chip.{Chip}
 use Rattle.chip.specs.declared.Stepped.{Stepped}
 use Rattle.chip.specs.Chip.{withBus, withRegisters, withRuns, inShip, watched, settled, normally, next}
 use Rattle.chip.specs.Parts.{raisedBy}
-use Rattle.chip.specs.Moves.{next-by, asleep-by}
+use Rattle.chip.specs.MovesLaws.{next-by, asleep-by}
 
 -- the level 1 and SYS_STAT 0 do not stand together
 abbrev pub Calmed : Chip → Type 0
@@ -29,11 +29,11 @@ ship-calm u = reset-calm
 -- any event leaves a chip so that it found so
 pub calm-next : (e : Event) (c : Chip) → Calmed c → Calmed (next e c)
 calm-next e c k =
-    next-by Calmed e c (λ f a. held-calm (normally e c .chip .registers)) (λ f a. asleep-by Calmed e c (ship-calm (c .setup)) (λ w. held-calm (c .registers)) k) (λ f. k)
+    next-by Calmed e c (λ f a. level-calm (normally e c .chip .registers)) (λ f a. asleep-by Calmed e c (ship-calm (c .setup)) (λ w. level-calm (c .registers)) k) (λ f. k)
 
 -- there the level does nothing ..
 pub calm-watched : (c : Chip) → Calmed c → watched c ≡ c
-calm-watched c k = ap (λ (r : Registers). withRegisters r c) (calm-held (c .registers) k)
+calm-watched c k = ap (λ (r : Registers). withRegisters r c) (calm-level (c .registers) k)
 
 pub settles : (s : Stepped) → Calmed (s .chip) → settled s ≡ s
 settles s k = ap (λ (d : Chip). record { chip = d; number = s .number; flag = s .flag; byte = s .byte }) (calm-watched (s .chip) k)

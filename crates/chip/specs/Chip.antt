@@ -17,15 +17,15 @@ use Rattle.bus.specs.declared.Store.{Store}
 use Rattle.bus.specs.declared.Outed.{Outed}
 use Rattle.bus.specs.declared.Taken.{Taken}
 use Rattle.bus.specs.declared.Store.the-variants.{Nothing, At}
-use Rattle.bus.specs.Bus.{withLine, quietBus, grown, started, stopped, outed, takes}
+use Rattle.bus.specs.Bus.{withLine, idleBus, grown, started, stopped, outed, takes}
 use Rattle.settings.specs.declared.Settings.{Settings}
 use Rattle.settings.specs.Write.{ships}
 use Rattle.registers.specs.declared.Registers.{Registers}
-use Rattle.registers.specs.State.{reset, withShown, withLoad, withOutside}
+use Rattle.registers.specs.State.{reset, withShown, withLoadLevel, withOutsideLevel}
 use Rattle.registers.specs.Write.{written}
 use Rattle.registers.specs.Read.{readAt}
 use Rattle.registers.specs.Fault.{raised}
-use Rattle.registers.specs.Judging.{scanned, warmed, coulombs, pulled, held, unready}
+use Rattle.registers.specs.Judging.{scanned, warmed, coulombs, pulled, pulledByLevel, unready}
 use Rattle.protection.specs.declared.Runs.{Runs}
 use Rattle.protection.specs.Fault.{noRuns}
 use Rattle.protection.specs.Rule.{counted, risen}
@@ -33,28 +33,28 @@ use Rattle.chip.specs.declared.Chip.{Chip}
 use Rattle.chip.specs.declared.Stepped.{Stepped}
 
 -- ── answers: a number, and for an OUT or IN that is done the bus flag and byte ──
-abbrev pub quiet : ℕ → Chip → Stepped
-quiet n c = record { chip = c; number = n; flag = false; byte = 0 }
+abbrev pub numbered : ℕ → Chip → Stepped
+numbered n c = record { chip = c; number = n; flag = false; byte = 0 }
 
 abbrev pub answered : ℕ → Chip → Stepped
 answered b c = record { chip = c; number = 0; flag = true; byte = b }
 
 -- ── one part put anew ──
-abbrev pub withAwake : Bool → Chip → Chip
-withAwake a c = record { setup = c .setup; awake = a; bus = c .bus; registers = c .registers; runs = c .runs }
+abbrev pub withNormal : Bool → Chip → Chip
+withNormal a c = record { setup = c .setup; normal = a; bus = c .bus; registers = c .registers; runs = c .runs }
 
 abbrev pub withBus : Bus → Chip → Chip
-withBus b c = record { setup = c .setup; awake = c .awake; bus = b; registers = c .registers; runs = c .runs }
+withBus b c = record { setup = c .setup; normal = c .normal; bus = b; registers = c .registers; runs = c .runs }
 
 abbrev pub withRegisters : Registers → Chip → Chip
-withRegisters r c = record { setup = c .setup; awake = c .awake; bus = c .bus; registers = r; runs = c .runs }
+withRegisters r c = record { setup = c .setup; normal = c .normal; bus = c .bus; registers = r; runs = c .runs }
 
 abbrev pub withRuns : Runs → Chip → Chip
-withRuns n c = record { setup = c .setup; awake = c .awake; bus = c .bus; registers = c .registers; runs = n }
+withRuns n c = record { setup = c .setup; normal = c .normal; bus = c .bus; registers = c .registers; runs = n }
 
 -- ── Modes: on entering SHIP every register takes its reset value, all runs end, the bus is idle and its pointer 0 ──
 abbrev pub inShip : Setup → Chip
-inShip u = record { setup = u; awake = false; bus = quietBus; registers = reset; runs = noRuns }
+inShip u = record { setup = u; normal = false; bus = idleBus; registers = reset; runs = noRuns }
 
 -- ── Judging: the runs go on, and what rises is shown and puts off its drive ──
 abbrev pub judged : Event → Chip → Chip
@@ -63,17 +63,17 @@ judged e c =
     (withRegisters (withShown (raised (risen (c .setup .floor) (c .registers .settings) (c .runs) e) (c .registers .shown)) (c .registers)) c)
 
 -- ── Bus: an accepted store; the byte that ships is acknowledged, then the bus is idle and the pointer 0 ──
-abbrev pub moved : Line → Chip → Chip
-moved l c = withBus (withLine l (c .bus)) c
+abbrev pub lineMoved : Line → Chip → Chip
+lineMoved l c = withBus (withLine l (c .bus)) c
 
 abbrev pub accepted : Line → ℕ → ℕ → Chip → Chip
-accepted l a v c = withRegisters (written (c .setup) a v (c .registers)) (moved l c)
+accepted l a v c = withRegisters (written (c .setup) a v (c .registers)) (lineMoved l c)
 
 unfoldable pub storedAt : Line → ℕ → ℕ → Chip → Chip
 storedAt l a v c = cond (ships a v (c .registers .settings)) (inShip (c .setup)) (accepted l a v c)
 
 abbrev pub stored : Line → Store → Chip → Chip
-stored l Nothing c = moved l c
+stored l Nothing c = lineMoved l c
 stored l (At a v) c = storedAt l a v c
 
 abbrev pub sent : Outed → Chip → Stepped
@@ -86,68 +86,68 @@ abbrev pub handed : Taken → Chip → Stepped
 handed t c = answered (t .byte) (withBus (t .bus) c)
 
 -- the bus is told the register at its pointer and the one after it
-abbrev pub given : Bool → Chip → Taken
-given nack c = takes (c .setup) (reads c (c .bus .line .pointer)) (reads c (grown (c .bus .line .pointer))) nack (c .bus)
+abbrev pub takenBy : Bool → Chip → Taken
+takenBy nack c = takes (c .setup) (reads c (c .bus .line .pointer)) (reads c (grown (c .bus .line .pointer))) nack (c .bus)
 
 abbrev pub fetched : Bool → Chip → Stepped
-fetched nack c = handed (given nack c) c
+fetched nack c = handed (takenBy nack c) c
 
 abbrev pub onBus : BusEvent → Chip → Stepped
-onBus Start c = quiet 0 (moved (started (c .bus .line)) c)
-onBus Stop c = quiet 0 (moved (stopped (c .bus .line)) c)
+onBus Start c = numbered 0 (lineMoved (started (c .bus .line)) c)
+onBus Stop c = numbered 0 (lineMoved (stopped (c .bus .line)) c)
 onBus (Out b) c = sent (outed (c .setup) (c .bus .line) b) c
 onBus (In nack) c = fetched nack c
 
 -- ── document 02, M-103: after any event that leaves the chip in NORMAL and is not refused, if the outside level is 1 and SYS_STAT is 0, OVRD_ALERT
 -- rises and both drives go off. In SHIP the level is 0, so an event that enters SHIP is left as it is ──
 abbrev pub watched : Chip → Chip
-watched c = withRegisters (held (c .registers)) c
+watched c = withRegisters (pulledByLevel (c .registers)) c
 
 abbrev pub settled : Stepped → Stepped
 settled s = record { chip = watched (s .chip); number = s .number; flag = s .flag; byte = s .byte }
 
 -- ── each event in NORMAL, before the level is looked at, and in SHIP ──
 abbrev pub normally : Event → Chip → Stepped
-normally Por c = quiet 0 (inShip (c .setup))
-normally Boot c = quiet 0 c
-normally Pin c = quiet 0 (withRegisters (pulled (c .registers)) c)
-normally Xready c = quiet 0 (withRegisters (unready (c .registers)) c)
-normally (Scan xs) c = quiet 0 (judged (Scan xs) (withRegisters (scanned xs (c .registers)) c))
-normally (Temp xs) c = quiet 0 (withRegisters (warmed xs (c .registers)) c)
-normally (Count n) c = quiet 0 (withRegisters (coulombs n (c .registers)) c)
-normally (Sense v) c = quiet 0 (judged (Sense v) c)
-normally (Load l) c = quiet 0 (withRegisters (withLoad l (c .registers)) c)
+normally Por c = numbered 0 (inShip (c .setup))
+normally Boot c = numbered 0 c
+normally Pin c = numbered 0 (withRegisters (pulled (c .registers)) c)
+normally Xready c = numbered 0 (withRegisters (unready (c .registers)) c)
+normally (Scan xs) c = numbered 0 (judged (Scan xs) (withRegisters (scanned xs (c .registers)) c))
+normally (Temp xs) c = numbered 0 (withRegisters (warmed xs (c .registers)) c)
+normally (Count n) c = numbered 0 (withRegisters (coulombs n (c .registers)) c)
+normally (Sense v) c = numbered 0 (judged (Sense v) c)
+normally (Load l) c = numbered 0 (withRegisters (withLoadLevel l (c .registers)) c)
 normally (OnBus b) c = onBus b c
-normally (Level l) c = quiet 0 (withRegisters (withOutside l (c .registers)) c)
+normally (Level l) c = numbered 0 (withRegisters (withOutsideLevel l (c .registers)) c)
 
 -- bus events are no refusals: the bus stays idle, OUT is not acknowledged and IN gives 0xFF
 abbrev pub busAsleep : BusEvent → Chip → Stepped
-busAsleep Start c = quiet 0 c
-busAsleep Stop c = quiet 0 c
+busAsleep Start c = numbered 0 c
+busAsleep Stop c = numbered 0 c
 busAsleep (Out b) c = answered 1 c
 busAsleep (In nack) c = answered 0xFF c
 
 -- number 4: SCAN to XREADY, and the outside level
 abbrev pub asleep : Event → Chip → Stepped
-asleep Por c = quiet 0 (inShip (c .setup))
-asleep Boot c = quiet 0 (watched (withAwake true c))
-asleep Pin c = quiet 4 c
-asleep Xready c = quiet 4 c
-asleep (Scan xs) c = quiet 4 c
-asleep (Temp xs) c = quiet 4 c
-asleep (Count n) c = quiet 4 c
-asleep (Sense v) c = quiet 4 c
-asleep (Load l) c = quiet 4 c
+asleep Por c = numbered 0 (inShip (c .setup))
+asleep Boot c = numbered 0 (watched (withNormal true c))
+asleep Pin c = numbered 4 c
+asleep Xready c = numbered 4 c
+asleep (Scan xs) c = numbered 4 c
+asleep (Temp xs) c = numbered 4 c
+asleep (Count n) c = numbered 4 c
+asleep (Sense v) c = numbered 4 c
+asleep (Load l) c = numbered 4 c
 asleep (OnBus b) c = busAsleep b c
-asleep (Level l) c = quiet 4 c
+asleep (Level l) c = numbered 4 c
 
 -- an event whose values are in range
 unfoldable pub happened : Event → Chip → Stepped
-happened e c = cond (c .awake) (settled (normally e c)) (asleep e c)
+happened e c = cond (c .normal) (settled (normally e c)) (asleep e c)
 
 -- 3 before 4
 unfoldable pub stepped : Event → Chip → Stepped
-stepped e c = cond (fits e) (happened e c) (quiet 3 c)
+stepped e c = cond (fits e) (happened e c) (numbered 3 c)
 
 abbrev pub next : Event → Chip → Chip
 next e c = stepped e c .chip
@@ -158,13 +158,13 @@ ticking zero v c = c
 ticking (suc n) v c = happened (Sense v) (ticking n v c) .chip
 
 abbrev pub ticked : ℕ → ℤ → Chip → Stepped
-ticked n v c = cond (c .awake) (quiet 0 (ticking n v c)) (quiet 4 c)
+ticked n v c = cond (c .normal) (numbered 0 (ticking n v c)) (numbered 4 c)
 
 -- ── the code's event and the counts beside it: 2 before 3 ──
 abbrev pub steppedAs : Meant → Chip → Stepped
 steppedAs (means e) c = stepped e c
-steppedAs (ticks most v n) c = cond (ticksFit most v n) (ticked n v c) (quiet 3 c)
-steppedAs unfit c = quiet 2 c
+steppedAs (ticks most v n) c = cond (ticksFit most v n) (ticked n v c) (numbered 3 c)
+steppedAs unfit c = numbered 2 c
 
 abbrev pub steppedBy : Coded → Counts → Chip → Stepped
 steppedBy e k c = steppedAs (meantOf (c .setup) e k) c
@@ -172,7 +172,7 @@ steppedBy e k c = steppedAs (meantOf (c .setup) e k) c
 abbrev pub happenedAs : Meant → Chip → Stepped
 happenedAs (means e) c = happened e c
 happenedAs (ticks most v n) c = ticked n v c
-happenedAs unfit c = quiet 2 c
+happenedAs unfit c = numbered 2 c
 
 abbrev pub happenedBy : Coded → List ℕ → Chip → Stepped
 happenedBy e xs c = happenedAs (eventOf (c .setup) e xs) c

@@ -5,7 +5,7 @@ use Rattle.events.specs.declared.Setup.{Setup}
 use Rattle.events.specs.Event.{Event}
 use Rattle.bus.specs.declared.Line.{Line}
 use Rattle.bus.specs.declared.Bus.{Bus}
-use Rattle.bus.specs.Bus.{withLine, quietBus}
+use Rattle.bus.specs.Bus.{withLine, idleBus}
 use Rattle.settings.specs.declared.Settings.{Settings}
 use Rattle.registers.specs.declared.Registers.{Registers}
 use Rattle.registers.specs.State.{reset, withSettings}
@@ -19,11 +19,11 @@ pub record Core : Type 0 where
   pub settings : Settings
 
 abbrev pub coreOf : Chip → Core
-coreOf c = record { awake = c .awake; line = c .bus .line; settings = c .registers .settings }
+coreOf c = record { normal = c .normal; line = c .bus .line; settings = c .registers .settings }
 
 -- the chip with this core, and with every bit, drive, count, owed byte and run as after a reset
 abbrev pub bare : Setup → Core → Chip
-bare u k = record { setup = u; awake = k .awake; bus = withLine (k .line) quietBus; registers = withSettings (k .settings) reset; runs = noRuns }
+bare u k = record { setup = u; normal = k .normal; bus = withLine (k .line) idleBus; registers = withSettings (k .settings) reset; runs = noRuns }
 
 abbrev pub coreNext : Setup → Event → Core → Core
 coreNext u e k = coreOf (next e (bare u k))

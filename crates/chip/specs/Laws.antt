@@ -15,7 +15,7 @@ use Rattle.events.specs.declared.BusEvent.the-variants.{Out}
 use Rattle.events.specs.Event.{Por, OnBus, fits}
 use Rattle.events.specs.Setup.{inputs}
 use Rattle.wiring.specs.Rows.{wiredInputs, packCells, inputOf, connected}
-use Rattle.wiring.specs.Kept.{heldBy}
+use Rattle.wiring.specs.Kept.{picked}
 use Rattle.wiring.specs.Linked.{those, linked-those}
 use Rattle.crc8.specs.Crc.{byteOn}
 use Rattle.bus.specs.declared.Line.{Line}
@@ -33,18 +33,18 @@ use Rattle.values.specs.Forecast.{fold, totalOf}
 use Rattle.chip.specs.declared.Chip.{Chip}
 use Rattle.chip.specs.declared.Stepped.{Stepped}
 use Rattle.chip.specs.declared.outward.ForecastAnswer.the-variants.{Is}
-use Rattle.chip.specs.Chip.{quiet, answered, inShip, accepted, storedAt, stored, settled, normally, asleep, happened, stepped}
-use Rattle.chip.specs.Moves.{normal-is}
+use Rattle.chip.specs.Chip.{numbered, answered, inShip, accepted, storedAt, stored, settled, normally, asleep, happened, stepped}
+use Rattle.chip.specs.MovesLaws.{normal-is}
 use Rattle.chip.specs.Outward.{linkedCounts, voltageSaid, Forecasts}
-use Rattle.chip.specs.Voltage.{apart-said, cell-said, cell-holds}
+use Rattle.chip.specs.VoltageLaws.{apart-said, cell-said, cell-holds}
 
 -- ── SHIP ──
 -- POR, in either mode
-pub por-ships : (c : Chip) → stepped Por c ≡ quiet 0 (inShip (c .setup))
+pub por-ships : (c : Chip) → stepped Por c ≡ numbered 0 (inShip (c .setup))
 unfolding stepped happened fits
-por-ships c = by (c .awake)
+por-ships c = by (c .normal)
   where
-    by : (a : Bool) → cond a (settled (normally Por c)) (asleep Por c) ≡ quiet 0 (inShip (c .setup))
+    by : (a : Bool) → cond a (settled (normally Por c)) (asleep Por c) ≡ numbered 0 (inShip (c .setup))
     by true = refl
     by false = refl
 
@@ -74,7 +74,7 @@ stored-acked u (Reading w k) at b a v s = no-store a v s
 stored-acked u (Summing k) at b a v s = no-store a v s
 
 -- the byte that ships is acknowledged, and leaves the chip of SHIP
-pub out-ships : (b a v : ℕ) (c : Chip) → c .awake ≡ true → outed (c .setup) (c .bus .line) b .store ≡ At a v → ships a v (c .registers .settings) ≡ true
+pub out-ships : (b a v : ℕ) (c : Chip) → c .normal ≡ true → outed (c .setup) (c .bus .line) b .store ≡ At a v → ships a v (c .registers .settings) ≡ true
     → stepped (OnBus (Out b)) c ≡ answered 0 (inShip (c .setup))
 unfolding fits outed
 out-ships b a v c on s h =
@@ -116,28 +116,28 @@ map-last f x (y ∷ l) = ap (λ (m : List ℤ). f y ∷ m) (map-last f x l)
 -- one cell more, where it is connected
 module _ (g o : ℕ) (xs : List ℕ) (p : ℕ → Bool) where
   abbrev totalThose : List ℕ → ℤ
-  totalThose is = fold _+ℤ_ (pos 0) (map (cellMicrovolts g o) (heldBy xs (those p is)))
+  totalThose is = fold _+ℤ_ (pos 0) (map (cellMicrovolts g o) (picked xs (those p is)))
 
-  those-last : (is : List ℕ) (i : ℕ) (t : Bool) → p i ≡ t → heldBy xs (those p (is ++ (i ∷ []))) ≡ heldBy xs (those p is) ++ cond t (getD xs (i - 1) 0 ∷ []) []
+  those-last : (is : List ℕ) (i : ℕ) (t : Bool) → p i ≡ t → picked xs (those p (is ++ (i ∷ []))) ≡ picked xs (those p is) ++ cond t (getD xs (i - 1) 0 ∷ []) []
   those-last [] i true e = simp e
   those-last [] i false e = simp e
   those-last (j ∷ is) i t e = by (p j) (those-last is i t e)
     where
-      by : (b : Bool) → heldBy xs (those p (is ++ (i ∷ []))) ≡ heldBy xs (those p is) ++ cond t (getD xs (i - 1) 0 ∷ []) []
-          → heldBy xs (cond b (j ∷ those p (is ++ (i ∷ []))) (those p (is ++ (i ∷ [])))) ≡ heldBy xs (cond b (j ∷ those p is) (those p is)) ++ cond t (getD xs (i - 1) 0 ∷ []) []
+      by : (b : Bool) → picked xs (those p (is ++ (i ∷ []))) ≡ picked xs (those p is) ++ cond t (getD xs (i - 1) 0 ∷ []) []
+          → picked xs (cond b (j ∷ those p (is ++ (i ∷ []))) (those p (is ++ (i ∷ [])))) ≡ picked xs (cond b (j ∷ those p is) (those p is)) ++ cond t (getD xs (i - 1) 0 ∷ []) []
       by true h = ap (λ (l : List ℕ). getD xs (j - 1) 0 ∷ l) h
       by false h = h
 
   total-more : (is : List ℕ) (i : ℕ) → p i ≡ true → totalThose (is ++ (i ∷ [])) ≡ totalThose is +ℤ cellMicrovolts g o (getD xs (i - 1) 0)
   total-more is i e =
       ap (λ (l : List ℕ). fold _+ℤ_ (pos 0) (map (cellMicrovolts g o) l)) (those-last is i true e)
-      ∙ ap (fold _+ℤ_ (pos 0)) (map-last (cellMicrovolts g o) (getD xs (i - 1) 0) (heldBy xs (those p is)))
-      ∙ fold-last (pos 0) (cellMicrovolts g o (getD xs (i - 1) 0)) (map (cellMicrovolts g o) (heldBy xs (those p is)))
+      ∙ ap (fold _+ℤ_ (pos 0)) (map-last (cellMicrovolts g o) (getD xs (i - 1) 0) (picked xs (those p is)))
+      ∙ fold-last (pos 0) (cellMicrovolts g o (getD xs (i - 1) 0)) (map (cellMicrovolts g o) (picked xs (those p is)))
 
   total-past : (is : List ℕ) (i : ℕ) → p i ≡ false → totalThose (is ++ (i ∷ [])) ≡ totalThose is
-  total-past is i e = ap (λ (l : List ℕ). fold _+ℤ_ (pos 0) (map (cellMicrovolts g o) l)) (those-last is i false e ∙ append-nil (heldBy xs (those p is)))
+  total-past is i e = ap (λ (l : List ℕ). fold _+ℤ_ (pos 0) (map (cellMicrovolts g o) l)) (those-last is i false e ∙ append-nil (picked xs (those p is)))
 
-module _ (c : Chip) (on : c .awake ≡ true) where
+module _ (c : Chip) (on : c .normal ≡ true) where
   abbrev u : Setup
   u = c .setup
 
@@ -146,17 +146,17 @@ module _ (c : Chip) (on : c .awake ≡ true) where
 
   -- the sum over the first n cells of the pack, those that are connected
   abbrev sumTo : ℕ → ℤ
-  sumTo n = totalThose (u .gain) (u .offset) xs (connected u xs) (take n (wiredInputs u))
+  sumTo n = totalThose (u .«gain_code») (u .offset) xs (connected u xs) (take n (wiredInputs u))
 
   sums-by : (n : ℕ) → n < packCells u → Comes c n (sumTo n) → (t : Bool) → connected u xs (inputOf u (suc n)) ≡ t → Comes c (suc n) (sumTo (suc n))
   sums-by n h k true e =
       subst (Comes c (suc n))
-      (sym (ap (totalThose (u .gain) (u .offset) xs (connected u xs)) (take-suc (wiredInputs u) n 0 h) ∙ total-more (u .gain) (u .offset) xs (connected u xs) (take n (wiredInputs u)) (inputOf u (suc n)) e))
-      (more (cellMicrovolts (u .gain) (u .offset) (getD xs (inputOf u (suc n) - 1) 0)) k
-      (sym (cell-said (suc n) c on (omega arith) (omega arith) e) ∙ ap (λ (x : ℕ). gives (cellMicrovolts (u .gain) (u .offset) x)) (cell-holds (suc n) c on (omega arith) (omega arith))))
+      (sym (ap (totalThose (u .«gain_code») (u .offset) xs (connected u xs)) (take-suc (wiredInputs u) n 0 h) ∙ total-more (u .«gain_code») (u .offset) xs (connected u xs) (take n (wiredInputs u)) (inputOf u (suc n)) e))
+      (more (cellMicrovolts (u .«gain_code») (u .offset) (getD xs (inputOf u (suc n) - 1) 0)) k
+      (sym (cell-said (suc n) c on (omega arith) (omega arith) e) ∙ ap (λ (x : ℕ). gives (cellMicrovolts (u .«gain_code») (u .offset) x)) (cell-holds (suc n) c on (omega arith) (omega arith))))
   sums-by n h k false e =
       subst (Comes c (suc n))
-      (sym (ap (totalThose (u .gain) (u .offset) xs (connected u xs)) (take-suc (wiredInputs u) n 0 h) ∙ total-past (u .gain) (u .offset) xs (connected u xs) (take n (wiredInputs u)) (inputOf u (suc n)) e))
+      (sym (ap (totalThose (u .«gain_code») (u .offset) xs (connected u xs)) (take-suc (wiredInputs u) n 0 h) ∙ total-past (u .«gain_code») (u .offset) xs (connected u xs) (take n (wiredInputs u)) (inputOf u (suc n)) e))
       (past k (sym (apart-said (suc n) c on (omega arith) (omega arith) e)))
 
   sums : (n : ℕ) → n ≤ packCells u → Comes c n (sumTo n)
@@ -164,16 +164,16 @@ module _ (c : Chip) (on : c .awake ≡ true) where
   sums zero h = none
   sums (suc n) h = sums-by n (omega arith) (sums n (omega arith)) (connected u xs (inputOf u (suc n))) refl
 
-  pub total-comes : Comes c (packCells u) (totalOf (u .gain) (u .offset) (length (linkedCounts c)) (linkedCounts c))
+  pub total-comes : Comes c (packCells u) (totalOf (u .«gain_code») (u .offset) (length (linkedCounts c)) (linkedCounts c))
   total-comes =
       subst (Comes c (packCells u))
-      (ap (totalThose (u .gain) (u .offset) xs (connected u xs)) (take-length (wiredInputs u))
-      ∙ sym (ap (λ (is : List ℕ). fold _+ℤ_ (pos 0) (map (cellMicrovolts (u .gain) (u .offset)) (heldBy xs is))) (linked-those u xs))
-      ∙ sym (ap (λ (l : List ℕ). fold _+ℤ_ (pos 0) (map (cellMicrovolts (u .gain) (u .offset)) l)) (take-length (linkedCounts c))))
+      (ap (totalThose (u .«gain_code») (u .offset) xs (connected u xs)) (take-length (wiredInputs u))
+      ∙ sym (ap (λ (is : List ℕ). fold _+ℤ_ (pos 0) (map (cellMicrovolts (u .«gain_code») (u .offset)) (picked xs is))) (linked-those u xs))
+      ∙ sym (ap (λ (l : List ℕ). fold _+ℤ_ (pos 0) (map (cellMicrovolts (u .«gain_code») (u .offset)) l)) (take-length (linkedCounts c))))
       (sums (packCells u) (omega arith))
 
   -- so a reading's total is a double equal to that sum
   pub reading-comes : (r : ReadingValues) → Forecasts c (Is r)
-      → IsDouble (r .total) (totalOf (u .gain) (u .offset) (length (linkedCounts c)) (linkedCounts c))
-      × Comes c (packCells u) (totalOf (u .gain) (u .offset) (length (linkedCounts c)) (linkedCounts c))
+      → IsDouble (r .total) (totalOf (u .«gain_code») (u .offset) (length (linkedCounts c)) (linkedCounts c))
+      × Comes c (packCells u) (totalOf (u .«gain_code») (u .offset) (length (linkedCounts c)) (linkedCounts c))
   reading-comes r f = (f .1 .total, total-comes)

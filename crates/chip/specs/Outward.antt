@@ -8,8 +8,8 @@ use lib.IntN.{ℤ}
 use mathlib.Core.List.{List}
 use lib.ListN.{length}
 use Rattle.wiring.specs.Rows.{packCells, inputOf, connected, linkedInputs}
-use Rattle.wiring.specs.Kept.{heldBy}
-use Rattle.settings.specs.Bit.{weighed}
+use Rattle.wiring.specs.Kept.{picked}
+use Rattle.bits.specs.Bit.{weighed}
 use Rattle.registers.specs.State.{alert}
 use Rattle.registers.specs.Read.{cellAt}
 use Rattle.values.specs.Values.{Said, gives, refuses, cellMicrovolts}
@@ -23,19 +23,19 @@ use Rattle.chip.specs.declared.outward.ForecastAnswer.the-variants as Fo
 
 -- ALERT 4, CHG 2, DSG 1
 abbrev pub pinsOf : Chip → ℕ
-pinsOf c = weighed (alert (c .registers .shown .status)) 4 + weighed (c .registers .shown .chg) 2 + weighed (c .registers .shown .dsg) 1
+pinsOf c = weighed (alert (c .registers .shown .status)) 4 + weighed (c .registers .shown .«chg_on») 2 + weighed (c .registers .shown .«dsg_on») 1
 
 -- requests M-107 and M-108: the counts of the connected cells, the lowest first
 abbrev pub linkedCounts : Chip → List ℕ
-linkedCounts c = heldBy (c .registers .measured .cells) (linkedInputs (c .setup) (c .registers .measured .cells))
+linkedCounts c = picked (c .registers .measured .cells) (linkedInputs (c .setup) (c .registers .measured .cells))
 
 -- voltages: 4, then 6 for a number past the pack's, then 10 for a cell that is not connected
 unfoldable pub voltageSaid : ℕ → Chip → Said ℤ
 voltageSaid n c =
-    cond (c .awake)
+    cond (c .normal)
     (cond (leb 1 n && leb n (packCells (c .setup)))
     (cond (connected (c .setup) (c .registers .measured .cells) (inputOf (c .setup) n))
-    (gives (cellMicrovolts (c .setup .gain) (c .setup .offset) (cellAt (c .setup) (c .registers .measured) (inputOf (c .setup) n - 1))))
+    (gives (cellMicrovolts (c .setup .«gain_code») (c .setup .offset) (cellAt (c .setup) (c .registers .measured) (inputOf (c .setup) n - 1))))
     (refuses 10))
     (refuses 6))
     (refuses 4)
@@ -54,11 +54,11 @@ saidForecast Forecast.NotConnected = refuses 10
 
 -- least, greatest and total µV of the connected cells, and CC in hundredths, of the registers
 abbrev pub Reads : Chip → Reading → Type 0
-Reads c r = IsReading (c .setup .gain) (c .setup .offset) (length (linkedCounts c)) (linkedCounts c) (c .registers .measured .cc) r
+Reads c r = IsReading (c .setup .«gain_code») (c .setup .offset) (length (linkedCounts c)) (linkedCounts c) (c .registers .measured .cc) r
 
 -- 4 asleep, then 10 where no cell is connected: there is no reading
 abbrev pub forecastNumber : Chip → ℕ
-forecastNumber c = cond (c .awake) (cond (eqb (length (linkedCounts c)) 0) 10 0) 4
+forecastNumber c = cond (c .normal) (cond (eqb (length (linkedCounts c)) 0) 10 0) 4
 
 abbrev pub ForecastSaid : Chip → Said Reading → Type 0
 ForecastSaid c (gives r) = (forecastNumber c ≡ 0) × Reads c r

@@ -26,7 +26,7 @@ use Rattle.protection.specs.Judged.{tickJudged, tick-judged}
 use Rattle.chip.specs.declared.Chip.{Chip}
 use Rattle.chip.specs.declared.Heard.{Heard}
 use Rattle.chip.specs.declared.Stepped.{Stepped}
-use Rattle.chip.specs.Chip.{quiet, answered, withBus, withRegisters, withRuns, inShip, moved, accepted, watched, settled, storedAt, stored, sent, given, onBus, normally}
+use Rattle.chip.specs.Chip.{numbered, answered, withBus, withRegisters, withRuns, inShip, lineMoved, accepted, watched, settled, storedAt, stored, sent, takenBy, onBus, normally}
 
 -- ── the bus: what is heard at once ──
 abbrev pub unheard : Line → Bus → Heard
@@ -42,7 +42,7 @@ unfoldable pub heardOf : BusEvent → Chip → Heard
 heardOf Start c = unheard (started (c .bus .line)) (c .bus)
 heardOf Stop c = unheard (stopped (c .bus .line)) (c .bus)
 heardOf (Out b) c = sentOn (outed (c .setup) (c .bus .line) b) (c .bus)
-heardOf (In nack) c = handedOver (given nack c)
+heardOf (In nack) c = handedOver (takenBy nack c)
 
 -- ── then the store: an accepted write, after which the outside level is looked at, or SHIP ──
 unfoldable pub wrote : ℕ → ℕ → Chip → Chip
@@ -63,7 +63,7 @@ sent-parts o c = by (o .store)
     or-ships a v true = refl
     or-ships a v false = refl
 
-    by : (t : Store) → _≡_ {A = Stepped} (record { chip = landed t (moved (o .line) c); number = 0; flag = true; byte = o .byte }) (settled (answered (o .byte) (stored (o .line) t c)))
+    by : (t : Store) → _≡_ {A = Stepped} (record { chip = landed t (lineMoved (o .line) c); number = 0; flag = true; byte = o .byte }) (settled (answered (o .byte) (stored (o .line) t c)))
     by Nothing = refl
     by (At a v) = ap (answered (o .byte)) (or-ships a v (ships a v (c .registers .settings)))
 
@@ -79,7 +79,7 @@ abbrev pub raisedBy : Faults → Chip → Chip
 raisedBy f c = withRegisters (withShown (raised (among f) (c .registers .shown)) (c .registers)) c
 
 pub tick-parts : (v : ℤ) (c : Chip)
-    → quiet 0 (raisedBy (tickJudged (c .registers .settings) v (c .runs) .risen) (withRuns (tickJudged (c .registers .settings) v (c .runs) .runs) c))
+    → numbered 0 (raisedBy (tickJudged (c .registers .settings) v (c .runs) .risen) (withRuns (tickJudged (c .registers .settings) v (c .runs) .runs) c))
     ≡ normally (Sense v) c
 tick-parts v c = simp (tick-judged (c .setup .floor))
 

@@ -4,11 +4,11 @@ ghost use lib.ListN.{take};
 ghost use Rattle.events.specs.Setup.{groups, inputs};
 ghost use Rattle.events.specs.Event.{eventOf, ticks as ticksSpec, ticksMost, soakMost, Por, Boot, Pin, Xready, Scan, Temp, Count, Sense, Load, OnBus, Level};
 ghost use Rattle.events.specs.declared.BusEvent.the-variants.{Start, Out, In, Stop};
-ghost use Rattle.chip.specs.Chip.{quiet as quietSpec, answered as answeredSpec, inShip as inShipSpec, given as fetchedSpec, watched as watchedSpec, settled, normally, busAsleep, happened, stepped, ticked as tickedSpec, steppedAs, steppedBy};
+ghost use Rattle.chip.specs.Chip.{numbered as numberedSpec, answered as answeredSpec, inShip as inShipSpec, takenBy as fetchedSpec, watched as watchedSpec, settled, normally, busAsleep, happened, stepped, ticked as tickedSpec, steppedAs, steppedBy};
 ghost use Rattle.chip.specs.Parts.{unheard as unheardSpec, sentOn as sentSpec, handedOver as handedSpec, heardOf, wrote as wroteSpec, landed as landedSpec, raisedBy};
 ghost use Rattle.protection.specs.Judged.{tickJudged};
 ghost use Rattle.protection.specs.Repeat.{ticksJudged};
-ghost use Rattle.chip.specs.Repeat.{tickedBy};
+ghost use Rattle.chip.specs.RepeatLaws.{tickedBy};
 ghost use Rattle.bus.specs.Bus.{wanted};
 use bus::Bus;
 use bus::Line;
@@ -32,7 +32,7 @@ pub use outward::ForecastAnswer;
 
 pub struct Chip {
     pub setup: Setup,
-    pub awake: bool,
+    pub normal: bool,
     pub bus: Bus,
     pub registers: Registers,
     pub runs: Runs,
@@ -55,8 +55,8 @@ pub struct Heard {
 }
 
 // An answer with no bus byte.
-fn quiet(number: u8, chip: Chip) -> Stepped
-    ensures { λ r. ⌜ r ≡ quietSpec number chip ⌝ }
+fn numbered(number: u8, chip: Chip) -> Stepped
+    ensures { λ r. ⌜ r ≡ numberedSpec number chip ⌝ }
 {
     Stepped {
         chip,
@@ -71,15 +71,15 @@ fn watched(mut chip: Chip) -> Chip
     ensures { λ r. ⌜ r ≡ watchedSpec chip ⌝ }
 {
     let registers = chip.registers;
-    chip.registers = registers.held();
+    chip.registers = registers.pulled_by_level();
     chip
 }
 
 // An event done in NORMAL: the outside level is looked at, number 0.
 fn done(chip: Chip) -> Stepped
-    ensures { λ r. ⌜ r ≡ settled (quietSpec 0 chip) ⌝ }
+    ensures { λ r. ⌜ r ≡ settled (numberedSpec 0 chip) ⌝ }
 {
-    quiet(0, watched(chip))
+    numbered(0, watched(chip))
 }
 
 // The answer of an OUT or IN that is done.
@@ -98,12 +98,12 @@ fn answered(byte: u8, chip: Chip) -> Stepped
 pub fn in_ship(setup: Setup) -> Chip
     ensures { λ r. ⌜ r ≡ inShipSpec setup ⌝ }
 {
-    let bus = bus::quiet();
+    let bus = bus::idle();
     let registers = registers::reset();
     let runs = protection::no_runs();
     Chip {
         setup,
-        awake: false,
+        normal: false,
         bus,
         registers,
         runs,
@@ -157,17 +157,17 @@ impl Chip {
     pub fn por(self) -> Stepped
         ensures { λ r. ⌜ r ≡ happened Por self ⌝ }
     {
-        quiet(0, in_ship(self.setup))
+        numbered(0, in_ship(self.setup))
     }
 
     pub fn boot(self) -> Stepped
         ensures { λ r. ⌜ r ≡ happened Boot self ⌝ }
     {
-        if self.awake {
+        if self.normal {
             return done(self);
         }
         done(Chip {
-            awake: true,
+            normal: true,
             ..self
         })
     }
@@ -181,7 +181,7 @@ impl Chip {
         let s = registers.settings;
         let over = protection::over_line(s);
         let under = protection::under_line(s);
-        let looked = scan::look(counts, setup.inputs(), over, setup.floor, under);
+        let looked = cell_counts::look(counts, setup.inputs(), over, setup.floor, under);
         let runs = self.runs;
         let judged = runs.scanned(s, looked.over, looked.under);
         let cells = looked.cells;
@@ -197,11 +197,11 @@ impl Chip {
         ensures { λ r. ⌜ r ≡ stepped (Scan (take (inputs (self .setup)) counts)) self ⌝ }
     {
         let setup = self.setup;
-        if !checks::counts_in_range(counts, setup.inputs()) {
-            return quiet(3, self);
+        if !ranges::counts_in_range(counts, setup.inputs()) {
+            return numbered(3, self);
         }
-        if !self.awake {
-            return quiet(4, self);
+        if !self.normal {
+            return numbered(4, self);
         }
         done(self.scanned(counts))
     }
@@ -228,11 +228,11 @@ impl Chip {
     pub fn sense(mut self, value: i32) -> Stepped
         ensures { λ r. ⌜ r ≡ stepped (Sense value) self ⌝ }
     {
-        if !checks::sense_fits(value) {
-            return quiet(3, self);
+        if !ranges::sense_fits(value) {
+            return numbered(3, self);
         }
-        if !self.awake {
-            return quiet(4, self);
+        if !self.normal {
+            return numbered(4, self);
         }
         let judged = self.sensed(value);
         let runs = judged.runs;
@@ -258,22 +258,22 @@ impl Chip {
     pub fn ticked(self, value: i32, repeat: u32) -> Stepped
         ensures { λ r. ⌜ r ≡ tickedSpec repeat value self ⌝ }
     {
-        if !self.awake {
-            return quiet(4, self);
+        if !self.normal {
+            return numbered(4, self);
         }
         if repeat == 0 {
-            return quiet(0, self);
+            return numbered(0, self);
         }
         let first = watched(self.judged_by(value, 1));
-        quiet(0, first.judged_by(value, repeat - 1))
+        numbered(0, first.judged_by(value, repeat - 1))
     }
 
     // 1 to 4,096 ticks of one value.
     pub fn ticks(self, value: i32, repeat: u16) -> Stepped
         ensures { λ r. ⌜ r ≡ steppedAs (ticksSpec ticksMost value repeat) self ⌝ }
     {
-        if !checks::ticks_fit(4096, value, repeat as u32) {
-            return quiet(3, self);
+        if !ranges::ticks_fit(4096, value, repeat as u32) {
+            return numbered(3, self);
         }
         self.ticked(value, repeat as u32)
     }
@@ -282,8 +282,8 @@ impl Chip {
     pub fn soak(self, value: i32, repeat: u32) -> Stepped
         ensures { λ r. ⌜ r ≡ steppedAs (ticksSpec soakMost value repeat) self ⌝ }
     {
-        if !checks::ticks_fit(16777216, value, repeat) {
-            return quiet(3, self);
+        if !ranges::ticks_fit(16777216, value, repeat) {
+            return numbered(3, self);
         }
         self.ticked(value, repeat)
     }
@@ -293,7 +293,7 @@ impl Chip {
         ensures { λ r. ⌜ r ≡ normally (Temp (take (groups (self .setup)) counts)) self .chip ⌝ }
     {
         let setup = self.setup;
-        let ts = scan::three(counts, setup.groups());
+        let ts = cell_counts::three(counts, setup.groups());
         let registers = self.registers;
         let registers = registers.warmed(ts);
         Chip { registers, ..self }
@@ -303,11 +303,11 @@ impl Chip {
         ensures { λ r. ⌜ r ≡ stepped (Temp (take (groups (self .setup)) counts)) self ⌝ }
     {
         let setup = self.setup;
-        if !checks::counts_in_range(counts, setup.groups()) {
-            return quiet(3, self);
+        if !ranges::counts_in_range(counts, setup.groups()) {
+            return numbered(3, self);
         }
-        if !self.awake {
-            return quiet(4, self);
+        if !self.normal {
+            return numbered(4, self);
         }
         done(self.warmed(counts))
     }
@@ -315,8 +315,8 @@ impl Chip {
     pub fn count(self, cc: u16) -> Stepped
         ensures { λ r. ⌜ r ≡ happened (Count cc) self ⌝ }
     {
-        if !self.awake {
-            return quiet(4, self);
+        if !self.normal {
+            return numbered(4, self);
         }
         let registers = self.registers;
         let registers = registers.coulombs(cc);
@@ -326,8 +326,8 @@ impl Chip {
     pub fn pin(self) -> Stepped
         ensures { λ r. ⌜ r ≡ happened Pin self ⌝ }
     {
-        if !self.awake {
-            return quiet(4, self);
+        if !self.normal {
+            return numbered(4, self);
         }
         let registers = self.registers;
         let registers = registers.pulled();
@@ -337,8 +337,8 @@ impl Chip {
     pub fn load(self, level: bool) -> Stepped
         ensures { λ r. ⌜ r ≡ happened (Load level) self ⌝ }
     {
-        if !self.awake {
-            return quiet(4, self);
+        if !self.normal {
+            return numbered(4, self);
         }
         let registers = self.registers;
         let registers = registers.loaded(level);
@@ -348,8 +348,8 @@ impl Chip {
     pub fn level(self, level: bool) -> Stepped
         ensures { λ r. ⌜ r ≡ happened (Level level) self ⌝ }
     {
-        if !self.awake {
-            return quiet(4, self);
+        if !self.normal {
+            return numbered(4, self);
         }
         let registers = self.registers;
         let registers = registers.leveled(level);
@@ -359,8 +359,8 @@ impl Chip {
     pub fn xready(self) -> Stepped
         ensures { λ r. ⌜ r ≡ happened Xready self ⌝ }
     {
-        if !self.awake {
-            return quiet(4, self);
+        if !self.normal {
+            return numbered(4, self);
         }
         let registers = self.registers;
         let registers = registers.unready();
@@ -395,7 +395,7 @@ impl Chip {
             return in_ship(setup);
         }
         let written = registers.write(setup, at, value);
-        self.registers = written.held();
+        self.registers = written.pulled_by_level();
         self
     }
 
@@ -413,17 +413,17 @@ impl Chip {
         ensures { λ r. ⌜ r ≡ busAsleep event self ⌝ }
     {
         match event {
-            BusEvent::Start => quiet(0, self),
+            BusEvent::Start => numbered(0, self),
             BusEvent::Out(_) => answered(1, self),
             BusEvent::In(_) => answered(0xFF, self),
-            BusEvent::Stop => quiet(0, self),
+            BusEvent::Stop => numbered(0, self),
         }
     }
 
     fn on_bus(mut self, event: BusEvent) -> Stepped
         ensures { λ r. ⌜ r ≡ happened (OnBus event) self ⌝ }
     {
-        if !self.awake {
+        if !self.normal {
             return self.doze(event);
         }
         let heard = self.heard(event);
@@ -489,7 +489,7 @@ impl Chip {
         ensures { λ r. ⌜ r ≡ steppedAs (eventOf (self .setup) event counts) self ⌝ }
     {
         match event {
-            Event::Setup(_) => quiet(2, self),
+            Event::Setup(_) => numbered(2, self),
             Event::Por => self.por(),
             Event::Boot => self.boot(),
             Event::Scan => self.scan(counts),
@@ -503,7 +503,7 @@ impl Chip {
             Event::Level(level) => self.level(level),
             Event::Ticks(value, repeat) => self.ticks(value, repeat),
             Event::Soak(value, repeat) => self.soak(value, repeat),
-            Event::Wires(_) => quiet(2, self),
+            Event::Wires(_) => numbered(2, self),
         }
     }
 
@@ -511,9 +511,9 @@ impl Chip {
     pub fn step(self, event: Event, counts: Counts) -> Stepped
         ensures { λ r. ⌜ r ≡ steppedBy event counts self ⌝ }
     {
-        let wanted = checks::counts_wanted(self.setup, event);
-        if !checks::counts_fit(wanted, counts) {
-            return quiet(2, self);
+        let wanted = ranges::counts_wanted(self.setup, event);
+        if !ranges::counts_fit(wanted, counts) {
+            return numbered(2, self);
         }
         let of = counts.of;
         self.happen(event, of)

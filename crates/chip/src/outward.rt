@@ -44,16 +44,16 @@ impl Chip {
         let registers = self.registers;
         let shown = registers.shown;
         let status = shown.status;
-        settings::weigh(status.alert(), 4)
-            + settings::weigh(shown.chg, 2)
-            + settings::weigh(shown.dsg, 1)
+        bits::weigh(status.alert(), 4)
+            + bits::weigh(shown.chg_on, 2)
+            + bits::weigh(shown.dsg_on, 1)
     }
 
     // The voltage of a cell of the pack, 1 to as many as it has: as the part has inputs where there is no wiring record.
     pub fn voltage(self, cell: u8) -> CellAnswer
         ensures { λ r. ⌜ saidCell r ≡ voltageSaid cell self ⌝ }
     {
-        if !self.awake {
+        if !self.normal {
             return CellAnswer::Asleep;
         }
         let setup = self.setup;
@@ -70,7 +70,7 @@ impl Chip {
         if !wiring::converts(setup, count) {
             return CellAnswer::NotConnected;
         }
-        CellAnswer::Is(values::cell_microvolts(setup.gain, setup.offset, RawCount(count)))
+        CellAnswer::Is(values::cell_microvolts(setup.gain_code, setup.offset, RawCount(count)))
     }
 
     // The connected inputs, input 1 the lowest bit, by the counts in the registers.
@@ -87,7 +87,7 @@ impl Chip {
     pub fn forecast(self) -> ForecastAnswer
         ensures { λ r. ⌜ Forecasts self r ⌝ }
     {
-        if !self.awake {
+        if !self.normal {
             return ForecastAnswer::Asleep;
         }
         let setup = self.setup;
@@ -100,7 +100,7 @@ impl Chip {
         }
         let counts = pack.of;
         ForecastAnswer::Is(values::forecast(
-            setup.gain,
+            setup.gain_code,
             setup.offset,
             pack.many,
             counts,

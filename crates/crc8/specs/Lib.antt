@@ -1,3 +1,3 @@
 pub mod Crc
 pub mod Laws
-pub mod Division
+pub mod DivisionLaws

@@ -14,10 +14,10 @@ use Rattle.records.specs.declared.Read.the-variants.{Record, Refused, Cut}
 use Rattle.records.specs.Record.{readOf}
 use Rattle.chip.specs.declared.Chip.{Chip}
 use Rattle.chip.specs.declared.Stepped.{Stepped}
-use Rattle.chip.specs.Chip.{quiet, inShip}
+use Rattle.chip.specs.Chip.{numbered, inShip}
 use Rattle.stream.specs.declared.Entry.{Entry}
 use Rattle.stream.specs.Stream.{Turn, entryOf, turned, turnOf, runs, entries}
-use Rattle.stream.specs.Standing.{first-entries}
+use Rattle.stream.specs.StandingLaws.{first-entries}
 use Rattle.demands.specs.Demand.{chip}
 use Rattle.demands.specs.Wired.{celled}
 use Rattle.demands.specs.Streams.{restAfter, heardNext, answerTo, freshNext, cellsNext, Untouched, Took, took, turn-is, goes-on, a-part}
@@ -58,6 +58,6 @@ module _ (u : SetupValues) where
 
 -- a stream whose first record is a SETUP, read with success as u, up to the place next: ITS ENTRIES, whole
 pub entries-are : (s : List ℕ) (u : SetupValues) (next : ℕ) → readOf 0 s ≡ Record (Setup u) next
-    → entries s ≡ entryOf (quiet 0 (inShip u)) ∷ map entryOf (answersBy u (length s - 1) true (drop next s) [])
+    → entries s ≡ entryOf (numbered 0 (inShip u)) ∷ map entryOf (answersBy u (length s - 1) true (drop next s) [])
 unfolding chip
-entries-are s u next first = first-entries s u next first ∙ ap (λ (l : List Entry). entryOf (quiet 0 (inShip u)) ∷ l) (runs-are u (a-part s u next first) (length s - 1) true (u .cells) (drop next s) [] (λ e. refl))
+entries-are s u next first = first-entries s u next first ∙ ap (λ (l : List Entry). entryOf (numbered 0 (inShip u)) ∷ l) (runs-are u (a-part s u next first) (length s - 1) true (u .cells) (drop next s) [] (λ e. refl))

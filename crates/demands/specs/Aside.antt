@@ -16,10 +16,10 @@ use Rattle.events.specs.Fault.{Fault}
 use Rattle.protection.specs.Rule.{rule, opinion}
 use Rattle.chip.specs.declared.Chip.{Chip}
 use Rattle.chip.specs.declared.Stepped.{Stepped}
-use Rattle.chip.specs.Chip.{quiet, inShip, stepped, next, ticked, steppedAs, steppedBy}
+use Rattle.chip.specs.Chip.{numbered, inShip, stepped, next, ticked, steppedAs, steppedBy}
 use Rattle.chip.specs.Core.{Core, coreOf, coreNext}
-use Rattle.chip.specs.Moves.{normal-is}
-use Rattle.chip.specs.Repeat.{senses, record-senses}
+use Rattle.chip.specs.MovesLaws.{normal-is}
+use Rattle.chip.specs.RepeatLaws.{senses, record-senses}
 use Rattle.demands.specs.Demand.{chip, core, verdicts}
 use Rattle.demands.specs.Refused.{normal-done, refused}
 use Rattle.demands.specs.History.{setup-is, core-is, awake-is, asleep-none}
@@ -49,7 +49,7 @@ module _ (u : Setup) where
   core-aside past = sym (core-is u (done past)) ∙ ap coreOf (aside past) ∙ core-is u past
 
   -- a refused event adds no verdict and ends no spell
-  done-awake : (past : List Event) (e : Event) → isDone past e ≡ false → core u past .awake ≡ true → fits e ≡ true → ⊥
+  done-awake : (past : List Event) (e : Event) → isDone past e ≡ false → core u past .normal ≡ true → fits e ≡ true → ⊥
   done-awake past e h a f = refuses past e h (ap (λ s. s .number) (normal-is e (chip u past) f (awake-is u past ∙ a)) ∙ normal-done e (chip u past))
 
   refused-core : (past : List Event) (e : Event) → isDone past e ≡ false → core u (e ∷ past) ≡ core u past
@@ -58,7 +58,7 @@ module _ (u : Setup) where
 
   refused-silent : (k : Fault) (past : List Event) (e : Event) → isDone past e ≡ false → verdicts u k (e ∷ past) ≡ verdicts u k past
   unfolding verdicts
-  refused-silent k past e h = rw (refused-core past e h) (by (core u past .awake) (fits e) (done-awake past e h) (asleep-none u k past))
+  refused-silent k past e h = rw (refused-core past e h) (by (core u past .normal) (fits e) (done-awake past e h) (asleep-none u k past))
     where
       by : (a f : Bool) → (a ≡ true → f ≡ true → ⊥) → (a ≡ false → verdicts u k past ≡ [])
           → cond a (cond f (opinion k (u .floor) (rule k (core u past .settings)) e) [] ++ verdicts u k past) [] ≡ verdicts u k past
@@ -73,7 +73,7 @@ module _ (u : Setup) where
     where
       said-aside : verdicts u k (done past) ≡ verdicts u k past → verdicts u k (e ∷ done past) ≡ verdicts u k (e ∷ past)
       said-aside same =
-          λ i. cond (coreNext u e (core-aside past i) .awake) (cond (fits e) (opinion k (u .floor) (rule k (core-aside past i .settings)) e) [] ++ same i) []
+          λ i. cond (coreNext u e (core-aside past i) .normal) (cond (fits e) (opinion k (u .floor) (rule k (core-aside past i .settings)) e) [] ++ same i) []
 
       by : (b : Bool) → isDone past e ≡ b → verdicts u k (done past) ≡ verdicts u k past
           → verdicts u k (cond b (e ∷ done past) (done past)) ≡ verdicts u k (e ∷ past)
@@ -104,7 +104,7 @@ module _ (u : Setup) where
     where
       by : (t : Bool) → ticksFit most v n ≡ t → steppedAs (ticks most v n) (chip u past) .chip ≡ chip u (cond t (replicate n (Sense v)) [] ++ past)
       by true f = record-senses most n v (chip u past) f ∙ ticks-heard n v past
-      by false f = ap (λ (t : Bool). cond t (ticked n v (chip u past)) (quiet 3 (chip u past)) .chip) f
+      by false f = ap (λ (t : Bool). cond t (ticked n v (chip u past)) (numbered 3 (chip u past)) .chip) f
   heard-as unfit past = refl
 
   -- what they mean, those that do not fit the part left out

@@ -17,23 +17,23 @@ use Rattle.bus.specs.declared.Bus.{Bus}
 use Rattle.bus.specs.declared.Store.{Store}
 use Rattle.bus.specs.declared.Store.the-variants.{Nothing, At}
 use Rattle.bus.specs.declared.Outed.{Outed}
-use Rattle.bus.specs.Bus.{withLine, quietBus, outIn, outed, addressed, fed, inLine, taken}
+use Rattle.bus.specs.Bus.{withLine, idleBus, outIn, outed, addressed, fed, inLine, taken}
 use Rattle.settings.specs.Write.{ships}
 use Rattle.registers.specs.declared.Registers.{Registers}
-use Rattle.registers.specs.Write.{balanceWith}
-use Rattle.registers.specs.Read.{balanceByte, lowByte, wordAt, fixedByte, readAt}
+use Rattle.registers.specs.Write.{cellbalWith}
+use Rattle.registers.specs.Read.{cellbalByte, controlByte, wordAt, fixedByte, readAt}
 use Rattle.chip.specs.declared.Chip.{Chip}
 use Rattle.chip.specs.declared.Stepped.{Stepped}
-use Rattle.chip.specs.Chip.{quiet, inShip, accepted, storedAt, stored, reads, onBus, watched, settled, normally, asleep, happened, stepped, next}
+use Rattle.chip.specs.Chip.{numbered, inShip, accepted, storedAt, stored, reads, onBus, watched, settled, normally, asleep, happened, stepped, next}
 use Rattle.demands.specs.Demand.{chip}
 use Rattle.demands.specs.History.{setup-is}
 
 abbrev pub calibrated : ℕ → ℕ → Setup → Setup
-calibrated gain offset u = record { part = u .part; crc = u .crc; address = u .address; gain = gain; offset = offset; floor = u .floor; cells = u .cells }
+calibrated gain offset u = record { part = u .part; crc = u .crc; address = u .address; «gain_code» = gain; offset = offset; floor = u .floor; cells = u .cells }
 
 -- the chip without gain code and offset, and without the two bytes that the bus owes of what it read
 abbrev pub bared : Chip → Chip
-bared c = record { setup = calibrated 0 0 (c .setup); awake = c .awake; bus = withLine (c .bus .line) quietBus; registers = c .registers; runs = c .runs }
+bared c = record { setup = calibrated 0 0 (c .setup); normal = c .normal; bus = withLine (c .bus .line) idleBus; registers = c .registers; runs = c .runs }
 
 -- ── the bus ──
 out-bare : (u : Setup) (p : Phase) (a b : ℕ) → outIn u p a b ≡ outIn (calibrated 0 0 u) p a b
@@ -56,7 +56,7 @@ in-bare u l (Reading s k) nack = refl
 in-bare u l (Summing k) nack = refl
 
 stored-bare : (l : Line) (t : Store) (c : Chip) → bared (stored l t c) ≡ bared (stored l t (bared c))
-unfolding storedAt balanceWith groups
+unfolding storedAt cellbalWith groups
 stored-bare l Nothing c = refl
 stored-bare l (At a v) c = by (ships a v (c .registers .settings))
   where
@@ -72,7 +72,7 @@ bus-bare (Out b) c =
     stored-bare (outed (c .setup) (c .bus .line) b .line) (outed (c .setup) (c .bus .line) b .store) c
     ∙ ap (λ o. bared (stored (o .line) (o .store) (bared c))) (out-bare (c .setup) (c .bus .line .phase) (c .bus .line .pointer) b)
 bus-bare (In nack) c =
-    ap (λ l. record { setup = calibrated 0 0 (c .setup); awake = c .awake; bus = withLine l quietBus; registers = c .registers; runs = c .runs })
+    ap (λ l. record { setup = calibrated 0 0 (c .setup); normal = c .normal; bus = withLine l idleBus; registers = c .registers; runs = c .runs })
     (in-bare (c .setup) (c .bus .line) (c .bus .line .phase) nack)
 
 -- ── each event ──
@@ -107,10 +107,10 @@ asleep-bare (Level l) c = refl
 
 pub next-bare : (e : Event) (c : Chip) → bared (next e c) ≡ bared (next e (bared c))
 unfolding stepped happened
-next-bare e c = by (fits e) (c .awake)
+next-bare e c = by (fits e) (c .normal)
   where
-    by : (f a : Bool) → bared (cond f (cond a (settled (normally e c)) (asleep e c)) (quiet 3 c) .chip)
-        ≡ bared (cond f (cond a (settled (normally e (bared c))) (asleep e (bared c))) (quiet 3 (bared c)) .chip)
+    by : (f a : Bool) → bared (cond f (cond a (settled (normally e c)) (asleep e c)) (numbered 3 c) .chip)
+        ≡ bared (cond f (cond a (settled (normally e (bared c))) (asleep e (bared c))) (numbered 3 (bared c)) .chip)
     by true true = ap watched (normal-bare e c)
     by true false = asleep-bare e c
     by false a = refl
@@ -131,15 +131,15 @@ module _ (u : Setup) (gain offset : ℕ) where
   pub same-runs : (past : List Event) → chip u past .runs ≡ chip other past .runs
   same-runs past = ap (λ c. c .runs) (same-bare past)
 
-  pub same-mode : (past : List Event) → chip u past .awake ≡ chip other past .awake
-  same-mode past = ap (λ c. c .awake) (same-bare past)
+  pub same-mode : (past : List Event) → chip u past .normal ≡ chip other past .normal
+  same-mode past = ap (λ c. c .normal) (same-bare past)
 
   pub same-line : (past : List Event) → chip u past .bus .line ≡ chip other past .bus .line
   same-line past = ap (λ c. c .bus .line) (same-bare past)
 
   -- ── reads: 0x50 and 0x59 hold the gain code, 0x51 the offset ──
   read-bare : (r : Registers) (a : ℕ) → fixedByte u a ≡ fixedByte other a → readAt u r a ≡ readAt other r a
-  unfolding readAt lowByte balanceByte wordAt groups inputs
+  unfolding readAt controlByte cellbalByte wordAt groups inputs
   read-bare r a h = rw h
 
   same-read : (past : List Event) (a : ℕ) → fixedByte u a ≡ fixedByte other a → reads (chip u past) a ≡ reads (chip other past) a
@@ -151,6 +151,6 @@ module _ (u : Setup) (gain offset : ℕ) where
   reads-no-calibration past a h i j = same-read past a (rw (h, i, j))
 
 -- with the gain code the same, 0x51 alone tells the offset
-pub reads-no-offset : (u : Setup) (offset : ℕ) (past : List Event) (a : ℕ) → eqb a 0x51 ≡ false → reads (chip u past) a ≡ reads (chip (calibrated (u .gain) offset u) past) a
+pub reads-no-offset : (u : Setup) (offset : ℕ) (past : List Event) (a : ℕ) → eqb a 0x51 ≡ false → reads (chip u past) a ≡ reads (chip (calibrated (u .«gain_code») offset u) past) a
 unfolding fixedByte
-reads-no-offset u offset past a h = same-read u (u .gain) offset past a (rw h)
+reads-no-offset u offset past a h = same-read u (u .«gain_code») offset past a (rw h)

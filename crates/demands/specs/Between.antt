@@ -12,7 +12,7 @@ use Rattle.protection.specs.Rule.{Rule, rule, opinion}
 use Rattle.chip.specs.declared.Chip.{Chip}
 use Rattle.chip.specs.Chip.{inShip, next}
 use Rattle.chip.specs.Core.{Core, coreOf, bare, coreNext}
-use Rattle.chip.specs.Moves.{next-by}
+use Rattle.chip.specs.MovesLaws.{next-by}
 use Rattle.demands.specs.Demand.{core, verdicts, Due}
 use Rattle.demands.specs.History.{asleep-none}
 
@@ -33,7 +33,7 @@ Outside (Level l) = Unit
 module _ (u : Setup) (k : Fault) where
   -- one rule for k, and one mode
   abbrev pub Alike : Core → Core → Type 0
-  Alike c d = (rule k (c .settings) ≡ rule k (d .settings)) × (c .awake ≡ d .awake)
+  Alike c d = (rule k (c .settings) ≡ rule k (d .settings)) × (c .normal ≡ d .normal)
 
   -- ── two histories, the second with traffic put in ──
   pub data PutIn : List Event → List Event → Type 0 where
@@ -47,7 +47,7 @@ module _ (u : Setup) (k : Fault) where
 
   -- ── what comes from outside keeps two cores alike ──
   abbrev Kept : Core → Chip → Type 0
-  Kept c d = (d .registers .settings ≡ c .settings) × (d .awake ≡ c .awake)
+  Kept c d = (d .registers .settings ≡ c .settings) × (d .normal ≡ c .normal)
 
   settled : (e : Event) (c d : Core) → Alike c d → ((c : Core) → Kept c (next e (bare u c))) → Alike (coreNext u e c) (coreNext u e d)
   settled e c d a h = (ap (rule k) (h c .0) ∙ a .0 ∙ sym (ap (rule k) (h d .0)), h c .1 ∙ a .1 ∙ sym (h d .1))
@@ -56,12 +56,12 @@ module _ (u : Setup) (k : Fault) where
   unfolding fits
   por-is c = next-by (λ d. coreOf d ≡ coreOf (inShip u)) Por (bare u c) (λ f a. refl) (λ f a. refl) (λ f. absurd (true≢false f))
 
-  boot-is : (c : Core) → (coreNext u Boot c .settings ≡ c .settings) × (coreNext u Boot c .awake ≡ true)
+  boot-is : (c : Core) → (coreNext u Boot c .settings ≡ c .settings) × (coreNext u Boot c .normal ≡ true)
   unfolding fits
-  boot-is c = next-by (λ d. (d .registers .settings ≡ c .settings) × (d .awake ≡ true)) Boot (bare u c) (λ f a. (refl, a)) (λ f a. (refl, refl)) (λ f. absurd (true≢false f))
+  boot-is c = next-by (λ d. (d .registers .settings ≡ c .settings) × (d .normal ≡ true)) Boot (bare u c) (λ f a. (refl, a)) (λ f a. (refl, refl)) (λ f. absurd (true≢false f))
 
   alike-next : (e : Event) → Outside e → (c d : Core) → Alike c d → Alike (coreNext u e c) (coreNext u e d)
-  alike-next Por o c d a = (ap (λ x. rule k (x .settings)) (por-is c ∙ sym (por-is d)), ap (λ x. x .awake) (por-is c ∙ sym (por-is d)))
+  alike-next Por o c d a = (ap (λ x. rule k (x .settings)) (por-is c ∙ sym (por-is d)), ap (λ x. x .normal) (por-is c ∙ sym (por-is d)))
   alike-next Boot o c d a = (ap (rule k) (boot-is c .0) ∙ a .0 ∙ sym (ap (rule k) (boot-is d .0)), boot-is c .1 ∙ sym (boot-is d .1))
   alike-next Pin o c d a = settled Pin c d a (λ c. next-by (Kept c) Pin (bare u c) (λ f a. (refl, refl)) (λ f a. (refl, refl)) (λ f. (refl, refl)))
   alike-next Xready o c d a = settled Xready c d a (λ c. next-by (Kept c) Xready (bare u c) (λ f a. (refl, refl)) (λ f a. (refl, refl)) (λ f. (refl, refl)))
@@ -82,15 +82,15 @@ module _ (u : Setup) (k : Fault) where
   alike (shared b p q a h) = a
 
   -- one event of both
-  both-say : (e : Event) (p q : List Event) → Alike (core u p) (core u q) → core u (e ∷ p) .awake ≡ core u (e ∷ q) .awake → verdicts u k p ≡ verdicts u k q
+  both-say : (e : Event) (p q : List Event) → Alike (core u p) (core u q) → core u (e ∷ p) .normal ≡ core u (e ∷ q) .normal → verdicts u k p ≡ verdicts u k q
       → verdicts u k (e ∷ p) ≡ verdicts u k (e ∷ q)
   unfolding verdicts
   both-say e p q a w same = λ i. cond (w i) (cond (fits e) (opinion k (u .floor) (a .0 i) e) [] ++ same i) []
 
   -- traffic says nothing of k
-  silent : (b : BusEvent) (q : List Event) → core u (OnBus b ∷ q) .awake ≡ core u q .awake → verdicts u k (OnBus b ∷ q) ≡ verdicts u k q
+  silent : (b : BusEvent) (q : List Event) → core u (OnBus b ∷ q) .normal ≡ core u q .normal → verdicts u k (OnBus b ∷ q) ≡ verdicts u k q
   unfolding verdicts fits
-  silent b q w = ap (λ (t : Bool). cond t (verdicts u k q) []) w ∙ by (core u q .awake) (asleep-none u k q)
+  silent b q w = ap (λ (t : Bool). cond t (verdicts u k q) []) w ∙ by (core u q .normal) (asleep-none u k q)
     where
       by : (t : Bool) → (t ≡ false → verdicts u k q ≡ []) → cond t (verdicts u k q) [] ≡ verdicts u k q
       by true s = refl

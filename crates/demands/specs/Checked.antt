@@ -8,7 +8,7 @@ use native.Mathlib.Omega.{arith}
 use lib.Dec.{eqb}
 use borrow.Author.Tests.{eq-eqb}
 use Rattle.crc8.specs.Crc.{crc, byteOn}
-use Rattle.crc8.specs.Division.{crc-is}
+use Rattle.crc8.specs.DivisionLaws.{crc-is}
 use Rattle.events.specs.declared.BusEvent.the-variants.{Start, Out}
 use Rattle.events.specs.Event.{Event, OnBus, fits}
 use Rattle.bus.specs.declared.Line.{Line}
@@ -22,9 +22,9 @@ use Rattle.bus.specs.Laws.{store-only, wrong-crc}
 use Rattle.registers.specs.declared.Registers.{Registers}
 use Rattle.chip.specs.declared.Chip.{Chip}
 use Rattle.chip.specs.declared.Stepped.{Stepped}
-use Rattle.chip.specs.Chip.{answered, moved, storedAt, stored, sent, watched, settled, stepped, next}
+use Rattle.chip.specs.Chip.{answered, lineMoved, storedAt, stored, sent, watched, settled, stepped, next}
 use Rattle.chip.specs.Calm.{Calmed, calm-watched, settles}
-use Rattle.chip.specs.Moves.{normal-is}
+use Rattle.chip.specs.MovesLaws.{normal-is}
 
 -- events as they come, oldest first
 abbrev pub ran : Chip → List Event → Chip
@@ -33,7 +33,7 @@ ran c (e ∷ es) = ran (next e c) es
 
 -- ── any OUT ──
 -- with CRC on an OUT changes no register but as the CRC for which a data byte waits
-pub out-keeps : (c : Chip) (b : ℕ) → Calmed c → c .setup .crc ≡ true → c .awake ≡ true → ((v : ℕ) → c .bus .line .phase ≡ Checking v b → ⊥)
+pub out-keeps : (c : Chip) (b : ℕ) → Calmed c → c .setup .crc ≡ true → c .normal ≡ true → ((v : ℕ) → c .bus .line .phase ≡ Checking v b → ⊥)
     → next (OnBus (Out b)) c .registers ≡ c .registers
 unfolding fits outed
 out-keeps c b m k a h = ap (λ s. s .chip .registers) (normal-is (OnBus (Out b)) c refl a) ∙ by (outed (c .setup) (c .bus .line) b .store) refl
@@ -43,27 +43,27 @@ out-keeps c b m k a h = ap (λ s. s .chip .registers) (normal-is (OnBus (Out b))
     by (At x v) e = absurd (h v (store-only (c .setup) (c .bus .line .phase) (c .bus .line .pointer) b x v k e))
 
 -- a wrong CRC: not acknowledged, the bus idle, the pointer unmoved, and nothing else
-pub wrong : (c : Chip) (v s a b : ℕ) → Calmed c → c .awake ≡ true → c .bus .line ≡ lineOf (Checking v s) a → eqb b s ≡ false
-    → stepped (OnBus (Out b)) c ≡ answered 1 (moved (lineOf Idle a) c)
+pub wrong : (c : Chip) (v s a b : ℕ) → Calmed c → c .normal ≡ true → c .bus .line ≡ lineOf (Checking v s) a → eqb b s ≡ false
+    → stepped (OnBus (Out b)) c ≡ answered 1 (lineMoved (lineOf Idle a) c)
 unfolding fits
 wrong c v s a b m on l h =
     normal-is (OnBus (Out b)) c refl on
     ∙ ap (λ o. settled (sent o c)) (ap (λ l. outed (c .setup) l b) l ∙ wrong-crc (c .setup) v s a b h)
-    ∙ settles (answered 1 (moved (lineOf Idle a) c)) m
+    ∙ settles (answered 1 (lineMoved (lineOf Idle a) c)) m
 
 -- ── a whole frame ──
 -- an OUT on a chip with this line, by what the bus makes of it
-pub one-out : (c : Chip) (l : Line) (b : ℕ) (o : Outed) → c .awake ≡ true → outed (c .setup) l b ≡ o → next (OnBus (Out b)) (moved l c) ≡ watched (stored (o .line) (o .store) (moved l c))
+pub one-out : (c : Chip) (l : Line) (b : ℕ) (o : Outed) → c .normal ≡ true → outed (c .setup) l b ≡ o → next (OnBus (Out b)) (lineMoved l c) ≡ watched (stored (o .line) (o .store) (lineMoved l c))
 unfolding fits
-one-out c l b o on e = ap (λ s. s .chip) (normal-is (OnBus (Out b)) (moved l c) refl on) ∙ ap (λ o. watched (stored (o .line) (o .store) (moved l c))) e
+one-out c l b o on e = ap (λ s. s .chip) (normal-is (OnBus (Out b)) (lineMoved l c) refl on) ∙ ap (λ o. watched (stored (o .line) (o .store) (lineMoved l c))) e
 
 -- one that stores nothing
-pub one-goes : (c : Chip) (l : Line) (b : ℕ) (p : Phase) (a : ℕ) → Calmed c → c .awake ≡ true → outed (c .setup) l b ≡ goes p a → next (OnBus (Out b)) (moved l c) ≡ moved (lineOf p a) c
-one-goes c l b p a m on e = one-out c l b (goes p a) on e ∙ calm-watched (moved (lineOf p a) c) m
+pub one-goes : (c : Chip) (l : Line) (b : ℕ) (p : Phase) (a : ℕ) → Calmed c → c .normal ≡ true → outed (c .setup) l b ≡ goes p a → next (OnBus (Out b)) (lineMoved l c) ≡ lineMoved (lineOf p a) c
+one-goes c l b p a m on e = one-out c l b (goes p a) on e ∙ calm-watched (lineMoved (lineOf p a) c) m
 
-pub one-start : (c : Chip) → Calmed c → c .awake ≡ true → next (OnBus Start) c ≡ moved (lineOf Address (c .bus .line .pointer)) c
+pub one-start : (c : Chip) → Calmed c → c .normal ≡ true → next (OnBus Start) c ≡ lineMoved (lineOf Address (c .bus .line .pointer)) c
 unfolding fits
-one-start c m on = ap (λ s. s .chip) (normal-is (OnBus Start) c refl on) ∙ calm-watched (moved (lineOf Address (c .bus .line .pointer)) c) m
+one-start c m on = ap (λ s. s .chip) (normal-is (OnBus Start) c refl on) ∙ calm-watched (lineMoved (lineOf Address (c .bus .line .pointer)) c) m
 
 own : (c : Chip) (a : ℕ) → outed (c .setup) (lineOf Address a) (c .setup .address * 2) ≡ goes (Pointing (byteOn 0 (c .setup .address * 2))) a
 unfolding outed addressed
@@ -74,22 +74,22 @@ unfolding outed fed
 feeds c s a b k = rw k
 
 -- the CRC byte decides: the byte that waits is stored, or nothing but the bus has moved
-decides : (c : Chip) (v s a b : ℕ) → Calmed c → c .awake ≡ true
-    → next (OnBus (Out b)) (moved (lineOf (Checking v s) a) c) ≡ cond (eqb b s) (watched (storedAt (lineOf (Writing 0) (grown a)) a v c)) (moved (lineOf Idle a) c)
+decides : (c : Chip) (v s a b : ℕ) → Calmed c → c .normal ≡ true
+    → next (OnBus (Out b)) (lineMoved (lineOf (Checking v s) a) c) ≡ cond (eqb b s) (watched (storedAt (lineOf (Writing 0) (grown a)) a v c)) (lineMoved (lineOf Idle a) c)
 unfolding outed checked storedAt
 decides c v s a b m on = one-out c (lineOf (Checking v s) a) b (cond (eqb b s) (stores a v) (refuses a)) on refl ∙ by (eqb b s)
   where
-    by : (t : Bool) → watched (stored (cond t (stores a v) (refuses a) .line) (cond t (stores a v) (refuses a) .store) (moved (lineOf (Checking v s) a) c))
-        ≡ cond t (watched (storedAt (lineOf (Writing 0) (grown a)) a v c)) (moved (lineOf Idle a) c)
+    by : (t : Bool) → watched (stored (cond t (stores a v) (refuses a) .line) (cond t (stores a v) (refuses a) .store) (lineMoved (lineOf (Checking v s) a) c))
+        ≡ cond t (watched (storedAt (lineOf (Writing 0) (grown a)) a v c)) (lineMoved (lineOf Idle a) c)
     by true = refl
-    by false = calm-watched (moved (lineOf Idle a) c) m
+    by false = calm-watched (lineMoved (lineOf Idle a) c) m
 
 -- CRC off: the register changes at the data byte
 plain-feeds : (c : Chip) (s a b : ℕ) → c .setup .crc ≡ false → outed (c .setup) (lineOf (Writing s) a) b ≡ stores a b
 unfolding outed fed
 plain-feeds c s a b k = rw k
 
-pub plain-frame : (c : Chip) (p d : ℕ) → Calmed c → c .setup .crc ≡ false → c .awake ≡ true
+pub plain-frame : (c : Chip) (p d : ℕ) → Calmed c → c .setup .crc ≡ false → c .normal ≡ true
     → ran c (OnBus Start ∷ OnBus (Out (c .setup .address * 2)) ∷ OnBus (Out p) ∷ OnBus (Out d) ∷ []) ≡ watched (storedAt (lineOf (Writing 0) (grown p)) p d c)
 unfolding outed storedAt
 plain-frame c p d m k on =
@@ -105,9 +105,9 @@ plain-frame c p d m k on =
     a = c .bus .line .pointer
 
 -- first data byte of a write, to any chip in NORMAL: it is stored just where the byte after it is the CRC of address byte, pointer and data
-pub first-frame : (c : Chip) (p d x : ℕ) → Calmed c → c .setup .crc ≡ true → c .awake ≡ true → c .setup .address < 128 → p < 256 → d < 256
+pub first-frame : (c : Chip) (p d x : ℕ) → Calmed c → c .setup .crc ≡ true → c .normal ≡ true → c .setup .address < 128 → p < 256 → d < 256
     → ran c (OnBus Start ∷ OnBus (Out (c .setup .address * 2)) ∷ OnBus (Out p) ∷ OnBus (Out d) ∷ OnBus (Out x) ∷ [])
-    ≡ cond (eqb x (crc (c .setup .address * 2 ∷ p ∷ d ∷ []))) (watched (storedAt (lineOf (Writing 0) (grown p)) p d c)) (moved (lineOf Idle p) c)
+    ≡ cond (eqb x (crc (c .setup .address * 2 ∷ p ∷ d ∷ []))) (watched (storedAt (lineOf (Writing 0) (grown p)) p d c)) (lineMoved (lineOf Idle p) c)
 unfolding outed
 first-frame c p d x m k on ha hp hd =
     ap (λ q. ran q (OnBus (Out w) ∷ OnBus (Out p) ∷ OnBus (Out d) ∷ OnBus (Out x) ∷ [])) (one-start c m on)
@@ -115,7 +115,7 @@ first-frame c p d x m k on ha hp hd =
     ∙ ap (λ q. ran q (OnBus (Out d) ∷ OnBus (Out x) ∷ [])) (one-goes c (lineOf (Pointing (byteOn 0 w)) a) p (Writing (byteOn (byteOn 0 w) p)) p m on refl)
     ∙ ap (next (OnBus (Out x))) (one-goes c (lineOf (Writing (byteOn (byteOn 0 w) p)) p) d (Checking d (byteOn (byteOn (byteOn 0 w) p) d)) p m on (feeds c (byteOn (byteOn 0 w) p) p d k))
     ∙ decides c d (byteOn (byteOn (byteOn 0 w) p) d) p x m on
-    ∙ ap (λ s. cond (eqb x s) (watched (storedAt (lineOf (Writing 0) (grown p)) p d c)) (moved (lineOf Idle p) c)) (sym (crc-is (w ∷ p ∷ d ∷ []) (omega arith, (hp, (hd, tt)))))
+    ∙ ap (λ s. cond (eqb x s) (watched (storedAt (lineOf (Writing 0) (grown p)) p d c)) (lineMoved (lineOf Idle p) c)) (sym (crc-is (w ∷ p ∷ d ∷ []) (omega arith, (hp, (hd, tt)))))
   where
     w : ℕ
     w = c .setup .address * 2
@@ -124,10 +124,10 @@ first-frame c p d x m k on ha hp hd =
     a = c .bus .line .pointer
 
 -- a later one, where the bus is after a store: the CRC of the data alone
-pub later-frame : (c : Chip) (a d x : ℕ) → Calmed c → c .setup .crc ≡ true → c .awake ≡ true → d < 256
-    → ran (moved (lineOf (Writing 0) a) c) (OnBus (Out d) ∷ OnBus (Out x) ∷ [])
-    ≡ cond (eqb x (crc (d ∷ []))) (watched (storedAt (lineOf (Writing 0) (grown a)) a d c)) (moved (lineOf Idle a) c)
+pub later-frame : (c : Chip) (a d x : ℕ) → Calmed c → c .setup .crc ≡ true → c .normal ≡ true → d < 256
+    → ran (lineMoved (lineOf (Writing 0) a) c) (OnBus (Out d) ∷ OnBus (Out x) ∷ [])
+    ≡ cond (eqb x (crc (d ∷ []))) (watched (storedAt (lineOf (Writing 0) (grown a)) a d c)) (lineMoved (lineOf Idle a) c)
 later-frame c a d x m k on hd =
     ap (next (OnBus (Out x))) (one-goes c (lineOf (Writing 0) a) d (Checking d (byteOn 0 d)) a m on (feeds c 0 a d k))
     ∙ decides c d (byteOn 0 d) a x m on
-    ∙ ap (λ s. cond (eqb x s) (watched (storedAt (lineOf (Writing 0) (grown a)) a d c)) (moved (lineOf Idle a) c)) (sym (crc-is (d ∷ []) (hd, tt)))
+    ∙ ap (λ s. cond (eqb x s) (watched (storedAt (lineOf (Writing 0) (grown a)) a d c)) (lineMoved (lineOf Idle a) c)) (sym (crc-is (d ∷ []) (hd, tt)))

@@ -19,19 +19,19 @@ use Rattle.registers.specs.declared.Status.{Status}
 use Rattle.registers.specs.declared.Shown.{Shown}
 use Rattle.registers.specs.declared.Registers.{Registers}
 use Rattle.registers.specs.State.{noStatus, withStatus, withShown}
-use Rattle.registers.specs.Write.{statusOf, without, shownWith, balanceWith}
+use Rattle.registers.specs.Write.{statusOf, without, shownWith, cellbalWith}
 use Rattle.chip.specs.declared.Chip.{Chip}
 use Rattle.chip.specs.declared.Stepped.{Stepped}
-use Rattle.registers.specs.Held.{let-go}
+use Rattle.registers.specs.LevelLaws.{let-go}
 use Rattle.chip.specs.Chip.{withRegisters, storedAt, stored, onBus, watched, next}
-use Rattle.chip.specs.Moves.{normal-is}
+use Rattle.chip.specs.MovesLaws.{normal-is}
 
 abbrev pub either : Status → Status → Status
 either a b =
     record {
-      ready = a .ready || b .ready;
+      «cc_ready» = a .«cc_ready» || b .«cc_ready»;
       xready = a .xready || b .xready;
-      ovrd = a .ovrd || b .ovrd;
+      «ovrd_alert» = a .«ovrd_alert» || b .«ovrd_alert»;
       uv = a .uv || b .uv;
       ov = a .ov || b .ov;
       scd = a .scd || b .scd;
@@ -82,14 +82,14 @@ and-not-or false a b = refl
 
 without-none : (t : Status) → without noStatus t ≡ t
 without-none t =
-    λ i. record { ready = and-true (t .ready) i; xready = and-true (t .xready) i; ovrd = and-true (t .ovrd) i; uv = and-true (t .uv) i; ov = and-true (t .ov) i; scd = and-true (t .scd) i; ocd = and-true (t .ocd) i }
+    λ i. record { «cc_ready» = and-true (t .«cc_ready») i; xready = and-true (t .xready) i; «ovrd_alert» = and-true (t .«ovrd_alert») i; uv = and-true (t .uv) i; ov = and-true (t .ov) i; scd = and-true (t .scd) i; ocd = and-true (t .ocd) i }
 
 without-both : (a b t : Status) → without b (without a t) ≡ without (either a b) t
 without-both a b t =
     λ i. record {
-      ready = and-not-or (t .ready) (a .ready) (b .ready) i;
+      «cc_ready» = and-not-or (t .«cc_ready») (a .«cc_ready») (b .«cc_ready») i;
       xready = and-not-or (t .xready) (a .xready) (b .xready) i;
-      ovrd = and-not-or (t .ovrd) (a .ovrd) (b .ovrd) i;
+      «ovrd_alert» = and-not-or (t .«ovrd_alert») (a .«ovrd_alert») (b .«ovrd_alert») i;
       uv = and-not-or (t .uv) (a .uv) (b .uv) i;
       ov = and-not-or (t .ov) (a .ov) (b .ov) i;
       scd = and-not-or (t .scd) (a .scd) (b .scd) i;
@@ -104,10 +104,10 @@ lowered-both a b r = ap (λ t. withShown (withStatus t (r .shown)) r) (without-b
 
 -- ── one event ──
 abbrev pub Lowers : Status → Chip → Chip → Type 0
-Lowers s c d = (d .registers ≡ lowered s (c .registers)) × (d .awake ≡ c .awake) × (d .runs ≡ c .runs)
+Lowers s c d = (d .registers ≡ lowered s (c .registers)) × (d .normal ≡ c .normal) × (d .runs ≡ c .runs)
 
 store-lowers : (l : Line) (t : Store) (c : Chip) → isClearing t ≡ true → Lowers (onesOf t) c (stored l t c)
-unfolding settingsWith shownWith balanceWith storedAt
+unfolding settingsWith shownWith cellbalWith storedAt
 store-lowers l Nothing c h = (lowered-none (c .registers), refl, refl)
 store-lowers l (At a v) c h = rw (eqb-true a 0x00 h) (refl, refl, refl)
 
@@ -118,43 +118,43 @@ bus-lowers (Out b) c h = store-lowers (outed (c .setup) (c .bus .line) b .line) 
 bus-lowers (In nack) c h = (lowered-none (c .registers), refl, refl)
 
 -- after which the outside level, at 0, does nothing
-level-lowers : (s : Status) (c d : Chip) → c .registers .outside ≡ false → Lowers s c d → Lowers s c (watched d)
-level-lowers s c d l h = subst (Lowers s c) (sym (ap (λ (r : Registers). withRegisters r d) (let-go (d .registers) (ap (λ (r : Registers). r .outside) (h .0) ∙ l)))) h
+level-lowers : (s : Status) (c d : Chip) → c .registers .«outside_level» ≡ false → Lowers s c d → Lowers s c (watched d)
+level-lowers s c d l h = subst (Lowers s c) (sym (ap (λ (r : Registers). withRegisters r d) (let-go (d .registers) (ap (λ (r : Registers). r .«outside_level») (h .0) ∙ l)))) h
 
-next-lowers : (b : BusEvent) (c : Chip) → c .awake ≡ true → c .registers .outside ≡ false → isClearing (storeOf b c) ≡ true → Lowers (onesOf (storeOf b c)) c (next (OnBus b) c)
+next-lowers : (b : BusEvent) (c : Chip) → c .normal ≡ true → c .registers .«outside_level» ≡ false → isClearing (storeOf b c) ≡ true → Lowers (onesOf (storeOf b c)) c (next (OnBus b) c)
 unfolding fits
 next-lowers b c a l h = subst (λ s. Lowers (onesOf (storeOf b c)) c (s .chip)) (sym (normal-is (OnBus b) c refl a)) (level-lowers (onesOf (storeOf b c)) c (onBus b c .chip) l (bus-lowers b c h))
 
 -- ── and all of them ──
-pub clearing : (c : Chip) (es : List BusEvent) → c .awake ≡ true → c .registers .outside ≡ false → Clearings c es → Lowers (ones c es) c (ran c es)
+pub clearing : (c : Chip) (es : List BusEvent) → c .normal ≡ true → c .registers .«outside_level» ≡ false → Clearings c es → Lowers (ones c es) c (ran c es)
 unfolding ran Clearings ones
 clearing c [] a l h = (lowered-none (c .registers), refl, refl)
 clearing c (b ∷ es) a l h =
     let f : Lowers (onesOf (storeOf b c)) c (next (OnBus b) c) = next-lowers b c a l (h .0) in
-    let g : Lowers (ones (next (OnBus b) c) es) (next (OnBus b) c) (ran (next (OnBus b) c) es) = clearing (next (OnBus b) c) es (f .1 ∙ a) (ap (λ (r : Registers). r .outside) (f .0) ∙ l) (h .1) in
+    let g : Lowers (ones (next (OnBus b) c) es) (next (OnBus b) c) (ran (next (OnBus b) c) es) = clearing (next (OnBus b) c) es (f .1 ∙ a) (ap (λ (r : Registers). r .«outside_level») (f .0) ∙ l) (h .1) in
     (g .0 ∙ ap (lowered (ones (next (OnBus b) c) es)) (f .0) ∙ lowered-both (onesOf (storeOf b c)) (ones (next (OnBus b) c) es) (c .registers), g .1 ∙ f .1, g .2 ∙ f .2)
 
 -- Traffic that clears the same bits, in whatever order, at once or in parts, once or again, leaves the same registers, mode and runs.
-pub same-clearing : (c : Chip) (es fs : List BusEvent) → c .awake ≡ true → c .registers .outside ≡ false → Clearings c es → Clearings c fs → ones c es ≡ ones c fs
-    → (ran c es .registers ≡ ran c fs .registers) × (ran c es .awake ≡ ran c fs .awake) × (ran c es .runs ≡ ran c fs .runs)
+pub same-clearing : (c : Chip) (es fs : List BusEvent) → c .normal ≡ true → c .registers .«outside_level» ≡ false → Clearings c es → Clearings c fs → ones c es ≡ ones c fs
+    → (ran c es .registers ≡ ran c fs .registers) × (ran c es .normal ≡ ran c fs .normal) × (ran c es .runs ≡ ran c fs .runs)
 same-clearing c es fs a l h k e =
     let f : Lowers (ones c es) c (ran c es) = clearing c es a l h in
     let g : Lowers (ones c fs) c (ran c fs) = clearing c fs a l k in
     (f .0 ∙ ap (λ s. lowered s (c .registers)) e ∙ sym (g .0), f .1 ∙ sym (g .1), f .2 ∙ sym (g .2))
 
 -- .. and clearing none leaves them as they were
-pub clears-none : (c : Chip) (es : List BusEvent) → c .awake ≡ true → c .registers .outside ≡ false → Clearings c es → ones c es ≡ noStatus
-    → (ran c es .registers ≡ c .registers) × (ran c es .awake ≡ c .awake) × (ran c es .runs ≡ c .runs)
+pub clears-none : (c : Chip) (es : List BusEvent) → c .normal ≡ true → c .registers .«outside_level» ≡ false → Clearings c es → ones c es ≡ noStatus
+    → (ran c es .registers ≡ c .registers) × (ran c es .normal ≡ c .normal) × (ran c es .runs ≡ c .runs)
 clears-none c es a l h e =
     let f : Lowers (ones c es) c (ran c es) = clearing c es a l h in
     (f .0 ∙ ap (λ s. lowered s (c .registers)) e ∙ sym (lowered-none (c .registers)), f .1, f .2)
 
 -- clearing the same bits again, or some of them, changes none of the three
-pub again : (c : Chip) (es fs : List BusEvent) → c .awake ≡ true → c .registers .outside ≡ false → Clearings c es → Clearings (ran c es) fs → either (ones c es) (ones (ran c es) fs) ≡ ones c es
-    → (ran (ran c es) fs .registers ≡ ran c es .registers) × (ran (ran c es) fs .awake ≡ ran c es .awake) × (ran (ran c es) fs .runs ≡ ran c es .runs)
+pub again : (c : Chip) (es fs : List BusEvent) → c .normal ≡ true → c .registers .«outside_level» ≡ false → Clearings c es → Clearings (ran c es) fs → either (ones c es) (ones (ran c es) fs) ≡ ones c es
+    → (ran (ran c es) fs .registers ≡ ran c es .registers) × (ran (ran c es) fs .normal ≡ ran c es .normal) × (ran (ran c es) fs .runs ≡ ran c es .runs)
 again c es fs a l h k e =
     let f : Lowers (ones c es) c (ran c es) = clearing c es a l h in
-    let g : Lowers (ones (ran c es) fs) (ran c es) (ran (ran c es) fs) = clearing (ran c es) fs (f .1 ∙ a) (ap (λ (r : Registers). r .outside) (f .0) ∙ l) k in (
+    let g : Lowers (ones (ran c es) fs) (ran c es) (ran (ran c es) fs) = clearing (ran c es) fs (f .1 ∙ a) (ap (λ (r : Registers). r .«outside_level») (f .0) ∙ l) k in (
       g .0
           ∙ ap (lowered (ones (ran c es) fs)) (f .0)
           ∙ lowered-both (ones c es) (ones (ran c es) fs) (c .registers)
@@ -168,9 +168,9 @@ again c es fs a l h k e =
 pub either-comm : (a b : Status) → either a b ≡ either b a
 either-comm a b =
     λ i. record {
-      ready = or-comm (a .ready) (b .ready) i;
+      «cc_ready» = or-comm (a .«cc_ready») (b .«cc_ready») i;
       xready = or-comm (a .xready) (b .xready) i;
-      ovrd = or-comm (a .ovrd) (b .ovrd) i;
+      «ovrd_alert» = or-comm (a .«ovrd_alert») (b .«ovrd_alert») i;
       uv = or-comm (a .uv) (b .uv) i;
       ov = or-comm (a .ov) (b .ov) i;
       scd = or-comm (a .scd) (b .scd) i;

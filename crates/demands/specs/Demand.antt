@@ -17,7 +17,7 @@ use Rattle.bus.specs.declared.Store.{Store}
 use Rattle.bus.specs.declared.Store.the-variants.{Nothing, At}
 use Rattle.bus.specs.Bus.{outed}
 use Rattle.settings.specs.declared.Settings.{Settings}
-use Rattle.settings.specs.Bit.{bit}
+use Rattle.bits.specs.Bit.{bit}
 use Rattle.registers.specs.declared.Shown.{Shown}
 use Rattle.registers.specs.State.{alert}
 use Rattle.registers.specs.Write.{statusOf}
@@ -62,7 +62,7 @@ wrote u c (Sense v) = Nothing
 wrote u c (Load l) = Nothing
 wrote u c (OnBus Start) = Nothing
 wrote u c (OnBus Stop) = Nothing
-wrote u c (OnBus (Out b)) = cond (c .awake) (outed u (c .line) b .store) Nothing
+wrote u c (OnBus (Out b)) = cond (c .normal) (outed u (c .line) b .store) Nothing
 wrote u c (OnBus (In nack)) = Nothing
 wrote u c (Level l) = Nothing
 
@@ -97,7 +97,7 @@ module _ (u : Setup) where
 
   -- the outside level (document 02, M-103)
   abbrev pub outside : List Event → Bool
-  outside past = chip past .registers .outside
+  outside past = chip past .registers .«outside_level»
 
   -- the bit of k in SYS_STAT, its drive, and ALERT
   abbrev pub up : Fault → List Event → Bool
@@ -121,7 +121,7 @@ module _ (u : Setup) where
   standing past = core past .settings
 
   abbrev pub Awake : List Event → Type 0
-  Awake past = core past .awake ≡ true
+  Awake past = core past .normal ≡ true
 
   -- ── verdicts ──
   -- what the event e says of fault k, by the settings that stand when it comes; one that is out of range says nothing
@@ -131,7 +131,7 @@ module _ (u : Setup) where
   -- the verdicts on k of this waking spell, newest first: an event that leaves the chip in SHIP ends the spell
   unfoldable pub verdicts : Fault → List Event → List Bool
   verdicts k [] = []
-  verdicts k (e ∷ past) = cond (core (e ∷ past) .awake) (said k past e ++ verdicts k past) []
+  verdicts k (e ∷ past) = cond (core (e ∷ past) .normal) (said k past e ++ verdicts k past) []
 
   -- the scans or ticks that k takes, by the delay now set
   abbrev pub delay : Fault → List Event → ℕ
@@ -200,7 +200,7 @@ module _ (u : Setup) where
   Lowers = (k : Fault) (past : List Event) (e : Event) → clears k (wrote u (core past) e) ≡ true → up k (e ∷ past) ≡ false
 
   abbrev pub DownInShip : Type 0
-  DownInShip = (k : Fault) (past : List Event) → core past .awake ≡ false → up k past ≡ false
+  DownInShip = (k : Fault) (past : List Event) → core past .normal ≡ false → up k past ≡ false
 
   -- After a time at which the bit was up its drive is on only if some event since then is a write that asks for it and finds the bit down.
   abbrev pub OnAgainOnlyAsked : Type 0

@@ -23,9 +23,9 @@ module _ (u : Setup) where
     pub rises : (k : Fault) (past : List Event) (e : Event) → judges k e ≡ true → Accepted u past e
         → (b k (e ∷ past) ≡ true) ↔ ((b k past ≡ true) ∨₁ Due u k (e ∷ past))
     pub nothing-else-raises : (k : Fault) (past : List Event) (e : Event) → judges k e ≡ false → b k past ≡ false → b k (e ∷ past) ≡ false
-    pub stays : (k : Fault) (past : List Event) (e : Event) → core u (e ∷ past) .awake ≡ true → b k past ≡ true → clears k (wrote u (core u past) e) ≡ false → b k (e ∷ past) ≡ true
+    pub stays : (k : Fault) (past : List Event) (e : Event) → core u (e ∷ past) .normal ≡ true → b k past ≡ true → clears k (wrote u (core u past) e) ≡ false → b k (e ∷ past) ≡ true
     pub lowers : (k : Fault) (past : List Event) (e : Event) → clears k (wrote u (core u past) e) ≡ true → b k (e ∷ past) ≡ false
-    pub down-in-ship : (k : Fault) (past : List Event) → core u past .awake ≡ false → b k past ≡ false
+    pub down-in-ship : (k : Fault) (past : List Event) → core u past .normal ≡ false → b k past ≡ false
     pub refused-aside : (k : Fault) (past : List Event) (e : Event) → (Accepted u past e → ⊥) → b k (e ∷ past) ≡ b k past
 
   -- the chip's bits keep them
@@ -60,12 +60,12 @@ module _ (u : Setup) where
       judged j false h =
           mb .refused-aside k past e (refuses u past e h) ∙ before ∙ sym (md .refused-aside k past e (refuses u past e h))
 
-      unjudged : judges k e ≡ false → core u (e ∷ past) .awake ≡ true → (c x : Bool) → clears k (wrote u (core u past) e) ≡ c → b k past ≡ x → b k (e ∷ past) ≡ d k (e ∷ past)
+      unjudged : judges k e ≡ false → core u (e ∷ past) .normal ≡ true → (c x : Bool) → clears k (wrote u (core u past) e) ≡ c → b k past ≡ x → b k (e ∷ past) ≡ d k (e ∷ past)
       unjudged j a true x h y = mb .lowers k past e h ∙ sym (md .lowers k past e h)
       unjudged j a false true h y = mb .stays k past e a y h ∙ sym (md .stays k past e a (sym before ∙ y) h)
       unjudged j a false false h y = mb .nothing-else-raises k past e j y ∙ sym (md .nothing-else-raises k past e j (sym before ∙ y))
 
-      step : (a j : Bool) → core u (e ∷ past) .awake ≡ a → judges k e ≡ j → b k (e ∷ past) ≡ d k (e ∷ past)
+      step : (a j : Bool) → core u (e ∷ past) .normal ≡ a → judges k e ≡ j → b k (e ∷ past) ≡ d k (e ∷ past)
       step true true a j = judged j (isDone u past e) refl
       step true false a j = unjudged j a (clears k (wrote u (core u past) e)) (b k past) refl refl
       step false j a i = mb .down-in-ship k (e ∷ past) a ∙ sym (md .down-in-ship k (e ∷ past) a)
@@ -73,7 +73,7 @@ module _ (u : Setup) where
     pub determined : (past : List Event) → b k past ≡ d k past
     unfolding core
     determined [] = mb .down-in-ship k [] refl ∙ sym (md .down-in-ship k [] refl)
-    determined (e ∷ past) = step past e (determined past) (core u (e ∷ past) .awake) (judges k e) refl refl
+    determined (e ∷ past) = step past e (determined past) (core u (e ∷ past) .normal) (judges k e) refl refl
 
   pub only-the-chip : (b : Fault → List Event → Bool) → Meets b → (k : Fault) (past : List Event) → b k past ≡ up u k past
   only-the-chip b m k past = determined b (up u) m chip-meets k past

@@ -14,8 +14,8 @@ use Rattle.bus.specs.Bus.{addressed, fed, checked, outed, taken, given, owing, 
 use Rattle.settings.specs.Write.{settingsWith}
 use Rattle.settings.specs.Read.{settingsByte}
 use Rattle.registers.specs.State.{alert}
-use Rattle.registers.specs.Write.{shownWith, balanceWith}
-use Rattle.registers.specs.Read.{statusByte, readAt, lowByte, balanceByte, half, wordAt, fixedByte}
+use Rattle.registers.specs.Write.{shownWith, cellbalWith}
+use Rattle.registers.specs.Read.{statusByte, readAt, controlByte, cellbalByte, half, wordAt, fixedByte}
 use Rattle.protection.specs.Rule.{rule, over, under, beyond}
 use Rattle.chip.specs.declared.Chip.{Chip}
 use Rattle.chip.specs.declared.Stepped.{Stepped}
@@ -40,8 +40,8 @@ entry s =
       byte = s .byte;
       status = statusByte (s .chip .registers .shown .status);
       alerts = alert (s .chip .registers .shown .status);
-      chg = s .chip .registers .shown .chg;
-      dsg = s .chip .registers .shown .dsg;
+      «chg_on» = s .chip .registers .shown .«chg_on»;
+      «dsg_on» = s .chip .registers .shown .«dsg_on»;
     }
 
 -- the entries of events as they come
@@ -50,10 +50,10 @@ entries c [] = []
 entries c (e ∷ es) = entry (stepped e c) ∷ entries (next e c) es
 
 abbrev quietly : ℕ → Entry
-quietly n = record { number = n; flag = false; byte = 0; status = 0; alerts = false; chg = false; dsg = false }
+quietly n = record { number = n; flag = false; byte = 0; status = 0; alerts = false; «chg_on» = false; «dsg_on» = false }
 
 abbrev gave : ℕ → Entry
-gave b = record { number = 0; flag = true; byte = b; status = 0; alerts = false; chg = false; dsg = false }
+gave b = record { number = 0; flag = true; byte = b; status = 0; alerts = false; «chg_on» = false; «dsg_on» = false }
 
 -- SYS_STAT after these events
 abbrev status : Setup → List Event → ℕ
@@ -61,10 +61,10 @@ status u es = statusByte (ran (inShip u) es .registers .shown .status)
 
 -- ── the setups and the frames ──
 abbrev plain : Setup
-plain = record { part = 1; crc = false; address = 8; gain = 10; offset = 30; floor = 1000; cells = 0 }
+plain = record { part = 1; crc = false; address = 8; «gain_code» = 10; offset = 30; floor = 1000; cells = 0 }
 
 abbrev guarded : Setup
-guarded = record { part = 1; crc = true; address = 8; gain = 10; offset = 30; floor = 1000; cells = 0 }
+guarded = record { part = 1; crc = true; address = 8; «gain_code» = 10; offset = 30; floor = 1000; cells = 0 }
 
 abbrev out : ℕ → Event
 out b = OnBus (Out b)
@@ -92,11 +92,11 @@ pub printed : entries (inShip plain) (Boot ∷ write 0x05 0x03 ++ OnBus Stop ∷
     ∷ quietly 0
     ∷ gave 0
     ∷ gave 0
-    ∷ record { number = 0; flag = true; byte = 0; status = 0; alerts = false; chg = true; dsg = true }
-    ∷ record { number = 0; flag = false; byte = 0; status = 0; alerts = false; chg = true; dsg = true }
-    ∷ record { number = 0; flag = false; byte = 0; status = 0x20; alerts = true; chg = false; dsg = false }
+    ∷ record { number = 0; flag = true; byte = 0; status = 0; alerts = false; «chg_on» = true; «dsg_on» = true }
+    ∷ record { number = 0; flag = false; byte = 0; status = 0; alerts = false; «chg_on» = true; «dsg_on» = true }
+    ∷ record { number = 0; flag = false; byte = 0; status = 0x20; alerts = true; «chg_on» = false; «dsg_on» = false }
     ∷ []
-unfolding stepped happened fits outed settingsWith shownWith balanceWith addressed fed checked storedAt
+unfolding stepped happened fits outed settingsWith shownWith cellbalWith addressed fed checked storedAt
 printed = refl
 
 -- ── cases: events after BOOT, and the SYS_STAT that they leave (UV 8, OV 4, SCD 2, OCD 1) ──
@@ -180,25 +180,25 @@ levels =
     ∷ []
 
 pub spells-hold : found (spells ++ delays ++ pins ++ levels) ≡ wanted (spells ++ delays ++ pins ++ levels)
-unfolding stepped happened fits outed settingsWith shownWith balanceWith addressed fed checked storedAt rule over under beyond
+unfolding stepped happened fits outed settingsWith shownWith cellbalWith addressed fed checked storedAt rule over under beyond
 spells-hold = refl
 
 -- ── with CRC on: EA is the CRC of 10 05 03, and with another nothing is driven ──
 abbrev charges : List Event → Bool
-charges es = ran (inShip guarded) (Boot ∷ write 0x05 0x03 ++ es) .registers .shown .chg
+charges es = ran (inShip guarded) (Boot ∷ write 0x05 0x03 ++ es) .registers .shown .«chg_on»
 
 pub guarded-writes : (charges (out 0xEA ∷ []) ≡ true) × (charges (out 0xEB ∷ []) ≡ false) × (charges [] ≡ false)
-unfolding stepped happened fits outed settingsWith shownWith balanceWith byteOn addressed fed checked storedAt
+unfolding stepped happened fits outed settingsWith shownWith cellbalWith byteOn addressed fed checked storedAt
 guarded-writes = (refl, refl, refl)
 
 -- ── a pair's low byte is of the value whose high byte was given: 1F 10, though 0 is stored between ──
 pub pairs : entries (ran (inShip plain) (Boot ∷ cell 0x1F10 ∷ OnBus Start ∷ out 0x10 ∷ out 0x0C ∷ OnBus Start ∷ out 0x11 ∷ [])) (read ∷ cell 0 ∷ read ∷ [])
     ≡ gave 0x1F ∷ quietly 0 ∷ gave 0x10 ∷ []
-unfolding stepped happened fits outed taken given owing readAt lowByte balanceByte half wordAt fixedByte settingsByte groups inputs byteOn rule over under addressed fed checked afterData afterSum keeps storedAt
+unfolding stepped happened fits outed taken given owing readAt controlByte cellbalByte half wordAt fixedByte settingsByte groups inputs byteOn rule over under addressed fed checked afterData afterSum keeps storedAt
 pairs = refl
 
 -- ── the byte that ships is acknowledged; then the bus is idle and XREADY is refused with 4 ──
 pub shipping : entries (ran (inShip plain) (Boot ∷ write 0x04 0x11 ++ OnBus Start ∷ out 0x10 ∷ out 0x04 ∷ [])) (out 0x12 ∷ out 0x00 ∷ Xready ∷ [])
     ≡ gave 0 ∷ gave 1 ∷ quietly 4 ∷ []
-unfolding stepped happened fits outed settingsWith shownWith balanceWith byteOn addressed fed checked storedAt
+unfolding stepped happened fits outed settingsWith shownWith cellbalWith byteOn addressed fed checked storedAt
 shipping = refl

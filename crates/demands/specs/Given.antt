@@ -6,7 +6,7 @@ use Prim.Native.Nat.{ℕ, _+_, _*_, _<_}
 use native.Mathlib.Omega.{arith}
 use borrow.Author.Tests.{eq-eqb, ne-eqb}
 use Rattle.crc8.specs.Crc.{crc, byteOn}
-use Rattle.crc8.specs.Division.{crc-is}
+use Rattle.crc8.specs.DivisionLaws.{crc-is}
 use Rattle.events.specs.declared.BusEvent.the-variants.{Start, Out, In}
 use Rattle.events.specs.Event.{OnBus, fits}
 use Rattle.bus.specs.declared.Line.{Line}
@@ -16,22 +16,22 @@ use Rattle.bus.specs.declared.Phase.the-variants.{Address, Reading}
 use Rattle.bus.specs.Bus.{lineOf, outed, addressed, taken, given, owing, afterData, keeps, goes}
 use Rattle.chip.specs.declared.Chip.{Chip}
 use Rattle.chip.specs.declared.Stepped.{Stepped}
-use Rattle.chip.specs.Chip.{moved, reads, onBus, watched, stepped, next}
+use Rattle.chip.specs.Chip.{lineMoved, reads, onBus, watched, stepped, next}
 use Rattle.chip.specs.Calm.{Calmed}
-use Rattle.chip.specs.Moves.{normal-is}
+use Rattle.chip.specs.MovesLaws.{normal-is}
 use Rattle.demands.specs.Checked.{ran, one-start, one-goes}
 
 -- the bus reads, and no low byte is kept
 abbrev pub reading : ℕ → Chip → Chip
-reading s c = moved (lineOf (Reading s false) (c .bus .line .pointer)) c
+reading s c = lineMoved (lineOf (Reading s false) (c .bus .line .pointer)) c
 
 -- IN gives the register at the pointer ..
-pub gives : (c : Chip) (s : ℕ) (nack : Bool) → c .awake ≡ true → stepped (OnBus (In nack)) (reading s c) .byte ≡ reads c (c .bus .line .pointer)
+pub gives : (c : Chip) (s : ℕ) (nack : Bool) → c .normal ≡ true → stepped (OnBus (In nack)) (reading s c) .byte ≡ reads c (c .bus .line .pointer)
 unfolding fits given
 gives c s nack on = ap (λ t. t .byte) (normal-is (OnBus (In nack)) (reading s c) refl on)
 
 -- .. and, CRC on, its CRC after it, whatever the register holds by then
-pub gives-its-crc : (c : Chip) (s : ℕ) (nack : Bool) → c .setup .crc ≡ true → c .awake ≡ true
+pub gives-its-crc : (c : Chip) (s : ℕ) (nack : Bool) → c .setup .crc ≡ true → c .normal ≡ true
     → stepped (OnBus (In nack)) (next (OnBus (In false)) (reading s c)) .byte ≡ byteOn s (reads c (c .bus .line .pointer))
 unfolding fits taken given owing afterData keeps
 gives-its-crc c s nack k on =
@@ -45,7 +45,7 @@ unfolding outed addressed
 called c a =
     simp (ne-eqb (c .setup .address * 2 + 1) (c .setup .address * 2) (omega arith), eq-eqb (c .setup .address * 2 + 1) (c .setup .address * 2 + 1) refl)
 
-pub begins : (c : Chip) → Calmed c → c .awake ≡ true
+pub begins : (c : Chip) → Calmed c → c .normal ≡ true
     → ran c (OnBus Start ∷ OnBus (Out (c .setup .address * 2 + 1)) ∷ []) ≡ reading (byteOn 0 (c .setup .address * 2 + 1)) c
 begins c m on =
     ap (next (OnBus (Out w))) (one-start c m on)
@@ -55,7 +55,7 @@ begins c m on =
     w = c .setup .address * 2 + 1
 
 -- the first CRC of a read has the address byte and the data
-pub first-crc : (c : Chip) (nack : Bool) → Calmed c → c .setup .crc ≡ true → c .awake ≡ true → c .setup .address < 127 → reads c (c .bus .line .pointer) < 256
+pub first-crc : (c : Chip) (nack : Bool) → Calmed c → c .setup .crc ≡ true → c .normal ≡ true → c .setup .address < 127 → reads c (c .bus .line .pointer) < 256
     → stepped (OnBus (In nack)) (ran c (OnBus Start ∷ OnBus (Out (c .setup .address * 2 + 1)) ∷ OnBus (In false) ∷ [])) .byte
     ≡ crc ((c .setup .address * 2 + 1) ∷ reads c (c .bus .line .pointer) ∷ [])
 first-crc c nack m k on ha hr =

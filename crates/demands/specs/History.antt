@@ -13,7 +13,7 @@ use Rattle.protection.specs.Rule.{cap, rule, opinion}
 use Rattle.chip.specs.declared.Chip.{Chip}
 use Rattle.chip.specs.declared.Stepped.{Stepped}
 use Rattle.chip.specs.Core.{Core, coreOf, coreNext}
-use Rattle.chip.specs.Moves.{normal-is, setup-next, core-next}
+use Rattle.chip.specs.MovesLaws.{normal-is, setup-next, core-next}
 use Rattle.chip.specs.Calm.{Calmed, ship-calm, calm-next}
 use Rattle.demands.specs.Demand.{judges, chip, up, core, Awake, Accepted, said, verdicts, delay}
 use Rattle.demands.specs.Told.{run-of, heard, Told, next-told, accepted-judged, judging, rising}
@@ -30,8 +30,8 @@ module _ (u : Setup) where
   core-is [] = refl
   core-is (e ∷ past) = core-next e (chip u past) ∙ (λ i. coreNext (setup-is past i) e (core-is past i))
 
-  pub awake-is : (past : List Event) → chip u past .awake ≡ core u past .awake
-  awake-is past = ap (λ d. d .awake) (core-is past)
+  pub awake-is : (past : List Event) → chip u past .normal ≡ core u past .normal
+  awake-is past = ap (λ d. d .normal) (core-is past)
 
   -- THE LEVEL: the outside level 1 and SYS_STAT 0 never stand together
   pub calm-is : (past : List Event) → Calmed (chip u past)
@@ -43,7 +43,7 @@ module _ (u : Setup) where
   heard-is : (k : Fault) (past : List Event) (e : Event) → heard k e (chip u past) ≡ said u k past e
   heard-is k past e = λ i. cond (fits e) (opinion k (setup-is past i .floor) (rule k (core-is past i .settings)) e) []
 
-  pub asleep-none : (k : Fault) (past : List Event) → core u past .awake ≡ false → verdicts u k past ≡ []
+  pub asleep-none : (k : Fault) (past : List Event) → core u past .normal ≡ false → verdicts u k past ≡ []
   unfolding verdicts
   asleep-none k [] z = refl
   asleep-none k (e ∷ past) z = rw z
@@ -54,7 +54,7 @@ module _ (u : Setup) where
   runs-are k [] = run-of (λ k. 0) k ∙ sym (min-zero (cap k))
   runs-are k (e ∷ past) =
       next-told k (verdicts u k past) e (chip u past) (runs-are k past, λ z. asleep-none k past (sym (awake-is past) ∙ z))
-      ∙ (λ i. min (cap k) (streak (cond (core-is (e ∷ past) i .awake) (heard-is k past e i ++ verdicts u k past) [])))
+      ∙ (λ i. min (cap k) (streak (cond (core-is (e ∷ past) i .normal) (heard-is k past e i ++ verdicts u k past) [])))
 
   told : (k : Fault) (past : List Event) → Told k (verdicts u k past) (chip u past)
   told k past = (runs-are k past, λ z. asleep-none k past (sym (awake-is past) ∙ z))

@@ -18,13 +18,13 @@ use Rattle.registers.specs.declared.Status.{Status}
 use Rattle.registers.specs.declared.Shown.{Shown}
 use Rattle.registers.specs.State.{dark, alert, withStatus}
 use Rattle.registers.specs.Write.{statusOf, without, holdsChg, holdsDsg, driven, shownWith}
-use Rattle.registers.specs.Judging.{heldAt}
+use Rattle.registers.specs.Judging.{pulledAt}
 use Rattle.protection.specs.Rule.{rule, risen}
 use Rattle.chip.specs.declared.Chip.{Chip}
 use Rattle.chip.specs.declared.Stepped.{Stepped}
 use Rattle.chip.specs.Chip.{stored, onBus, normally, next}
 use Rattle.chip.specs.Core.{Core, coreOf}
-use Rattle.chip.specs.Moves.{next-by, stored-by, asleep-by}
+use Rattle.chip.specs.MovesLaws.{next-by, stored-by, asleep-by}
 use Rattle.demands.specs.Demand.{judges, wrote, clears, enables}
 use Rattle.demands.specs.Told.{says-one}
 
@@ -169,7 +169,7 @@ over-keeps Uv x w on s t h = quieter h
 over-keeps Scd x w on s t h = quieter h
 over-keeps Ocd x w on s t h = quieter h
 
-level-keeps : (k : Fault) (x : Event) (w : Store) (on l : Bool) (s t : Shown) → Keeps k x w on s t → Keeps k x w on s (heldAt l t)
+level-keeps : (k : Fault) (x : Event) (w : Store) (on l : Bool) (s t : Shown) → Keeps k x w on s t → Keeps k x w on s (pulledAt l t)
 level-keeps k x w on l s t h =
     by-cond (Keeps k x w on s) l (cond (alert (t .status)) t (overridden t)) t
     (λ i. by-cond (Keeps k x w on s) (alert (t .status)) t (overridden t) (λ j. h) (λ j. over-keeps k x w on s t h)) (λ i. h)
@@ -184,52 +184,52 @@ unjudged k e c h = rw (says-one k (c .setup .floor) (rule k (c .registers .setti
 
 -- e moves c to d
 abbrev Holds : Fault → Event → Chip → Chip → Type 0
-Holds k e c d = Keeps k e (wrote (c .setup) (coreOf c) e) (d .awake) (c .registers .shown) (d .registers .shown)
+Holds k e c d = Keeps k e (wrote (c .setup) (coreOf c) e) (d .normal) (c .registers .shown) (d .registers .shown)
 
 module _ (k : Fault) (e : Event) (c : Chip) where
-  stays-as : (w : Store) → clears k w ≡ false → Keeps k e w (c .awake) (c .registers .shown) (c .registers .shown)
-  stays-as w n = same k e w (c .awake) (c .registers .shown) n
+  stays-as : (w : Store) → clears k w ≡ false → Keeps k e w (c .normal) (c .registers .shown) (c .registers .shown)
+  stays-as w n = same k e w (c .normal) (c .registers .shown) n
 
-  judged-keeps : Keeps k e Nothing (c .awake) (c .registers .shown) (raised (risen (c .setup .floor) (c .registers .settings) (c .runs) e) (c .registers .shown))
-  judged-keeps = raises k e (c .awake) (risen (c .setup .floor) (c .registers .settings) (c .runs) e) (c .registers .shown) (unjudged k e c)
+  judged-keeps : Keeps k e Nothing (c .normal) (c .registers .shown) (raised (risen (c .setup .floor) (c .registers .settings) (c .runs) e) (c .registers .shown))
+  judged-keeps = raises k e (c .normal) (risen (c .setup .floor) (c .registers .settings) (c .runs) e) (c .registers .shown) (unjudged k e c)
 
-  store-keeps : (o : Outed) → Keeps k e (o .store) (stored (o .line) (o .store) c .awake) (c .registers .shown) (stored (o .line) (o .store) c .registers .shown)
+  store-keeps : (o : Outed) → Keeps k e (o .store) (stored (o .line) (o .store) c .normal) (c .registers .shown) (stored (o .line) (o .store) c .registers .shown)
   store-keeps o =
-      stored-by (λ d. Keeps k e (o .store) (d .awake) (c .registers .shown) (d .registers .shown)) (o .line) (o .store) c
+      stored-by (λ d. Keeps k e (o .store) (d .normal) (c .registers .shown) (d .registers .shown)) (o .line) (o .store) c
       (λ t. stays-as (o .store) (ap (clears k) t))
       (λ x v t s. darkens k e (o .store) (c .registers .shown))
-      (λ x v t s. subst (λ w. Keeps k e w (c .awake) (c .registers .shown) (shownWith x v (c .registers .shown))) (sym t) (writes k e x v (c .awake) (c .registers .shown)))
+      (λ x v t s. subst (λ w. Keeps k e w (c .normal) (c .registers .shown) (shownWith x v (c .registers .shown))) (sym t) (writes k e x v (c .normal) (c .registers .shown)))
 
-bus-keeps : (k : Fault) (b : BusEvent) (c : Chip) → c .awake ≡ true → Holds k (OnBus b) c (onBus b c .chip)
+bus-keeps : (k : Fault) (b : BusEvent) (c : Chip) → c .normal ≡ true → Holds k (OnBus b) c (onBus b c .chip)
 bus-keeps k Start c a = stays-as k (OnBus Start) c Nothing refl
 bus-keeps k Stop c a = stays-as k (OnBus Stop) c Nothing refl
 bus-keeps k (Out b) c a =
-    subst (λ w. Keeps k (OnBus (Out b)) w (stored (o .line) (o .store) c .awake) (c .registers .shown) (stored (o .line) (o .store) c .registers .shown))
-    (sym (when-true (c .awake) (o .store) Nothing a)) (store-keeps k (OnBus (Out b)) c o)
+    subst (λ w. Keeps k (OnBus (Out b)) w (stored (o .line) (o .store) c .normal) (c .registers .shown) (stored (o .line) (o .store) c .registers .shown))
+    (sym (when-true (c .normal) (o .store) Nothing a)) (store-keeps k (OnBus (Out b)) c o)
   where
     o : Outed
     o = outed (c .setup) (c .bus .line) b
 bus-keeps k (In nack) c a = stays-as k (OnBus (In nack)) c Nothing refl
 
-normal-keeps : (k : Fault) (e : Event) (c : Chip) → c .awake ≡ true → Holds k e c (normally e c .chip)
+normal-keeps : (k : Fault) (e : Event) (c : Chip) → c .normal ≡ true → Holds k e c (normally e c .chip)
 normal-keeps k Por c a = darkens k Por Nothing (c .registers .shown)
 normal-keeps k Boot c a = stays-as k Boot c Nothing refl
 normal-keeps k Pin c a =
-    by-cond (Keeps k Pin Nothing (c .awake) (c .registers .shown)) (alert (c .registers .shown .status)) (c .registers .shown) (overridden (c .registers .shown))
-    (λ h. stays-as k Pin c Nothing refl) (λ h. puts-off k Pin (c .awake) (c .registers .shown) .0)
-normal-keeps k Xready c a = puts-off k Xready (c .awake) (c .registers .shown) .1
+    by-cond (Keeps k Pin Nothing (c .normal) (c .registers .shown)) (alert (c .registers .shown .status)) (c .registers .shown) (overridden (c .registers .shown))
+    (λ h. stays-as k Pin c Nothing refl) (λ h. puts-off k Pin (c .normal) (c .registers .shown) .0)
+normal-keeps k Xready c a = puts-off k Xready (c .normal) (c .registers .shown) .1
 normal-keeps k (Scan xs) c a = judged-keeps k (Scan xs) c
 normal-keeps k (Temp xs) c a = stays-as k (Temp xs) c Nothing refl
 normal-keeps k (Count n) c a =
-    by-cond (Keeps k (Count n) Nothing (c .awake) (c .registers .shown)) (c .registers .settings .counter || c .registers .shown .oneshot) (counting (c .registers .shown)) (c .registers .shown)
-    (λ h. puts-off k (Count n) (c .awake) (c .registers .shown) .2) (λ h. stays-as k (Count n) c Nothing refl)
+    by-cond (Keeps k (Count n) Nothing (c .normal) (c .registers .shown)) (c .registers .settings .«cc_en» || c .registers .shown .«cc_oneshot») (counting (c .registers .shown)) (c .registers .shown)
+    (λ h. puts-off k (Count n) (c .normal) (c .registers .shown) .2) (λ h. stays-as k (Count n) c Nothing refl)
 normal-keeps k (Sense v) c a = judged-keeps k (Sense v) c
 normal-keeps k (Load l) c a = stays-as k (Load l) c Nothing refl
 normal-keeps k (OnBus b) c a = bus-keeps k b c a
 normal-keeps k (Level l) c a = stays-as k (Level l) c Nothing refl
 
 -- in SHIP, and out of range, nothing is written
-pub wrote-asleep : (u : Setup) (c : Core) (e : Event) → c .awake ≡ false → wrote u c e ≡ Nothing
+pub wrote-asleep : (u : Setup) (c : Core) (e : Event) → c .normal ≡ false → wrote u c e ≡ Nothing
 wrote-asleep u c Por a = refl
 wrote-asleep u c Boot a = refl
 wrote-asleep u c Pin a = refl
@@ -262,9 +262,9 @@ wrote-unfit u c (Level l) f = refl
 pub next-keeps : (k : Fault) (e : Event) (c : Chip) → Holds k e c (next e c)
 next-keeps k e c =
     next-by (Holds k e c) e c
-    (λ f a. level-keeps k e w (normally e c .chip .awake) (normally e c .chip .registers .outside) (c .registers .shown) (normally e c .chip .registers .shown) (normal-keeps k e c a))
+    (λ f a. level-keeps k e w (normally e c .chip .normal) (normally e c .chip .registers .«outside_level») (c .registers .shown) (normally e c .chip .registers .shown) (normal-keeps k e c a))
     (λ f a. let n : clears k w ≡ false = ap (clears k) (wrote-asleep (c .setup) (coreOf c) e a) in
-    asleep-by (Holds k e c) e c (darkens k e w (c .registers .shown)) (λ b. level-keeps k e w true (c .registers .outside) (c .registers .shown) (c .registers .shown) (same k e w true (c .registers .shown) n)) (stays-as k e c w n))
+    asleep-by (Holds k e c) e c (darkens k e w (c .registers .shown)) (λ b. level-keeps k e w true (c .registers .«outside_level») (c .registers .shown) (c .registers .shown) (same k e w true (c .registers .shown) n)) (stays-as k e c w n))
     (λ f. stays-as k e c w (ap (clears k) (wrote-unfit (c .setup) (coreOf c) e f)))
   where
     w : Store

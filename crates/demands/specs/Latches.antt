@@ -11,7 +11,7 @@ use Rattle.events.specs.declared.BusEvent.{BusEvent}
 use Rattle.events.specs.declared.BusEvent.the-variants.{Start, Stop, Out, In}
 use Rattle.events.specs.Event.{Event, Por, Boot, Pin, Xready, Scan, Temp, Count, Sense, Load, OnBus, Level}
 use Rattle.events.specs.Fault.{Fault, Ov, Uv, Scd, Ocd}
-use Rattle.settings.specs.Bit.{bit}
+use Rattle.bits.specs.Bit.{bit}
 use Rattle.bus.specs.declared.Store.{Store}
 use Rattle.bus.specs.declared.Outed.{Outed}
 use Rattle.bus.specs.declared.Store.the-variants.{Nothing, At}
@@ -20,13 +20,13 @@ use Rattle.registers.specs.declared.Status.{Status}
 use Rattle.registers.specs.declared.Shown.{Shown}
 use Rattle.registers.specs.State.{dark, alert, withStatus}
 use Rattle.registers.specs.Write.{statusOf, without, holdsChg, holdsDsg, driven, shownWith}
-use Rattle.registers.specs.Judging.{heldAt}
+use Rattle.registers.specs.Judging.{pulledAt}
 use Rattle.registers.specs.Fault.{bitOf, driveOf, raised, overridden, readied, counting}
 use Rattle.protection.specs.Rule.{risen}
 use Rattle.chip.specs.declared.Chip.{Chip}
 use Rattle.chip.specs.Chip.{stored, onBus, normally, next}
 use Rattle.chip.specs.Core.{coreOf}
-use Rattle.chip.specs.Moves.{next-by, stored-by, asleep-by}
+use Rattle.chip.specs.MovesLaws.{next-by, stored-by, asleep-by}
 use Rattle.demands.specs.Demand.{wrote, clears, chip, shown, outside, drive, alerted, core, StaysAwake, Asked}
 use Rattle.demands.specs.Ship.{in-ship-is}
 use Rattle.demands.specs.History.{setup-is, core-is, awake-is}
@@ -39,16 +39,16 @@ pub data StatusBit : Type 0 where
   FaultBit : Fault → StatusBit
 
 abbrev pub bitAt : StatusBit → Status → Bool
-bitAt CcReady t = t .ready
+bitAt CcReady t = t .«cc_ready»
 bitAt XreadyBit t = t .xready
-bitAt OvrdAlert t = t .ovrd
+bitAt OvrdAlert t = t .«ovrd_alert»
 bitAt (FaultBit k) t = bitOf k t
 
 -- whether a drive is on that the bit puts off: CC_READY puts off none, OVRD_ALERT and XREADY both
 abbrev pub drivenAt : StatusBit → Shown → Bool
 drivenAt CcReady s = false
-drivenAt XreadyBit s = s .chg || s .dsg
-drivenAt OvrdAlert s = s .chg || s .dsg
+drivenAt XreadyBit s = s .«chg_on» || s .«dsg_on»
+drivenAt OvrdAlert s = s .«chg_on» || s .«dsg_on»
 drivenAt (FaultBit k) s = driveOf k s
 
 -- a one written to the bit
@@ -115,15 +115,15 @@ thinner true false false false false h = refl
 raises : {b : StatusBit} → Other b → (l on : Bool) (r : Fault → Bool) (s : Shown) → Latching b Nothing l on s (raised r s)
 unfolding Latching
 raises ready l on r s = kept refl refl (λ x. x)
-raises xready l on r s = kept refl refl (λ x. thinner (s .status .xready) (s .chg) (s .dsg) (not (r Ov)) (not (r Uv || r Scd || r Ocd)) x)
-raises ovrd l on r s = kept refl refl (λ x. thinner (s .status .ovrd) (s .chg) (s .dsg) (not (r Ov)) (not (r Uv || r Scd || r Ocd)) x)
+raises xready l on r s = kept refl refl (λ x. thinner (s .status .xready) (s .«chg_on») (s .«dsg_on») (not (r Ov)) (not (r Uv || r Scd || r Ocd)) x)
+raises ovrd l on r s = kept refl refl (λ x. thinner (s .status .«ovrd_alert») (s .«chg_on») (s .«dsg_on») (not (r Ov)) (not (r Uv || r Scd || r Ocd)) x)
 
 -- PIN, XREADY and COUNT
 puts-off : {b : StatusBit} → Other b → (l on : Bool) (s : Shown) → Latching b Nothing l on s (overridden s) × Latching b Nothing l on s (readied s) × Latching b Nothing l on s (counting s)
 unfolding Latching
 puts-off ready l on s = (kept refl refl (λ x. x), kept refl refl (λ x. x), rose refl refl refl)
 puts-off xready l on s = (kept refl refl (λ x. and-false (s .status .xready)), rose refl refl refl, kept refl refl (λ x. x))
-puts-off ovrd l on s = (rose refl refl refl, kept refl refl (λ x. and-false (s .status .ovrd)), kept refl refl (λ x. x))
+puts-off ovrd l on s = (rose refl refl refl, kept refl refl (λ x. and-false (s .status .«ovrd_alert»)), kept refl refl (λ x. x))
 
 -- the two writes
 clearing : {b : StatusBit} → Other b → (a v : ℕ) (l on : Bool) (s : Shown) → a ≡ 0x00 → Latching b (At a v) l on s (withStatus (without (statusOf v) (s .status)) s)
@@ -152,7 +152,7 @@ driving ready a v l on s e = rw e (kept refl refl (λ x. x))
 driving xready a v l on s e =
     rw e (kept refl refl (λ x. held (s .status .xready) (holdsChg (s .status)) (holdsDsg (s .status)) (bit v 1) (bit v 2) (λ h. search (or-left, or-right) depth 8) (λ h. search (or-left, or-right) depth 8)))
 driving ovrd a v l on s e =
-    rw e (kept refl refl (λ x. held (s .status .ovrd) (holdsChg (s .status)) (holdsDsg (s .status)) (bit v 1) (bit v 2) (λ h. search (or-left, or-right) depth 8) (λ h. search (or-left, or-right) depth 8)))
+    rw e (kept refl refl (λ x. held (s .status .«ovrd_alert») (holdsChg (s .status)) (holdsDsg (s .status)) (bit v 1) (bit v 2) (λ h. search (or-left, or-right) depth 8) (λ h. search (or-left, or-right) depth 8)))
 
 writes : {b : StatusBit} → Other b → (a v : ℕ) (l on : Bool) (s : Shown) → Latching b (At a v) l on s (shownWith a v s)
 unfolding shownWith
@@ -168,62 +168,62 @@ over-keeps ready w on s t h = record { stays = h .stays; down = h .down; off = h
 over-keeps xready w on s t h = record { stays = h .stays; down = h .down; off = λ x. and-false (t .status .xready) }
 over-keeps ovrd w on s t h = record { stays = λ x y z. refl; down = λ x y. absurd (true≢false y); off = λ x. refl }
 
-level-keeps : {b : StatusBit} → Other b → (w : Store) (l on : Bool) (s t : Shown) → Latching b w l on s t → Latching b w l on s (heldAt l t)
+level-keeps : {b : StatusBit} → Other b → (w : Store) (l on : Bool) (s t : Shown) → Latching b w l on s t → Latching b w l on s (pulledAt l t)
 level-keeps o w false on s t h = h
 level-keeps {b} o w true on s t h = by-cond (Latching b w true on s) (alert (t .status)) t (overridden t) (λ i. h) (λ i. over-keeps o w on s t h)
 
 -- ── each event ──
 -- e moves c to d
 abbrev Holds : StatusBit → Event → Chip → Chip → Type 0
-Holds b e c d = Latching b (wrote (c .setup) (coreOf c) e) (d .registers .outside) (d .awake) (c .registers .shown) (d .registers .shown)
+Holds b e c d = Latching b (wrote (c .setup) (coreOf c) e) (d .registers .«outside_level») (d .normal) (c .registers .shown) (d .registers .shown)
 
 module _ {b : StatusBit} (other : Other b) where
-  stays-as : (w : Store) (c : Chip) → clearsAt b w ≡ false → Latching b w (c .registers .outside) (c .awake) (c .registers .shown) (c .registers .shown)
-  stays-as w c n = same b w (c .registers .outside) (c .awake) (c .registers .shown) n
+  stays-as : (w : Store) (c : Chip) → clearsAt b w ≡ false → Latching b w (c .registers .«outside_level») (c .normal) (c .registers .shown) (c .registers .shown)
+  stays-as w c n = same b w (c .registers .«outside_level») (c .normal) (c .registers .shown) n
 
-  judged-keeps : (e : Event) (c : Chip) → Latching b Nothing (c .registers .outside) (c .awake) (c .registers .shown) (raised (risen (c .setup .floor) (c .registers .settings) (c .runs) e) (c .registers .shown))
-  judged-keeps e c = raises other (c .registers .outside) (c .awake) (risen (c .setup .floor) (c .registers .settings) (c .runs) e) (c .registers .shown)
+  judged-keeps : (e : Event) (c : Chip) → Latching b Nothing (c .registers .«outside_level») (c .normal) (c .registers .shown) (raised (risen (c .setup .floor) (c .registers .settings) (c .runs) e) (c .registers .shown))
+  judged-keeps e c = raises other (c .registers .«outside_level») (c .normal) (risen (c .setup .floor) (c .registers .settings) (c .runs) e) (c .registers .shown)
 
-  store-keeps : (c : Chip) (o : Outed) → Latching b (o .store) (stored (o .line) (o .store) c .registers .outside) (stored (o .line) (o .store) c .awake) (c .registers .shown) (stored (o .line) (o .store) c .registers .shown)
+  store-keeps : (c : Chip) (o : Outed) → Latching b (o .store) (stored (o .line) (o .store) c .registers .«outside_level») (stored (o .line) (o .store) c .normal) (c .registers .shown) (stored (o .line) (o .store) c .registers .shown)
   store-keeps c o =
-      stored-by (λ d. Latching b (o .store) (d .registers .outside) (d .awake) (c .registers .shown) (d .registers .shown)) (o .line) (o .store) c
+      stored-by (λ d. Latching b (o .store) (d .registers .«outside_level») (d .normal) (c .registers .shown) (d .registers .shown)) (o .line) (o .store) c
       (λ t. stays-as (o .store) c (ap (clearsAt b) t))
       (λ x v t s. darkens other (o .store) false (c .registers .shown))
-      (λ x v t s. subst (λ w. Latching b w (c .registers .outside) (c .awake) (c .registers .shown) (shownWith x v (c .registers .shown))) (sym t) (writes other x v (c .registers .outside) (c .awake) (c .registers .shown)))
+      (λ x v t s. subst (λ w. Latching b w (c .registers .«outside_level») (c .normal) (c .registers .shown) (shownWith x v (c .registers .shown))) (sym t) (writes other x v (c .registers .«outside_level») (c .normal) (c .registers .shown)))
 
-  bus-keeps : (e : BusEvent) (c : Chip) → c .awake ≡ true → Holds b (OnBus e) c (onBus e c .chip)
+  bus-keeps : (e : BusEvent) (c : Chip) → c .normal ≡ true → Holds b (OnBus e) c (onBus e c .chip)
   bus-keeps Start c a = stays-as Nothing c refl
   bus-keeps Stop c a = stays-as Nothing c refl
   bus-keeps (Out v) c a =
       let o : Outed = outed (c .setup) (c .bus .line) v in
-      subst (λ w. Latching b w (stored (o .line) (o .store) c .registers .outside) (stored (o .line) (o .store) c .awake) (c .registers .shown) (stored (o .line) (o .store) c .registers .shown)) (sym (when-true (c .awake) (o .store) Nothing a)) (store-keeps c o)
+      subst (λ w. Latching b w (stored (o .line) (o .store) c .registers .«outside_level») (stored (o .line) (o .store) c .normal) (c .registers .shown) (stored (o .line) (o .store) c .registers .shown)) (sym (when-true (c .normal) (o .store) Nothing a)) (store-keeps c o)
   bus-keeps (In nack) c a = stays-as Nothing c refl
 
-  normal-keeps : (e : Event) (c : Chip) → c .awake ≡ true → Holds b e c (normally e c .chip)
+  normal-keeps : (e : Event) (c : Chip) → c .normal ≡ true → Holds b e c (normally e c .chip)
   normal-keeps Por c a = darkens other Nothing false (c .registers .shown)
   normal-keeps Boot c a = stays-as Nothing c refl
   normal-keeps Pin c a =
-      by-cond (Latching b Nothing (c .registers .outside) (c .awake) (c .registers .shown)) (alert (c .registers .shown .status)) (c .registers .shown) (overridden (c .registers .shown))
-      (λ h. stays-as Nothing c refl) (λ h. puts-off other (c .registers .outside) (c .awake) (c .registers .shown) .0)
-  normal-keeps Xready c a = puts-off other (c .registers .outside) (c .awake) (c .registers .shown) .1
+      by-cond (Latching b Nothing (c .registers .«outside_level») (c .normal) (c .registers .shown)) (alert (c .registers .shown .status)) (c .registers .shown) (overridden (c .registers .shown))
+      (λ h. stays-as Nothing c refl) (λ h. puts-off other (c .registers .«outside_level») (c .normal) (c .registers .shown) .0)
+  normal-keeps Xready c a = puts-off other (c .registers .«outside_level») (c .normal) (c .registers .shown) .1
   normal-keeps (Scan xs) c a = judged-keeps (Scan xs) c
   normal-keeps (Temp xs) c a = stays-as Nothing c refl
   normal-keeps (Count n) c a =
-      by-cond (Latching b Nothing (c .registers .outside) (c .awake) (c .registers .shown)) (c .registers .settings .counter || c .registers .shown .oneshot) (counting (c .registers .shown)) (c .registers .shown)
-      (λ h. puts-off other (c .registers .outside) (c .awake) (c .registers .shown) .2) (λ h. stays-as Nothing c refl)
+      by-cond (Latching b Nothing (c .registers .«outside_level») (c .normal) (c .registers .shown)) (c .registers .settings .«cc_en» || c .registers .shown .«cc_oneshot») (counting (c .registers .shown)) (c .registers .shown)
+      (λ h. puts-off other (c .registers .«outside_level») (c .normal) (c .registers .shown) .2) (λ h. stays-as Nothing c refl)
   normal-keeps (Sense v) c a = judged-keeps (Sense v) c
   normal-keeps (Load l) c a = stays-as Nothing c refl
   normal-keeps (OnBus e) c a = bus-keeps e c a
-  normal-keeps (Level l) c a = same b Nothing l (c .awake) (c .registers .shown) refl
+  normal-keeps (Level l) c a = same b Nothing l (c .normal) (c .registers .shown) refl
 
   other-keeps : (e : Event) (c : Chip) → Holds b e c (next e c)
   other-keeps e c =
       let w : Store = wrote (c .setup) (coreOf c) e in
       next-by (Holds b e c) e c
-      (λ f a. level-keeps other w (normally e c .chip .registers .outside) (normally e c .chip .awake) (c .registers .shown) (normally e c .chip .registers .shown) (normal-keeps e c a))
+      (λ f a. level-keeps other w (normally e c .chip .registers .«outside_level») (normally e c .chip .normal) (c .registers .shown) (normally e c .chip .registers .shown) (normal-keeps e c a))
       (λ f a. let n : clearsAt b w ≡ false = ap (clearsAt b) (wrote-asleep (c .setup) (coreOf c) e a) in
       asleep-by (Holds b e c) e c (darkens other w false (c .registers .shown))
-      (λ h. level-keeps other w (c .registers .outside) true (c .registers .shown) (c .registers .shown) (same b w (c .registers .outside) true (c .registers .shown) n)) (stays-as w c n))
+      (λ h. level-keeps other w (c .registers .«outside_level») true (c .registers .shown) (c .registers .shown) (same b w (c .registers .«outside_level») true (c .registers .shown) n)) (stays-as w c n))
       (λ f. stays-as w c (ap (clearsAt b) (wrote-unfit (c .setup) (coreOf c) e f)))
 
 -- the four faults' bits, by Latch
@@ -263,11 +263,11 @@ module _ (u : Setup) where
   UnclearedAt b [] past = Unit
   UnclearedAt b (e ∷ later) past = UnclearedAt b later past × (clearsAt b (wrote u (core u (later ++ past)) e) ≡ false)
 
-  one : (b : StatusBit) (past : List Event) (e : Event) → Latching b (wrote u (core u past) e) (outside u (e ∷ past)) (core u (e ∷ past) .awake) (shown u past) (shown u (e ∷ past))
+  one : (b : StatusBit) (past : List Event) (e : Event) → Latching b (wrote u (core u past) e) (outside u (e ∷ past)) (core u (e ∷ past) .normal) (shown u past) (shown u (e ∷ past))
   unfolding chip
   one b past e =
       rw (← core-is u (e ∷ past))
-      (subst (λ w. Latching b w (outside u (e ∷ past)) (next e (chip u past) .awake) (shown u past) (shown u (e ∷ past))) (λ i. wrote (setup-is u past i) (core-is u past i) e) (latching b e (chip u past)))
+      (subst (λ w. Latching b w (outside u (e ∷ past)) (next e (chip u past) .normal) (shown u past) (shown u (e ∷ past))) (λ i. wrote (setup-is u past i) (core-is u past i) e) (latching b e (chip u past)))
 
   off-while-up : (b : StatusBit) (past : List Event) → upAt b past && onAt b past ≡ false
   unfolding chip Latching
@@ -299,7 +299,7 @@ module _ (u : Setup) where
   bit-lowers b past e h g = one b past e .down h g
 
   -- .. and on entering SHIP
-  pub bit-down-in-ship : (b : StatusBit) (past : List Event) → core u past .awake ≡ false → upAt b past ≡ false
+  pub bit-down-in-ship : (b : StatusBit) (past : List Event) → core u past .normal ≡ false → upAt b past ≡ false
   bit-down-in-ship b past a = ap (λ c. bitAt b (c .registers .shown .status)) (in-ship-is u past (awake-is u past ∙ a)) ∙ dark-down b
     where
       dark-down : (b : StatusBit) → bitAt b (dark .status) ≡ false
@@ -317,14 +317,14 @@ module _ (u : Setup) where
   neither true b h = (h, absurd (true≢false h))
 
   -- OVRD_ALERT and XREADY hold both drives off
-  pub ovrd-holds-both : (past : List Event) → upAt OvrdAlert past ≡ true → (shown u past .chg ≡ false) × (shown u past .dsg ≡ false)
-  ovrd-holds-both past p = neither (shown u past .chg) (shown u past .dsg) (rw p at (off-while-up OvrdAlert past))
+  pub ovrd-holds-both : (past : List Event) → upAt OvrdAlert past ≡ true → (shown u past .«chg_on» ≡ false) × (shown u past .«dsg_on» ≡ false)
+  ovrd-holds-both past p = neither (shown u past .«chg_on») (shown u past .«dsg_on») (rw p at (off-while-up OvrdAlert past))
 
-  pub xready-holds-both : (past : List Event) → upAt XreadyBit past ≡ true → (shown u past .chg ≡ false) × (shown u past .dsg ≡ false)
-  xready-holds-both past p = neither (shown u past .chg) (shown u past .dsg) (rw p at (off-while-up XreadyBit past))
+  pub xready-holds-both : (past : List Event) → upAt XreadyBit past ≡ true → (shown u past .«chg_on» ≡ false) × (shown u past .«dsg_on» ≡ false)
+  xready-holds-both past p = neither (shown u past .«chg_on») (shown u past .«dsg_on») (rw p at (off-while-up XreadyBit past))
 
   -- a drive that either held comes on again only if some event since then is a write that asks for it
-  drive-off : (k : Fault) (past : List Event) → (shown u past .chg ≡ false) × (shown u past .dsg ≡ false) → drive u k past ≡ false
+  drive-off : (k : Fault) (past : List Event) → (shown u past .«chg_on» ≡ false) × (shown u past .«dsg_on» ≡ false) → drive u k past ≡ false
   drive-off Ov past h = h .0
   drive-off Uv past h = h .1
   drive-off Scd past h = h .1

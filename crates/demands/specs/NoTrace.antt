@@ -14,7 +14,7 @@ use Rattle.bus.specs.declared.Phase.the-variants.{Idle, Address, Writing, Check
 use Rattle.bus.specs.Bus.{checked, outed, taken, given, owing, refuses, stores}
 use Rattle.chip.specs.declared.Chip.{Chip}
 use Rattle.chip.specs.declared.Stepped.{Stepped}
-use Rattle.chip.specs.Chip.{quiet, answered, inShip, sent, onBus, settled, stepped, next}
+use Rattle.chip.specs.Chip.{numbered, answered, inShip, sent, onBus, settled, stepped, next}
 use Rattle.chip.specs.Calm.{Calmed, ship-calm, calm-next, settles}
 use Rattle.demands.specs.Demand.{chip}
 use Rattle.demands.specs.History.{calm-is}
@@ -25,9 +25,9 @@ use Rattle.demands.specs.Opened.{mapped, apart, bus-is, bus-still, reset
 -- `base` is the chip but for its phase: the full stream's chip has the one phase, the remaining stream's chip the other
 record Claim (es : List Event) : Type 0 where
   whole : (c : Chip) → Calmed c → played c (remains Whole c es) ≡ remained Whole c es
-  opened : (v t s : ℕ) (base : Chip) → Calmed base → base .awake ≡ true → spoiled (phased (Checking v t) base) es ≡ true
+  opened : (v t s : ℕ) (base : Chip) → Calmed base → base .normal ≡ true → spoiled (phased (Checking v t) base) es ≡ true
       → played (phased (Writing s) base) (remains Open (phased (Checking v t) base) es) ≡ remained Open (phased (Checking v t) base) es
-  lost : (s : ℕ) (base : Chip) → Calmed base → base .awake ≡ true
+  lost : (s : ℕ) (base : Chip) → Calmed base → base .normal ≡ true
       → played (phased (Writing s) base) (remains Lost (phased Idle base) es) ≡ remained Lost (phased Idle base) es
 
 -- an event by its sort
@@ -84,23 +84,23 @@ module _ (es : List Event) (ih : Claim es) where
   Goes m d x = played d (remains m (x .chip) es) ≡ remained m (x .chip) es
 
   abbrev on : Mode → Sort → Stepped → Mode
-  on m t x = then m t (spoiled (x .chip) es) (x .chip .awake)
+  on m t x = then m t (spoiled (x .chip) es) (x .chip .normal)
 
   -- while it is awake the stream is still lost
   lost-on : (P : Mode → Type 0) (w : Bool) → w ≡ true → P Lost → P (cond (not w) Whole Lost)
   lost-on P w h p = subst P (sym (ap (λ v. cond (not v) Whole Lost) h)) p
 
   -- its CRC was refused: the full stream's bus is idle, the remaining stream's is writing
-  lost-step : (e : Event) (s : ℕ) (base : Chip) → Calmed base → base .awake ≡ true → View e
+  lost-step : (e : Event) (s : ℕ) (base : Chip) → Calmed base → base .normal ≡ true → View e
       → played (phased (Writing s) base) (remains Lost (phased Idle base) (e ∷ es)) ≡ remained Lost (phased Idle base) (e ∷ es)
   unfolding played remains remained outed taken owing given
   lost-step e s base m a (chips _ h) =
       rw h (subst₂ (λ x y. Stays (on Lost Chips x) e x y) (sym (apart Idle e base h a .0)) (sym (apart (Writing s) e base h a .0))
-      (lost-on (λ w. Stays w e (mapped Idle (stepped e base)) (mapped (Writing s) (stepped e base))) (next e base .awake) (apart Idle e base h a .1)
+      (lost-on (λ w. Stays w e (mapped Idle (stepped e base)) (mapped (Writing s) (stepped e base))) (next e base .normal) (apart Idle e base h a .1)
       (ap (_∷_ (seen e base)) (ih .lost s (next e base) (calm-next e base m) (apart Idle e base h a .1)))))
   lost-step e s base m a resets =
       subst₂ (λ x y. Stays (on Lost Resets x) Por x y) (sym (reset-is (phased Idle base))) (sym (reset-is (phased (Writing s) base)))
-      (ap (_∷_ (seenOf Por (quiet 0 (inShip (base .setup))))) (ih .whole (inShip (base .setup)) (ship-calm (base .setup))))
+      (ap (_∷_ (seenOf Por (numbered 0 (inShip (base .setup))))) (ih .whole (inShip (base .setup)) (ship-calm (base .setup))))
   lost-step e s base m a starts =
       subst₂ (λ x y. Stays (on Lost Frames x) (OnBus Start) x y) (sym (bus-still Start (phased Idle base) a m)) (sym (bus-still Start (phased (Writing s) base) a m))
       (ap (_∷_ (seenOf (OnBus Start) (onBus Start base))) (ih .whole (phased Address base) m))
@@ -109,17 +109,17 @@ module _ (es : List Event) (ih : Claim es) where
       (ap (_∷_ (seenOf (OnBus Stop) (onBus Stop base))) (ih .whole (phased Idle base) m))
   lost-step e s base m a (sends b) =
       subst (λ x. Goes (on Lost Sends x) (phased (Writing s) base) x) (sym (bus-still (Out b) (phased Idle base) a m))
-      (lost-on (λ w. Goes w (phased (Writing s) base) (answered 1 (phased Idle base))) (base .awake) a (ih .lost s base m a))
+      (lost-on (λ w. Goes w (phased (Writing s) base) (answered 1 (phased Idle base))) (base .normal) a (ih .lost s base m a))
   lost-step e s base m a (takes nack) =
       subst (λ x. Goes (on Lost Takes x) (phased (Writing s) base) x) (sym (bus-still (In nack) (phased Idle base) a m))
-      (lost-on (λ w. Goes w (phased (Writing s) base) (answered 0xFF (phased Idle base))) (base .awake) a (ih .lost s base m a))
+      (lost-on (λ w. Goes w (phased (Writing s) base) (answered 0xFF (phased Idle base))) (base .normal) a (ih .lost s base m a))
 
   -- its CRC has not come: the full stream's chip waits for it, the remaining stream's is writing
   not-open : {A : Type 0} (c : Chip) → waiting c ≡ false → spoiled c es ≡ true → A
   not-open c w h = absurd (true≢false (sym (spoiled-waits c es h) ∙ w))
 
   -- the CRC is refused
-  denied : (v t x : ℕ) (base : Chip) → Calmed base → base .awake ≡ true → spoiled (phased (Checking v t) base) (OnBus (Out x) ∷ es) ≡ true
+  denied : (v t x : ℕ) (base : Chip) → Calmed base → base .normal ≡ true → spoiled (phased (Checking v t) base) (OnBus (Out x) ∷ es) ≡ true
       → stepped (OnBus (Out x)) (phased (Checking v t) base) ≡ answered 1 (phased Idle base)
   unfolding outed checked
   denied v t x base m a h =
@@ -131,19 +131,19 @@ module _ (es : List Event) (ih : Claim es) where
       by true h = absurd (true≢false (sym h))
       by false h = settles (answered 1 (phased Idle base)) m
 
-  open-step : (e : Event) (v t s : ℕ) (base : Chip) → Calmed base → base .awake ≡ true → spoiled (phased (Checking v t) base) (e ∷ es) ≡ true → View e
+  open-step : (e : Event) (v t s : ℕ) (base : Chip) → Calmed base → base .normal ≡ true → spoiled (phased (Checking v t) base) (e ∷ es) ≡ true → View e
       → played (phased (Writing s) base) (remains Open (phased (Checking v t) base) (e ∷ es)) ≡ remained Open (phased (Checking v t) base) (e ∷ es)
   unfolding played remains remained taken owing given
   open-step e v t s base m a h (chips _ k) =
       let p : stepped e (phased (Checking v t) base) ≡ mapped (Checking v t) (stepped e base) = apart (Checking v t) e base k a .0 in
-      let w : next e base .awake ≡ true = apart Idle e base k a .1 in
+      let w : next e base .normal ≡ true = apart Idle e base k a .1 in
       rw k (subst₂ (λ x y. Stays Open e x y) (sym p) (sym (apart (Writing s) e base k a .0))
       (ap (_∷_ (seen e base)) (ih .opened v t s (next e base) (calm-next e base m) w (subst (λ x. spoiled (x .chip) es ≡ true) p (spoiled-on (phased (Checking v t) base) e es (rw k) h)))))
   open-step e v t s base m a h resets = not-open (inShip (base .setup)) refl (subst (λ x. spoiled (x .chip) es ≡ true) (reset-is (phased (Checking v t) base)) (spoiled-on (phased (Checking v t) base) Por es refl h))
   open-step e v t s base m a h starts =
-      not-open (phased Address base) (and-false (base .awake)) (subst (λ x. spoiled (x .chip) es ≡ true) (bus-still Start (phased (Checking v t) base) a m) (spoiled-on (phased (Checking v t) base) (OnBus Start) es refl h))
+      not-open (phased Address base) (and-false (base .normal)) (subst (λ x. spoiled (x .chip) es ≡ true) (bus-still Start (phased (Checking v t) base) a m) (spoiled-on (phased (Checking v t) base) (OnBus Start) es refl h))
   open-step e v t s base m a h stops =
-      not-open (phased Idle base) (and-false (base .awake)) (subst (λ x. spoiled (x .chip) es ≡ true) (bus-still Stop (phased (Checking v t) base) a m) (spoiled-on (phased (Checking v t) base) (OnBus Stop) es refl h))
+      not-open (phased Idle base) (and-false (base .normal)) (subst (λ x. spoiled (x .chip) es ≡ true) (bus-still Stop (phased (Checking v t) base) a m) (spoiled-on (phased (Checking v t) base) (OnBus Stop) es refl h))
   open-step e v t s base m a h (sends x) = subst (λ z. Goes Lost (phased (Writing s) base) z) (sym (denied v t x base m a h)) (ih .lost s base m a)
   open-step e v t s base m a h (takes nack) =
       subst₂ (λ x y. Stays Open (OnBus (In nack)) x y) (sym (bus-still (In nack) (phased (Checking v t) base) a m)) (sym (bus-still (In nack) (phased (Writing s) base) a m))

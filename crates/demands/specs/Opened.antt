@@ -17,8 +17,8 @@ use Rattle.bus.specs.declared.Phase.the-variants.{Idle, Address, Pointing, Writ
 use Rattle.bus.specs.Bus.{addressed, fed, checked, outIn, outed, goes, refuses, stores}
 use Rattle.chip.specs.declared.Chip.{Chip}
 use Rattle.chip.specs.declared.Stepped.{Stepped}
-use Rattle.chip.specs.Chip.{quiet, inShip, stored, onBus, watched, settled, normally, asleep, happened, stepped, next}
-use Rattle.chip.specs.Moves.{normal-is, stored-by}
+use Rattle.chip.specs.Chip.{numbered, inShip, stored, onBus, watched, settled, normally, asleep, happened, stepped, next}
+use Rattle.chip.specs.MovesLaws.{normal-is, stored-by}
 use Rattle.chip.specs.Calm.{Calmed, calm-watched, settles}
 use Rattle.demands.specs.Spoiled.{Chips, sortOf, isSends, checks, waiting, spoiled, phased}
 
@@ -26,7 +26,7 @@ use Rattle.demands.specs.Spoiled.{Chips, sortOf, isSends, checks, waitin
 abbrev pub mapped : Phase → Stepped → Stepped
 mapped p s = record { chip = phased p (s .chip); number = s .number; flag = s .flag; byte = s .byte }
 
-apart-normal : (p : Phase) (e : Event) (c : Chip) → sortOf e ≡ Chips → (normally e (phased p c) ≡ mapped p (normally e c)) × (normally e c .chip .awake ≡ c .awake)
+apart-normal : (p : Phase) (e : Event) (c : Chip) → sortOf e ≡ Chips → (normally e (phased p c) ≡ mapped p (normally e c)) × (normally e c .chip .normal ≡ c .normal)
 apart-normal p Por c h = (cc, cc)
 apart-normal p Boot c h = (refl, refl)
 apart-normal p Pin c h = (refl, refl)
@@ -42,37 +42,37 @@ apart-normal p (OnBus (Out b)) c h = (cc, cc)
 apart-normal p (OnBus (In nack)) c h = (cc, cc)
 apart-normal p (Level l) c h = (refl, refl)
 
-pub apart : (p : Phase) (e : Event) (c : Chip) → sortOf e ≡ Chips → c .awake ≡ true → (stepped e (phased p c) ≡ mapped p (stepped e c)) × (next e c .awake ≡ true)
+pub apart : (p : Phase) (e : Event) (c : Chip) → sortOf e ≡ Chips → c .normal ≡ true → (stepped e (phased p c) ≡ mapped p (stepped e c)) × (next e c .normal ≡ true)
 unfolding stepped happened
-apart p e c h a = by (fits e) (c .awake) a
+apart p e c h a = by (fits e) (c .normal) a
   where
     by : (f w : Bool) → w ≡ true
-        → (cond f (cond w (settled (normally e (phased p c))) (asleep e (phased p c))) (quiet 3 (phased p c)) ≡ mapped p (cond f (cond w (settled (normally e c)) (asleep e c)) (quiet 3 c)))
-        × (cond f (cond w (settled (normally e c)) (asleep e c)) (quiet 3 c) .chip .awake ≡ true)
+        → (cond f (cond w (settled (normally e (phased p c))) (asleep e (phased p c))) (numbered 3 (phased p c)) ≡ mapped p (cond f (cond w (settled (normally e c)) (asleep e c)) (numbered 3 c)))
+        × (cond f (cond w (settled (normally e c)) (asleep e c)) (numbered 3 c) .chip .normal ≡ true)
     by true true w = (ap settled (apart-normal p e c h .0), apart-normal p e c h .1 ∙ a)
     by true false w = (cc, cc)
     by false w z = (refl, a)
 
 -- ── a bus event in NORMAL ──
-pub bus-is : (b : BusEvent) (c : Chip) → c .awake ≡ true → stepped (OnBus b) c ≡ settled (onBus b c)
+pub bus-is : (b : BusEvent) (c : Chip) → c .normal ≡ true → stepped (OnBus b) c ≡ settled (onBus b c)
 unfolding fits
 bus-is b c a = normal-is (OnBus b) c refl a
 
 -- where it leaves no work for the outside level
-pub bus-still : (b : BusEvent) (c : Chip) → c .awake ≡ true → Calmed (onBus b c .chip) → stepped (OnBus b) c ≡ onBus b c
+pub bus-still : (b : BusEvent) (c : Chip) → c .normal ≡ true → Calmed (onBus b c .chip) → stepped (OnBus b) c ≡ onBus b c
 bus-still b c a m = bus-is b c a ∙ settles (onBus b c) m
 
-pub reset-is : (c : Chip) → stepped Por c ≡ quiet 0 (inShip (c .setup))
+pub reset-is : (c : Chip) → stepped Por c ≡ numbered 0 (inShip (c .setup))
 unfolding stepped happened fits
-reset-is c = by (c .awake)
+reset-is c = by (c .normal)
   where
-    by : (a : Bool) → cond a (settled (normally Por c)) (asleep Por c) ≡ quiet 0 (inShip (c .setup))
+    by : (a : Bool) → cond a (settled (normally Por c)) (asleep Por c) ≡ numbered 0 (inShip (c .setup))
     by true = refl
     by false = refl
 
-asleep-out : (b : ℕ) (c : Chip) → c .awake ≡ false → next (OnBus (Out b)) c ≡ c
+asleep-out : (b : ℕ) (c : Chip) → c .normal ≡ false → next (OnBus (Out b)) c ≡ c
 unfolding stepped happened fits
-asleep-out b c a = by (c .awake) a
+asleep-out b c a = by (c .normal) a
   where
     by : (w : Bool) → w ≡ false → cond w (settled (normally (OnBus (Out b)) c)) (asleep (OnBus (Out b)) c) .chip ≡ c
     by w h = rw h
@@ -128,22 +128,22 @@ opening u (Summing k) a b = λ h. absurd (true≢false (sym h))
 stored-waits : (l : Line) (t : Store) (c : Chip) → waiting (stored l t c) ≡ true → checks (l .phase) ≡ true
 stored-waits l t c =
     stored-by (λ d. waiting d ≡ true → checks (l .phase) ≡ true) l t c
-    (λ n h. and-right (c .awake) (checks (l .phase)) h)
+    (λ n h. and-right (c .normal) (checks (l .phase)) h)
     (λ a v n s h. cc)
-    (λ a v n s h. and-right (c .awake) (checks (l .phase)) h)
+    (λ a v n s h. and-right (c .normal) (checks (l .phase)) h)
 
 pub opens : (b : ℕ) (c : Chip) → Calmed c → waiting (next (OnBus (Out b)) c) ≡ true
-    → (s : ℕ) × (c ≡ phased (Writing s) c) × (next (OnBus (Out b)) c ≡ phased (Checking b (byteOn s b)) c) × (c .awake ≡ true)
+    → (s : ℕ) × (c ≡ phased (Writing s) c) × (next (OnBus (Out b)) c ≡ phased (Checking b (byteOn s b)) c) × (c .normal ≡ true)
 unfolding outed
 opens b c m h =
     (f .0, λ i. phased-at (f .1 i), ap (λ s. s .chip) (bus-is (Out b) c a) ∙ ap (λ o. watched (stored (o .line) (o .store) c)) (f .2) ∙ calm-watched (phased-at (Checking b (byteOn (f .0) b))) m, a)
   where
-    a : c .awake ≡ true
-    a = by (c .awake) refl
+    a : c .normal ≡ true
+    a = by (c .normal) refl
       where
-        by : (w : Bool) → c .awake ≡ w → w ≡ true
+        by : (w : Bool) → c .normal ≡ w → w ≡ true
         by true z = refl
-        by false z = sym (sym (and-left (c .awake) (checks (c .bus .line .phase)) (rw (asleep-out b c z) at h)) ∙ z)
+        by false z = sym (sym (and-left (c .normal) (checks (c .bus .line .phase)) (rw (asleep-out b c z) at h)) ∙ z)
 
     o : Outed
     o = outIn (c .setup) (c .bus .line .phase) (c .bus .line .pointer) b

@@ -11,8 +11,8 @@ use Rattle.events.specs.declared.Setup.{Setup}
 use Rattle.events.specs.Event.{Event, Scan, Sense, fits, within, senseFits}
 use Rattle.events.specs.Fault.{Ov, Uv, Scd, Ocd}
 use Rattle.settings.specs.declared.Settings.{Settings}
-use Rattle.settings.specs.Bit.{bit}
-use Rattle.scan.specs.Scan.{someAbove, someBetween}
+use Rattle.bits.specs.Bit.{bit}
+use Rattle.cell_counts.specs.Scan.{someAbove, someBetween}
 use Rattle.protection.specs.Rule.{rule, over, under, beyond, scdLimit, ocdLimit}
 use Rattle.demands.specs.Demand.{up, Accepted, standing, said, delay, Due}
 use Rattle.demands.specs.Theorem.{rising}
@@ -22,13 +22,13 @@ module _ (u : Setup) (past : List Event) where
   module _ (xs : List ℕ) where
     -- OV: ADC_EN, and some count above 8,200 + 16 × OV_TRIP
     pub ov-verdict : said u Ov past (Scan xs)
-        ≡ cond (within 16383 xs) ((standing u past .adc && someAbove (8200 + 16 * standing u past .overtrip) xs) ∷ []) []
+        ≡ cond (within 16383 xs) ((standing u past .«adc_en» && someAbove (8200 + 16 * standing u past .«ov_trip») xs) ∷ []) []
     unfolding fits rule over
     ov-verdict = refl
 
     -- UV: ADC_EN, and some count not below the floor and below 4,096 + 16 × UV_TRIP
     pub uv-verdict : said u Uv past (Scan xs)
-        ≡ cond (within 16383 xs) ((standing u past .adc && someBetween (u .floor) (4096 + 16 * standing u past .undertrip) xs) ∷ []) []
+        ≡ cond (within 16383 xs) ((standing u past .«adc_en» && someBetween (u .floor) (4096 + 16 * standing u past .«uv_trip») xs) ∷ []) []
     unfolding fits rule under
     uv-verdict = refl
 
@@ -57,18 +57,18 @@ module _ (u : Setup) (past : List Event) where
     ocd-after-tick n = rising u Ocd past (Sense v) refl n
 
   -- ── the delays now set: scans and ticks, with DELAY_DIS one ──
-  pub ov-delay : delay u Ov past ≡ cond (standing u past .hasty) 1 (getD (4 ∷ 8 ∷ 16 ∷ 32 ∷ []) (standing u past .protect3 / 16 % 4) 0)
+  pub ov-delay : delay u Ov past ≡ cond (standing u past .«delay_dis») 1 (getD (4 ∷ 8 ∷ 16 ∷ 32 ∷ []) (standing u past .protect3 / 16 % 4) 0)
   unfolding rule
   ov-delay = refl
 
-  pub uv-delay : delay u Uv past ≡ cond (standing u past .hasty) 1 (getD (4 ∷ 16 ∷ 32 ∷ 64 ∷ []) (standing u past .protect3 / 64 % 4) 0)
+  pub uv-delay : delay u Uv past ≡ cond (standing u past .«delay_dis») 1 (getD (4 ∷ 16 ∷ 32 ∷ 64 ∷ []) (standing u past .protect3 / 64 % 4) 0)
   unfolding rule
   uv-delay = refl
 
-  pub scd-delay : delay u Scd past ≡ cond (standing u past .hasty) 1 (getD (3 ∷ 4 ∷ 7 ∷ 13 ∷ []) (standing u past .protect1 / 8 % 4) 0)
+  pub scd-delay : delay u Scd past ≡ cond (standing u past .«delay_dis») 1 (getD (3 ∷ 4 ∷ 7 ∷ 13 ∷ []) (standing u past .protect1 / 8 % 4) 0)
   unfolding rule
   scd-delay = refl
 
-  pub ocd-delay : delay u Ocd past ≡ cond (standing u past .hasty) 1 (getD (256 ∷ 640 ∷ 1280 ∷ 2560 ∷ 5120 ∷ 10240 ∷ 20480 ∷ 40960 ∷ []) (standing u past .protect2 / 16 % 8) 0)
+  pub ocd-delay : delay u Ocd past ≡ cond (standing u past .«delay_dis») 1 (getD (256 ∷ 640 ∷ 1280 ∷ 2560 ∷ 5120 ∷ 10240 ∷ 20480 ∷ 40960 ∷ []) (standing u past .protect2 / 16 % 8) 0)
   unfolding rule
   ocd-delay = refl

@@ -7,7 +7,7 @@ use Rattle.events.specs.declared.Event.{Event as Coded}
 use Rattle.events.specs.Event.{Event, Por, Boot, Pin, Xready, Scan, Temp, Count, Sense, Load, OnBus, Level, fits, ticksFit, Meant, means, ticks, unfit, meantOf}
 use Rattle.chip.specs.declared.Chip.{Chip}
 use Rattle.chip.specs.declared.Stepped.{Stepped}
-use Rattle.chip.specs.Chip.{quiet, settled, normally, asleep, happened, stepped, next, ticking, steppedAs, steppedBy}
+use Rattle.chip.specs.Chip.{numbered, settled, normally, asleep, happened, stepped, next, ticking, steppedAs, steppedBy}
 
 -- in NORMAL nothing in range is refused
 pub normal-done : (e : Event) (c : Chip) → normally e c .number ≡ 0
@@ -45,7 +45,7 @@ asleep-refused (Level l) c h = refl
 -- number 4, of an event whose values are in range, which the code's methods speak of
 pub refused-happened : (e : Event) (c : Chip) → (happened e c .number ≡ 0 → ⊥) → happened e c .chip ≡ c
 unfolding happened
-refused-happened e c h = by (c .awake) h
+refused-happened e c h = by (c .normal) h
   where
     by : (a : Bool) → (cond a (settled (normally e c)) (asleep e c) .number ≡ 0 → ⊥) → cond a (settled (normally e c)) (asleep e c) .chip ≡ c
     by true h = absurd (h (normal-done e c))
@@ -60,16 +60,16 @@ pub refused : (e : Event) (c : Chip) → (stepped e c .number ≡ 0 → ⊥) →
 unfolding stepped
 refused e c h = by (fits e) h
   where
-    by : (f : Bool) → (cond f (happened e c) (quiet 3 c) .number ≡ 0 → ⊥) → cond f (happened e c) (quiet 3 c) .chip ≡ c
+    by : (f : Bool) → (cond f (happened e c) (numbered 3 c) .number ≡ 0 → ⊥) → cond f (happened e c) (numbered 3 c) .chip ≡ c
     by true h = refused-happened e c h
     by false h = refl
 
 -- and 2, of what the code's event means
 pub refused-as : (m : Meant) (c : Chip) → (steppedAs m c .number ≡ 0 → ⊥) → steppedAs m c .chip ≡ c
 refused-as (means e) c h = refused e c h
-refused-as (ticks most v n) c h = in-ticks (ticksFit most v n) (c .awake) h
+refused-as (ticks most v n) c h = in-ticks (ticksFit most v n) (c .normal) h
   where
-    in-ticks : (f a : Bool) → (cond f (cond a (quiet 0 (ticking n v c)) (quiet 4 c)) (quiet 3 c) .number ≡ 0 → ⊥) → cond f (cond a (quiet 0 (ticking n v c)) (quiet 4 c)) (quiet 3 c) .chip ≡ c
+    in-ticks : (f a : Bool) → (cond f (cond a (numbered 0 (ticking n v c)) (numbered 4 c)) (numbered 3 c) .number ≡ 0 → ⊥) → cond f (cond a (numbered 0 (ticking n v c)) (numbered 4 c)) (numbered 3 c) .chip ≡ c
     in-ticks true true h = absurd (h refl)
     in-ticks true false h = refl
     in-ticks false a h = refl

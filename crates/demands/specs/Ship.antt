@@ -12,19 +12,19 @@ use Rattle.bus.specs.Bus.{outed}
 use Rattle.chip.specs.declared.Chip.{Chip}
 use Rattle.chip.specs.declared.Stepped.{Stepped}
 use Rattle.chip.specs.Chip.{inShip, onBus, watched, normally, next}
-use Rattle.chip.specs.Moves.{next-by, stored-by, asleep-by}
+use Rattle.chip.specs.MovesLaws.{next-by, stored-by, asleep-by}
 use Rattle.demands.specs.Demand.{chip}
 use Rattle.demands.specs.History.{setup-is}
 
 -- from u on: asleep, it is that chip
 abbrev Rests : Setup → Chip → Type 0
-Rests u d = d .awake ≡ false → d ≡ inShip u
+Rests u d = d .normal ≡ false → d ≡ inShip u
 
 -- an event that leaves the mode of a chip in NORMAL
-awake-rests : (u : Setup) (d : Chip) → d .awake ≡ true → Rests u d
+awake-rests : (u : Setup) (d : Chip) → d .normal ≡ true → Rests u d
 awake-rests u d a z = absurd (true≢false (sym a ∙ z))
 
-bus-rests : (b : BusEvent) (c : Chip) → c .awake ≡ true → Rests (c .setup) (onBus b c .chip)
+bus-rests : (b : BusEvent) (c : Chip) → c .normal ≡ true → Rests (c .setup) (onBus b c .chip)
 bus-rests Start c a = awake-rests (c .setup) (onBus Start c .chip) a
 bus-rests Stop c a = awake-rests (c .setup) (onBus Stop c .chip) a
 bus-rests (Out b) c a =
@@ -32,7 +32,7 @@ bus-rests (Out b) c a =
     (λ t z. absurd (true≢false (sym a ∙ z))) (λ x v t s z. refl) (λ x v t s z. absurd (true≢false (sym a ∙ z)))
 bus-rests (In nack) c a = awake-rests (c .setup) (onBus (In nack) c .chip) a
 
-normal-rests : (e : Event) (c : Chip) → c .awake ≡ true → Rests (c .setup) (normally e c .chip)
+normal-rests : (e : Event) (c : Chip) → c .normal ≡ true → Rests (c .setup) (normally e c .chip)
 normal-rests Por c a = λ z. refl
 normal-rests Boot c a = awake-rests (c .setup) (normally Boot c .chip) a
 normal-rests Pin c a = awake-rests (c .setup) (normally Pin c .chip) a
@@ -55,7 +55,7 @@ next-rests e c h =
     (λ f a. asleep-by (Rests (c .setup)) e c (λ z. refl) (λ w z. absurd (true≢false z)) h) (λ f. h)
 
 module _ (u : Setup) where
-  pub in-ship-is : (past : List Event) → chip u past .awake ≡ false → chip u past ≡ inShip u
+  pub in-ship-is : (past : List Event) → chip u past .normal ≡ false → chip u past ≡ inShip u
   unfolding chip
   in-ship-is [] z = refl
   in-ship-is (e ∷ past) z =

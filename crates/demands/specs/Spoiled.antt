@@ -12,7 +12,7 @@ use Rattle.bus.specs.declared.Phase.{Phase}
 use Rattle.bus.specs.declared.Phase.the-variants.{Idle, Address, Pointing, Writing, Checking, Reading, Summing}
 use Rattle.bus.specs.Bus.{withPhase, addressed, fed, checked, outed, taken, given, owing, afterData, afterSum, keeps}
 use Rattle.settings.specs.Write.{settingsWith}
-use Rattle.registers.specs.Write.{shownWith, balanceWith}
+use Rattle.registers.specs.Write.{shownWith, cellbalWith}
 use Rattle.protection.specs.Rule.{rule, over, under}
 use Rattle.chip.specs.declared.Chip.{Chip}
 use Rattle.chip.specs.declared.Stepped.{Stepped}
@@ -70,7 +70,7 @@ checks (Reading s k) = false
 checks (Summing k) = false
 
 abbrev pub waiting : Chip → Bool
-waiting c = c .awake && checks (c .bus .line .phase)
+waiting c = c .normal && checks (c .bus .line .phase)
 
 -- the next OUT comes while the byte still waits, and is not acknowledged
 unfoldable pub spoiled : Chip → List Event → Bool
@@ -117,18 +117,18 @@ played c (e ∷ es) = seen e c ∷ played (next e c) es
 unfoldable pub remains : Mode → Chip → List Event → List Event
 remains m c [] = []
 remains m c (e ∷ es) =
-    cond (drops m (sortOf e) (spoiled (next e c) es)) (remains (then m (sortOf e) (spoiled (next e c) es) (next e c .awake)) (next e c) es)
-    (e ∷ remains (then m (sortOf e) (spoiled (next e c) es) (next e c .awake)) (next e c) es)
+    cond (drops m (sortOf e) (spoiled (next e c) es)) (remains (then m (sortOf e) (spoiled (next e c) es) (next e c .normal)) (next e c) es)
+    (e ∷ remains (then m (sortOf e) (spoiled (next e c) es) (next e c .normal)) (next e c) es)
 
 unfoldable pub remained : Mode → Chip → List Event → List Seen
 remained m c [] = []
 remained m c (e ∷ es) =
-    cond (drops m (sortOf e) (spoiled (next e c) es)) (remained (then m (sortOf e) (spoiled (next e c) es) (next e c .awake)) (next e c) es)
-    (seen e c ∷ remained (then m (sortOf e) (spoiled (next e c) es) (next e c .awake)) (next e c) es)
+    cond (drops m (sortOf e) (spoiled (next e c) es)) (remained (then m (sortOf e) (spoiled (next e c) es) (next e c .normal)) (next e c) es)
+    (seen e c ∷ remained (then m (sortOf e) (spoiled (next e c) es) (next e c .normal)) (next e c) es)
 
 -- ── a worked case: 10 05 03 with a wrong CRC. The byte 03, its CRC and what follows go; the IN before the CRC, the scan and PIN remain ──
 abbrev guarded : Setup
-guarded = record { part = 1; crc = true; address = 8; gain = 10; offset = 30; floor = 1000; cells = 0 }
+guarded = record { part = 1; crc = true; address = 8; «gain_code» = 10; offset = 30; floor = 1000; cells = 0 }
 
 abbrev out : ℕ → Event
 out b = OnBus (Out b)
@@ -136,5 +136,5 @@ out b = OnBus (Out b)
 pub cleaned : remains Whole (inShip guarded) (
     Boot ∷ OnBus Start ∷ out 0x10 ∷ out 0x05 ∷ out 0x03 ∷ OnBus (In false) ∷ Scan (7000 ∷ []) ∷ out 0xEB ∷ out 0x01 ∷ OnBus (In false) ∷ Pin ∷ OnBus Stop ∷ []
     ) ≡ Boot ∷ OnBus Start ∷ out 0x10 ∷ out 0x05 ∷ OnBus (In false) ∷ Scan (7000 ∷ []) ∷ Pin ∷ OnBus Stop ∷ []
-unfolding remains spoiled stepped happened fits outed taken given owing settingsWith shownWith balanceWith byteOn rule over under addressed fed checked afterData afterSum keeps storedAt
+unfolding remains spoiled stepped happened fits outed taken given owing settingsWith shownWith cellbalWith byteOn rule over under addressed fed checked afterData afterSum keeps storedAt
 cleaned = refl

@@ -20,15 +20,15 @@ use Rattle.wiring.specs.declared.Wiring.the-variants.{With, NoRow}
 use Rattle.records.specs.declared.Read.{Read}
 use Rattle.records.specs.declared.Read.the-variants.{Record, Refused, Cut}
 use Rattle.records.specs.Record.{readOf, countsBeside}
-use Rattle.records.specs.Sound.{first-setup, Meaning, isWires, wires-by, later-means}
+use Rattle.records.specs.SoundLaws.{first-setup, Meaning, isWires, wires-by, later-means}
 use Rattle.registers.specs.Read.{statusByte}
 use Rattle.chip.specs.declared.Chip.{Chip}
 use Rattle.chip.specs.declared.Stepped.{Stepped}
-use Rattle.chip.specs.Chip.{quiet, inShip, steppedAs}
+use Rattle.chip.specs.Chip.{numbered, inShip, steppedAs}
 use Rattle.chip.specs.Outward.{pinsOf}
 use Rattle.stream.specs.declared.Entry.{Entry}
 use Rattle.stream.specs.Stream.{Turn, entryOf, wiredAs, acted, staysFresh, turned, turnOf, runs, stands, entries, lastChip}
-use Rattle.stream.specs.Standing.{acted-is, good-part, first-stands, first-entries}
+use Rattle.stream.specs.StandingLaws.{acted-is, good-part, first-stands, first-entries}
 use Rattle.demands.specs.Demand.{chip}
 use Rattle.demands.specs.History.{setup-is}
 use Rattle.demands.specs.Refused.{refused-as}
@@ -48,7 +48,7 @@ both-true false b h = absurd (true≢false (sym h))
 
 -- a wiring record, by its place and its row: it makes the chip anew with its cells, or is refused
 abbrev wiredBy : Bool → Bool → ℕ → Chip → Stepped
-wiredBy o t m c = cond o (wiredAs (cond t (With (withCells m (c .setup))) NoRow) c) (quiet 2 c)
+wiredBy o t m c = cond o (wiredAs (cond t (With (withCells m (c .setup))) NoRow) c) (numbered 2 c)
 
 wired-as : (o t : Bool) (n m : ℕ) (u : SetupValues) (c : Chip) → (o ≡ true → c ≡ inShip u)
     → (wiredBy o t m (celled n c) ≡ celledIn (wiredBy o t m (celled n c) .chip .setup .cells) (wiredBy o t m c))
@@ -84,8 +84,8 @@ module _ (u : SetupValues) where
   -- what the record at the start of r is answered, once SETUP was read as u and the past was heard
   abbrev pub answerTo : Bool → List ℕ → Read → List Event → Stepped
   answerTo o r (Record e next) past = answered o e (countsBeside r (Record e next)) past
-  answerTo o r (Refused k next) past = quiet k (chip u past)
-  answerTo o r Cut past = quiet 9 (chip u past)
+  answerTo o r (Refused k next) past = numbered k (chip u past)
+  answerTo o r Cut past = numbered 9 (chip u past)
 
   -- whether the next record may be a wiring record
   abbrev pub freshNext : Bool → List ℕ → Read → List Event → Bool

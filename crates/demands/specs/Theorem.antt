@@ -11,12 +11,12 @@ use Rattle.registers.specs.declared.Shown.{Shown}
 use Rattle.registers.specs.State.{dark}
 use Rattle.registers.specs.Fault.{bitOf}
 use Rattle.protection.specs.Streak.{lastAll-is}
-use Rattle.protection.specs.Rule.{Rule, rule, opinion, any}
+use Rattle.protection.specs.Rule.{Rule, rule, opinion, someOpinion}
 use Rattle.chip.specs.declared.Chip.{Chip}
 use Rattle.chip.specs.declared.Stepped.{Stepped}
 use Rattle.chip.specs.Chip.{next}
 use Rattle.chip.specs.Core.{Core, bare}
-use Rattle.chip.specs.Moves.{normal-is, next-by, asleep-by}
+use Rattle.chip.specs.MovesLaws.{normal-is, next-by, asleep-by}
 use Rattle.demands.specs.Demand.{judges, wrote, clears, enables, traffic, chip, shown, up, drive, Accepted, core, standing, Awake, said, verdicts, delay, StaysAwake, Unjudged, Uncleared, Asked, Rises, NothingElseRaises, NotPostponed, TrafficPostponesNothing, Latches, Lowers, DownInShip, OnAgainOnlyAsked, ThirdDemand}
 use Rattle.demands.specs.Refused.{normal-done}
 use Rattle.demands.specs.Ship.{in-ship-is}
@@ -33,11 +33,11 @@ module _ (u : Setup) where
       (Iff·or Iff·rfl (lastAll-is (delay u k (e ∷ past)) (verdicts u k (e ∷ past)))))
 
   -- one event, in the words of the latch
-  one : (k : Fault) (past : List Event) (e : Event) → Keeps k e (wrote u (core u past) e) (core u (e ∷ past) .awake) (shown u past) (shown u (e ∷ past))
+  one : (k : Fault) (past : List Event) (e : Event) → Keeps k e (wrote u (core u past) e) (core u (e ∷ past) .normal) (shown u past) (shown u (e ∷ past))
   unfolding chip
   one k past e =
       rw (← core-is u (e ∷ past))
-      (subst (λ w. Keeps k e w (next e (chip u past) .awake) (shown u past) (shown u (e ∷ past))) (λ i. wrote (setup-is u past i) (core-is u past i) e) (next-keeps k e (chip u past)))
+      (subst (λ w. Keeps k e w (next e (chip u past) .normal) (shown u past) (shown u (e ∷ past))) (λ i. wrote (setup-is u past i) (core-is u past i) e) (next-keeps k e (chip u past)))
 
   pub nothing-else-raises : NothingElseRaises u
   unfolding Keeps
@@ -47,7 +47,7 @@ module _ (u : Setup) where
   none-said : (k : Fault) (past : List Event) (e : Event) → judges k e ≡ false → said u k past e ≡ []
   none-said k past e j = by (fits e) (opinion k (u .floor) (rule k (standing u past)) e) (says-one k (u .floor) (rule k (standing u past)) e ∙ j)
     where
-      by : (f : Bool) (l : List Bool) → any l ≡ false → cond f l [] ≡ []
+      by : (f : Bool) (l : List Bool) → someOpinion l ≡ false → cond f l [] ≡ []
       by true [] h = refl
       by true (b ∷ l) h = cc
       by false l h = refl
@@ -75,10 +75,10 @@ module _ (u : Setup) where
   traffic-unjudged k [] = tt
   traffic-unjudged k (b ∷ bs) = (traffic-unjudged k bs, refl)
 
-  woken : (b : BusEvent) (c : Chip) → next (OnBus b) c .awake ≡ true → c .awake ≡ true
+  woken : (b : BusEvent) (c : Chip) → next (OnBus b) c .normal ≡ true → c .normal ≡ true
   woken b c =
-      next-by (λ d. d .awake ≡ true → c .awake ≡ true) (OnBus b) c (λ f a h. a)
-      (λ f a. asleep-by (λ d. d .awake ≡ true → c .awake ≡ true) (OnBus b) c (λ h. cc) (λ w h. cc) (λ h. h)) (λ f h. h)
+      next-by (λ d. d .normal ≡ true → c .normal ≡ true) (OnBus b) c (λ f a h. a)
+      (λ f a. asleep-by (λ d. d .normal ≡ true → c .normal ≡ true) (OnBus b) c (λ h. cc) (λ w h. cc) (λ h. h)) (λ f h. h)
 
   traffic-awake : (bs : List BusEvent) (past : List Event) → Awake u (traffic bs ++ past) → StaysAwake u (traffic bs) past
   unfolding StaysAwake core
@@ -100,7 +100,7 @@ module _ (u : Setup) where
   off : (k : Fault) (past : List Event) → up u k past ≡ true → drive u k past ≡ false
   off k past p = rw p at (off-while-up k past)
 
-  pub stays : (k : Fault) (past : List Event) (e : Event) → core u (e ∷ past) .awake ≡ true → up u k past ≡ true → clears k (wrote u (core u past) e) ≡ false → up u k (e ∷ past) ≡ true
+  pub stays : (k : Fault) (past : List Event) (e : Event) → core u (e ∷ past) .normal ≡ true → up u k past ≡ true → clears k (wrote u (core u past) e) ≡ false → up u k (e ∷ past) ≡ true
   unfolding Keeps
   stays k past e a p h = one k past e .stays a p h
 

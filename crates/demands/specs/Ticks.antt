@@ -12,10 +12,10 @@ use Rattle.events.specs.Event.{Event, Sense, fits, senseFits}
 use Rattle.events.specs.Fault.{Fault, Ov, Uv, Scd, Ocd}
 use Rattle.protection.specs.Streak.{lastAll}
 use Rattle.protection.specs.Rule.{rule, beyond, opinion}
-use Rattle.protection.specs.Tables.{need-fair}
+use Rattle.protection.specs.TablesLaws.{need-fair}
 use Rattle.chip.specs.declared.Stepped.{Stepped}
 use Rattle.chip.specs.Core.{Core}
-use Rattle.chip.specs.Moves.{normal-is}
+use Rattle.chip.specs.MovesLaws.{normal-is}
 use Rattle.demands.specs.Demand.{ofCells, judges, chip, up, core, standing, Awake, Accepted, verdicts, delay}
 use Rattle.demands.specs.History.{awake-is, judging-core, verdicts-are, delay-is, rises}
 
@@ -65,7 +65,7 @@ module _ (u : Setup) (k : Fault) (v : ℤ) (past : List Event) (current : ofCell
   -- each is accepted, and moves no setting
   taken-at : (later : List Event) → core u later ≡ core u past → Accepted u later (Sense v)
   unfolding fits
-  taken-at later same = ap (λ (s : Stepped). s .number) (normal-is (Sense v) (chip u later) fit (awake-is u later ∙ ap (λ (c : Core). c .awake) same ∙ awake))
+  taken-at later same = ap (λ (s : Stepped). s .number) (normal-is (Sense v) (chip u later) fit (awake-is u later ∙ ap (λ (c : Core). c .normal) same ∙ awake))
 
   same-core : (n : ℕ) → core u (after n) ≡ core u past
   same-core zero = refl

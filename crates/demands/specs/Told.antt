@@ -14,16 +14,16 @@ use Rattle.events.specs.Fault.{Fault, Ov, Uv, Scd, Ocd}
 use Rattle.registers.specs.Fault.{bitOf, raised}
 use Rattle.bus.specs.Bus.{outed}
 use Rattle.registers.specs.declared.Shown.{Shown}
-use Rattle.registers.specs.Held.{held-bit}
+use Rattle.registers.specs.LevelLaws.{level-bit}
 use Rattle.protection.specs.Streak.{lastAll, streak, bumps, bumps-streak}
 use Rattle.protection.specs.Fault.{runOf, runsOf}
-use Rattle.protection.specs.Rule.{Rule, cap, rule, opinion, any, runAfter, risen}
-use Rattle.protection.specs.Tables.{run-tells}
+use Rattle.protection.specs.Rule.{Rule, cap, rule, opinion, someOpinion, runAfter, risen}
+use Rattle.protection.specs.TablesLaws.{run-tells}
 use Rattle.chip.specs.declared.Chip.{Chip}
 use Rattle.chip.specs.declared.Stepped.{Stepped}
-use Rattle.chip.specs.Chip.{quiet, inShip, onBus, settled, normally, asleep, happened, stepped, next}
+use Rattle.chip.specs.Chip.{numbered, inShip, onBus, settled, normally, asleep, happened, stepped, next}
 use Rattle.chip.specs.Core.{coreOf}
-use Rattle.chip.specs.Moves.{normal-is, next-by, stored-by, asleep-by}
+use Rattle.chip.specs.MovesLaws.{normal-is, next-by, stored-by, asleep-by}
 use Rattle.demands.specs.Demand.{judges}
 
 -- ── four values are those that they show ──
@@ -47,29 +47,29 @@ heard k e c = cond (fits e) (opinion k (c .setup .floor) (rule k (c .registers .
 module _ (k : Fault) (l : List Bool) where
   -- the run of this chip counts the verdicts l, and in SHIP there are none
   abbrev pub Tells : Chip → List Bool → Type 0
-  Tells d w = runOf k (d .runs) ≡ min (cap k) (streak (cond (d .awake) w []))
+  Tells d w = runOf k (d .runs) ≡ min (cap k) (streak (cond (d .normal) w []))
 
   abbrev pub Told : Chip → Type 0
-  Told c = (runOf k (c .runs) ≡ min (cap k) (streak l)) × (c .awake ≡ false → l ≡ [])
+  Told c = (runOf k (c .runs) ≡ min (cap k) (streak l)) × (c .normal ≡ false → l ≡ [])
 
   none-told : (u : Setup) (w : List Bool) → Tells (inShip u) w
   none-told u w = run-of (λ k. 0) k ∙ sym (min-zero (cap k))
 
   -- an event that says nothing and moves neither mode nor runs
   still-told : (c : Chip) → Told c → Tells c l
-  still-told c h = by (c .awake) (h .1)
+  still-told c h = by (c .normal) (h .1)
     where
       by : (a : Bool) → (a ≡ false → l ≡ []) → runOf k (c .runs) ≡ min (cap k) (streak (cond a l []))
       by true z = h .0
       by false z = rw (z refl) at (h .0)
 
   -- in SHIP whatever it says
-  sleeps : (c : Chip) (w : List Bool) → Told c → c .awake ≡ false → Tells c w
+  sleeps : (c : Chip) (w : List Bool) → Told c → c .normal ≡ false → Tells c w
   sleeps c w h z = rw z (rw (h .1 z) at (h .0))
 
-  judged-told : (e : Event) (c : Chip) → Told c → c .awake ≡ true
+  judged-told : (e : Event) (c : Chip) → Told c → c .normal ≡ true
       → runOf k (runsOf (runAfter (c .setup .floor) (c .registers .settings) (c .runs) e))
-      ≡ min (cap k) (streak (cond (c .awake) (opinion k (c .setup .floor) (rule k (c .registers .settings)) e ++ l) []))
+      ≡ min (cap k) (streak (cond (c .normal) (opinion k (c .setup .floor) (rule k (c .registers .settings)) e ++ l) []))
   judged-told e c h a =
       rw a (
       run-of (runAfter (c .setup .floor) (c .registers .settings) (c .runs) e) k
@@ -77,7 +77,7 @@ module _ (k : Fault) (l : List Bool) where
       ∙ bumps-streak (cap k) (opinion k (c .setup .floor) (rule k (c .registers .settings)) e) l
       )
 
-  bus-told : (b : BusEvent) (c : Chip) → Told c → c .awake ≡ true → Tells (onBus b c .chip) l
+  bus-told : (b : BusEvent) (c : Chip) → Told c → c .normal ≡ true → Tells (onBus b c .chip) l
   bus-told Start c h a = still-told c h
   bus-told Stop c h a = still-told c h
   bus-told (Out b) c h a =
@@ -85,7 +85,7 @@ module _ (k : Fault) (l : List Bool) where
       (λ t. still-told c h) (λ a v t s. none-told (c .setup) l) (λ a v t s. still-told c h)
   bus-told (In nack) c h a = still-told c h
 
-  normal-told : (e : Event) (c : Chip) → Told c → c .awake ≡ true
+  normal-told : (e : Event) (c : Chip) → Told c → c .normal ≡ true
       → Tells (normally e c .chip) (opinion k (c .setup .floor) (rule k (c .registers .settings)) e ++ l)
   normal-told Por c h a = none-told (c .setup) l
   normal-told Boot c h a = still-told c h
@@ -107,7 +107,7 @@ module _ (k : Fault) (l : List Bool) where
       (λ f. rw f (still-told c h))
 
 -- ── an accepted event that judges k says one thing of it, moves no setting, and raises ──
-pub says-one : (k : Fault) (floor : ℕ) (r : Rule) (e : Event) → any (opinion k floor r e) ≡ judges k e
+pub says-one : (k : Fault) (floor : ℕ) (r : Rule) (e : Event) → someOpinion (opinion k floor r e) ≡ judges k e
 says-one k floor r Por = refl
 says-one k floor r Boot = refl
 says-one k floor r Pin = refl
@@ -140,11 +140,11 @@ judged-asleep k (Load l) c j = refl
 judged-asleep k (OnBus b) c j = cc
 judged-asleep k (Level l) c j = refl
 
-pub accepted-judged : (k : Fault) (e : Event) (c : Chip) → judges k e ≡ true → stepped e c .number ≡ 0 → (fits e ≡ true) × (c .awake ≡ true)
+pub accepted-judged : (k : Fault) (e : Event) (c : Chip) → judges k e ≡ true → stepped e c .number ≡ 0 → (fits e ≡ true) × (c .normal ≡ true)
 unfolding stepped happened
-accepted-judged k e c j n = by (fits e) (c .awake) n
+accepted-judged k e c j n = by (fits e) (c .normal) n
   where
-    by : (f a : Bool) → cond f (cond a (settled (normally e c)) (asleep e c)) (quiet 3 c) .number ≡ 0 → (f ≡ true) × (a ≡ true)
+    by : (f a : Bool) → cond f (cond a (settled (normally e c)) (asleep e c)) (numbered 3 c) .number ≡ 0 → (f ≡ true) × (a ≡ true)
     by true true n = (refl, refl)
     by true false n = let four : asleep e c .number ≡ 4 = judged-asleep k e c j in (cc, cc)
     by false a n = (cc, cc)
@@ -165,12 +165,12 @@ judging k (OnBus b) c j = (cc, cc)
 judging k (Level l) c j = (cc, cc)
 
 -- so the bit of k is then up exactly if it was, or if the newest verdicts, as many as are needed, are all true
-pub rising : (k : Fault) (l : List Bool) (e : Event) (c : Chip) → Told k l c → fits e ≡ true → c .awake ≡ true → judges k e ≡ true
+pub rising : (k : Fault) (l : List Bool) (e : Event) (c : Chip) → Told k l c → fits e ≡ true → c .normal ≡ true → judges k e ≡ true
     → bitOf k (next e c .registers .shown .status)
     ≡ bitOf k (c .registers .shown .status) || lastAll (rule k (c .registers .settings) .need) (opinion k (c .setup .floor) (rule k (c .registers .settings)) e ++ l)
 rising k l e c h f a j =
     ap (λ s. bitOf k (s .chip .registers .shown .status)) (normal-is e c f a)
-    ∙ held-bit k (normally e c .chip .registers .outside) (normally e c .chip .registers .shown)
+    ∙ level-bit k (normally e c .chip .registers .«outside_level») (normally e c .chip .registers .shown)
     ∙ ap (λ s. bitOf k (s .status)) (judging k e c j .0)
     ∙ bit-raised (risen (c .setup .floor) (c .registers .settings) (c .runs) e) (c .registers .shown) k
     ∙ or-comm (risen (c .setup .floor) (c .registers .settings) (c .runs) e k) (bitOf k (c .registers .shown .status))

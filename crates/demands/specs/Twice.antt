@@ -11,14 +11,14 @@ use Rattle.demands.specs.Clearing.{either, ran, Clearings, ones, lowered
 
 -- bus traffic whose accepted writes are all of SYS_STAT and clear these bits, of a chip in NORMAL with the outside level at 0
 pub record Clears (c : Chip) (a : Status) (es : List BusEvent) : Type 0 where
-  pub normal : c .awake ≡ true
-  pub level : c .registers .outside ≡ false
+  pub normal : c .normal ≡ true
+  pub level : c .registers .«outside_level» ≡ false
   pub writes : Clearings c es
   pub bits : ones c es ≡ a
 
 -- the same registers, mode and runs
 abbrev pub Alike : Chip → Chip → Type 0
-Alike c d = (c .registers ≡ d .registers) × (c .awake ≡ d .awake) × (c .runs ≡ d .runs)
+Alike c d = (c .registers ≡ d .registers) × (c .normal ≡ d .normal) × (c .runs ≡ d .runs)
 
 lowers : {c : Chip} {a : Status} {es : List BusEvent} → Clears c a es → Lowers a c (ran c es)
 lowers {c} {a} {es} h = subst (λ (s : Status). Lowers s c (ran c es)) (h .bits) (clearing c es (h .normal) (h .level) (h .writes))
@@ -35,7 +35,7 @@ or-same false = refl
 
 either-same : (a : Status) → either a a ≡ a
 either-same a =
-    λ i. record { ready = or-same (a .ready) i; xready = or-same (a .xready) i; ovrd = or-same (a .ovrd) i; uv = or-same (a .uv) i; ov = or-same (a .ov) i; scd = or-same (a .scd) i; ocd = or-same (a .ocd) i }
+    λ i. record { «cc_ready» = or-same (a .«cc_ready») i; xready = or-same (a .xready) i; «ovrd_alert» = or-same (a .«ovrd_alert») i; uv = or-same (a .uv) i; ov = or-same (a .ov) i; scd = or-same (a .scd) i; ocd = or-same (a .ocd) i }
 
 module _ (c : Chip) (a b : Status) (es fs : List BusEvent) (first : Clears c a es) (second : Clears (ran c es) b fs) where
   two : Lowers (either a b) c (ran (ran c es) fs)

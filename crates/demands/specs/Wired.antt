@@ -22,16 +22,16 @@ use Rattle.bus.specs.declared.Outed.{Outed}
 use Rattle.bus.specs.Bus.{outIn, outed, addressed, fed, inLine, taken, owing, given, gives, grown}
 use Rattle.settings.specs.Write.{ships}
 use Rattle.registers.specs.declared.Registers.{Registers}
-use Rattle.registers.specs.Write.{balanceWith}
-use Rattle.registers.specs.Read.{balanceByte, lowByte, wordAt, fixedByte, readAt}
+use Rattle.registers.specs.Write.{cellbalWith}
+use Rattle.registers.specs.Read.{cellbalByte, controlByte, wordAt, fixedByte, readAt}
 use Rattle.chip.specs.declared.Chip.{Chip}
 use Rattle.chip.specs.declared.Stepped.{Stepped}
-use Rattle.chip.specs.Chip.{quiet, inShip, accepted, storedAt, stored, sent, handed, reads, onBus, settled, normally, asleep, happened, stepped, ticking, steppedAs}
+use Rattle.chip.specs.Chip.{numbered, inShip, accepted, storedAt, stored, sent, handed, reads, onBus, settled, normally, asleep, happened, stepped, ticking, steppedAs}
 use Rattle.demands.specs.Demand.{chip}
 
 -- the chip, and an answer of it, with another number of cells
 abbrev pub celled : ℕ → Chip → Chip
-celled n c = record { setup = withCells n (c .setup); awake = c .awake; bus = c .bus; registers = c .registers; runs = c .runs }
+celled n c = record { setup = withCells n (c .setup); normal = c .normal; bus = c .bus; registers = c .registers; runs = c .runs }
 
 abbrev pub celledIn : ℕ → Stepped → Stepped
 celledIn n s = record { chip = celled n (s .chip); number = s .number; flag = s .flag; byte = s .byte }
@@ -58,7 +58,7 @@ module _ (n : ℕ) where
   in-cells u l (Summing k) nack = refl
 
   stored-cells : (l : Line) (t : Store) (c : Chip) → stored l t (celled n c) ≡ celled n (stored l t c)
-  unfolding storedAt balanceWith groups
+  unfolding storedAt cellbalWith groups
   stored-cells l Nothing c = refl
   stored-cells l (At a v) c = by (ships a v (c .registers .settings))
     where
@@ -67,11 +67,11 @@ module _ (n : ℕ) where
       by false = refl
 
   reads-cells : (c : Chip) (a : ℕ) → reads (celled n c) a ≡ reads c a
-  unfolding readAt lowByte balanceByte wordAt fixedByte groups inputs
+  unfolding readAt controlByte cellbalByte wordAt fixedByte groups inputs
   reads-cells c a = refl
 
   bus-cells : (b : BusEvent) (c : Chip) → onBus b (celled n c) ≡ celledIn n (onBus b c)
-  unfolding outed taken readAt lowByte balanceByte wordAt fixedByte groups inputs
+  unfolding outed taken readAt controlByte cellbalByte wordAt fixedByte groups inputs
   bus-cells Start c = refl
   bus-cells Stop c = refl
   bus-cells (Out b) c =
@@ -113,7 +113,7 @@ module _ (n : ℕ) where
 
   happened-cells : (e : Event) (c : Chip) → happened e (celled n c) ≡ celledIn n (happened e c)
   unfolding happened
-  happened-cells e c = by (c .awake)
+  happened-cells e c = by (c .normal)
     where
       by : (a : Bool) → cond a (settled (normally e (celled n c))) (asleep e (celled n c)) ≡ celledIn n (cond a (settled (normally e c)) (asleep e c))
       by true = ap settled (normal-cells e c)
@@ -123,7 +123,7 @@ module _ (n : ℕ) where
   unfolding stepped
   stepped-cells e c = by (fits e)
     where
-      by : (f : Bool) → cond f (happened e (celled n c)) (quiet 3 (celled n c)) ≡ celledIn n (cond f (happened e c) (quiet 3 c))
+      by : (f : Bool) → cond f (happened e (celled n c)) (numbered 3 (celled n c)) ≡ celledIn n (cond f (happened e c) (numbered 3 c))
       by true = happened-cells e c
       by false = refl
 
@@ -134,10 +134,10 @@ module _ (n : ℕ) where
   -- whatever the code's event means
   pub as-cells : (m : Meant) (c : Chip) → steppedAs m (celled n c) ≡ celledIn n (steppedAs m c)
   as-cells (means e) c = stepped-cells e c
-  as-cells (ticks most v m) c = by (ticksFit most v m) (c .awake)
+  as-cells (ticks most v m) c = by (ticksFit most v m) (c .normal)
     where
-      by : (f a : Bool) → cond f (cond a (quiet 0 (ticking m v (celled n c))) (quiet 4 (celled n c))) (quiet 3 (celled n c)) ≡ celledIn n (cond f (cond a (quiet 0 (ticking m v c)) (quiet 4 c)) (quiet 3 c))
-      by true true = ap (quiet 0) (ticking-cells m v c)
+      by : (f a : Bool) → cond f (cond a (numbered 0 (ticking m v (celled n c))) (numbered 4 (celled n c))) (numbered 3 (celled n c)) ≡ celledIn n (cond f (cond a (numbered 0 (ticking m v c)) (numbered 4 c)) (numbered 3 c))
+      by true true = ap (numbered 0) (ticking-cells m v c)
       by true false = refl
       by false a = refl
   as-cells unfit c = refl

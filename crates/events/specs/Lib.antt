@@ -1,4 +1,4 @@
 pub mod Setup
 pub mod Event
 pub mod Fault
-pub mod Few
+pub mod FewLaws

@@ -13,7 +13,7 @@ setupFits part crc address gain floor =
 
 abbrev pub setupOf : ℕ → ℕ → ℕ → ℕ → ℕ → ℕ → Setup
 setupOf part crc address gain offset floor =
-    record { part = part; crc = eqb crc 1; address = address; gain = gain; offset = offset; floor = floor; cells = 0 }
+    record { part = part; crc = eqb crc 1; address = address; «gain_code» = gain; offset = offset; floor = floor; cells = 0 }
 
 unfoldable pub checkedOf : ℕ → ℕ → ℕ → ℕ → ℕ → ℕ → Checked
 checkedOf part crc address gain offset floor =
@@ -33,4 +33,4 @@ inputs u = cond (ltb (u .part) 3) (5 * u .part) 15
 
 -- request M-107: the setup with the number of cells of a wiring record; 0 says that there is none
 abbrev pub withCells : ℕ → Setup → Setup
-withCells n u = record { part = u .part; crc = u .crc; address = u .address; gain = u .gain; offset = u .offset; floor = u .floor; cells = n }
+withCells n u = record { part = u .part; crc = u .crc; address = u .address; «gain_code» = u .«gain_code»; offset = u .offset; floor = u .floor; cells = n }

@@ -6,7 +6,7 @@ pub struct Setup {
     pub part: u8,
     pub crc: bool,
     pub address: u8,
-    pub gain: u8,
+    pub gain_code: u8,
     pub offset: u8,
     pub floor: u16,
     // Request M-107: how many cells a wiring record gave the pack; 0 where there is none.
@@ -80,7 +80,7 @@ pub fn setup_of(part: u8, crc: u8, address: u8, gain: u8, offset: u8, floor: u16
             part,
             crc: crc == 1,
             address,
-            gain,
+            gain_code: gain,
             offset,
             floor,
             cells: 0,

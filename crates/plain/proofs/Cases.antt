@@ -14,12 +14,12 @@ use Rattle.protection.specs.Fault.{noRuns}
 use Rattle.chip.specs.declared.Chip.{Chip}
 use Rattle.chip.specs.Chip.{withRuns}
 use Rattle.stream.specs.Stream.{turnOf}
-use Rattle.turns.specs.declared.Turned.{Turned}
-use Rattle.turns.specs.Turned.{asTurn}
-use Rattle.back.specs.declared.Streaks.{Streaks}
-use Rattle.back.specs.declared.Back.{Back}
-use Rattle.back.specs.declared.Back.the-variants.{Is, TooLong}
-use Rattle.back.specs.Said.{noStreaks, streaksIn, most, saidBack, backSaid}
+use Rattle.turn.specs.declared.Turned.{Turned}
+use Rattle.turn.specs.TurnedLaws.{asTurn}
+use Rattle.plain_back.specs.declared.Streaks.{Streaks}
+use Rattle.plain_back.specs.declared.Back.{Back}
+use Rattle.plain_back.specs.declared.Back.the-variants.{Is, TooLong}
+use Rattle.plain_back.specs.Said.{noStreaks, streaksIn, most, saidBack, backSaid}
 use Rattle.plain.specs.Plain.{asks, runsFrom, lent, forgetful, plainTurn}
 
 pub asks-by : {b : Bool} (part : ℕ) (r : List ℕ) (x y : Read) → x ≡ readOf part r → x ≡ y → b ≡ asks y → b ≡ asks (readOf part r)

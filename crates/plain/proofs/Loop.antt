@@ -16,14 +16,14 @@ use Rattle.chip.specs.declared.Chip.{Chip}
 use Rattle.stream.specs.declared.Entry.{Entry}
 use Rattle.stream.specs.Stream.{none, Turn, turnOf, bytesOf, noted, Ran}
 use Rattle.stream.specs.Frames.{framesOf}
-use Rattle.stream.specs.Counted.{entries-count}
+use Rattle.stream.specs.CountedLaws.{entries-count}
 use Rattle.stream.proofs.Loop.{rest-is, Going, going-none, going-end, going-last, going-place, going-more}
-use Rattle.turns.specs.declared.Turned.{Turned}
-use Rattle.turns.specs.Turned.{asTurn}
-use Rattle.back.specs.Said.{most}
+use Rattle.turn.specs.declared.Turned.{Turned}
+use Rattle.turn.specs.TurnedLaws.{asTurn}
+use Rattle.plain_back.specs.Said.{most}
 use Rattle.plain.specs.Plain.{forgetful, plainTurn, plainEntries, Noted, PlainPlayed}
-use Rattle.plain.specs.Aside.{unrun}
-use Rattle.plain.specs.Same.{plain-turn, plain-entries, Lent, lent-none, lent-runs, lent-next}
+use Rattle.plain.specs.AsideLaws.{unrun}
+use Rattle.plain.specs.SameLaws.{plain-turn, plain-entries, Lent, lent-none, lent-runs, lent-next}
 
 -- the base engine's chip stands beside the one that is kept
 pub record Playing (s old out : List ℕ) (o : Bool) (chip : Chip) (at n : ℕ) : Type 0 where

@@ -1,3 +1,3 @@
 pub mod Plain
-pub mod Aside
-pub mod Same
+pub mod AsideLaws
+pub mod SameLaws

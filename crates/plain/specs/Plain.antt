@@ -19,8 +19,8 @@ use Rattle.chip.specs.declared.Chip.{Chip}
 use Rattle.chip.specs.Chip.{withRuns}
 use Rattle.stream.specs.declared.Entry.{Entry}
 use Rattle.stream.specs.Stream.{none, Turn, turnOf, bytesOf}
-use Rattle.back.specs.declared.Streaks.{Streaks}
-use Rattle.back.specs.Said.{streakOf, streaksIn, most}
+use Rattle.plain_back.specs.declared.Streaks.{Streaks}
+use Rattle.plain_back.specs.Said.{streakOf, streaksIn, most}
 
 -- a scan, a tick, or ticks of one value
 abbrev pub isJudging : Event → Bool

@@ -5,15 +5,15 @@ ghost use lib.ListN.{length};
 ghost use Rattle.records.specs.Record.{readOf};
 ghost use Rattle.protection.specs.Fault.{noRuns};
 ghost use Rattle.chip.specs.Chip.{withRuns};
-ghost use Rattle.turns.specs.Turned.{asTurn};
+ghost use Rattle.turn.specs.TurnedLaws.{asTurn};
 ghost use Rattle.plain.specs.Plain.{isJudging, asks, runsFrom, lent, plainTurn, Noted, PlainPlayed};
-use back::Back;
-use back::Streaks;
+use plain_back::Back;
+use plain_back::Streaks;
 use chip::Chip;
 use events::Event;
 use protection::Runs;
 use records::Read;
-use turns::Turned;
+use turn::Turned;
 
 fn is_judging(event: Event) -> bool
     ensures { λ r. ⌜ r ≡ isJudging event ⌝ }
@@ -78,7 +78,7 @@ fn lend(mut chip: Chip, before: &[u8], rest: &[u8]) -> Chip
     if !judges(rest, setup.part) {
         return chip;
     }
-    let answer = back::look(before);
+    let answer = plain_back::look(before);
     let Back::Is(said) = answer else {
         return chip;
     };
@@ -101,7 +101,7 @@ fn take_turn(chip: Chip, fresh: bool, before: &[u8], rest: &[u8]) -> Turned
     requires { ⌜ length (now before) ≤ 65536 ⌝ }
     ensures { λ r. ⌜ asTurn r ≡ plainTurn (now (before .entry)) fresh chip (now (rest .entry)) ⌝ }
 {
-    let turned = turns::turn(lend(chip, before, rest), fresh, rest);
+    let turned = turn::turn(lend(chip, before, rest), fresh, rest);
     let chip = forget(turned.chip);
     Turned { chip, ..turned }
 }
@@ -117,7 +117,7 @@ fn run(s: &[u8], out: &mut [u8])
     let mut n = 0;
     while at < s.len() {
         let turned = take_turn(chip, fresh, &s[..at], &s[at..]);
-        turns::put(out, n, turned.entry);
+        turn::put(out, n, turned.entry);
         if turned.last {
             return;
         }

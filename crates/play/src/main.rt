@@ -8,6 +8,6 @@ fn main() {
     let n = io::read_full(STDIN_FILENO, &mut input);
     // Room for the longest text, so that it is never refused.
     let mut out = [0u8; 442368];
-    let k = lines::text(&input[..n], &mut out) as usize;
+    let k = play_lines::text(&input[..n], &mut out) as usize;
     io::write_all(STDOUT_FILENO, &out[..k]);
 }

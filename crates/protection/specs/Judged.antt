@@ -9,7 +9,7 @@ use lib.IntN.{ℤ}
 use Rattle.events.specs.Event.{Event, Scan, Sense}
 use Rattle.events.specs.Fault.{Fault, Ov, Uv, Scd, Ocd, faultsOf}
 use Rattle.settings.specs.declared.Settings.{Settings}
-use Rattle.scan.specs.Scan.{someAbove, someBetween}
+use Rattle.cell_counts.specs.Scan.{someAbove, someBetween}
 use Rattle.protection.specs.declared.Runs.{Runs}
 use Rattle.protection.specs.declared.Judged.{Judged}
 use Rattle.protection.specs.Streak.{bump}
@@ -25,8 +25,8 @@ lasts k s run = leb (rule k s .need) run
 -- SCAN with ADC_EN 0 ends both runs, and no current run
 unfoldable pub scanJudged : Settings → Bool → Bool → Runs → Judged
 scanJudged s above between n =
-    let ov : ℕ = bump (cap Ov) (s .adc && above) (n .ov) in
-    let uv : ℕ = bump (cap Uv) (s .adc && between) (n .uv) in
+    let ov : ℕ = bump (cap Ov) (s .«adc_en» && above) (n .ov) in
+    let uv : ℕ = bump (cap Uv) (s .«adc_en» && between) (n .uv) in
     record { runs = record { ov = ov; uv = uv; scd = n .scd; ocd = n .ocd }; risen = record { ov = lasts Ov s ov; uv = lasts Uv s uv; scd = false; ocd = false } }
 
 unfoldable pub tickJudged : Settings → ℤ → Runs → Judged

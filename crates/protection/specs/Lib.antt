@@ -3,7 +3,7 @@ pub mod Fault
 pub mod Rule
 pub mod Sag
 pub mod Judged
-pub mod Ticks
-pub mod Tables
+pub mod TicksLaws
+pub mod TablesLaws
 pub mod Laws
 pub mod Repeat

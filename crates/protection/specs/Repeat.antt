@@ -15,7 +15,7 @@ use Rattle.protection.specs.declared.Judged.{Judged}
 use Rattle.protection.specs.Streak.{bumps}
 use Rattle.protection.specs.Rule.{cap, rule, beyond}
 use Rattle.protection.specs.Judged.{lasts, tickJudged}
-use Rattle.protection.specs.Tables.{ended-waits}
+use Rattle.protection.specs.TablesLaws.{ended-waits}
 
 -- that many ticks, each judged after the one before it; what rises is what the last one raises
 unfoldable pub ticksJudged : ℕ → Settings → ℤ → Runs → Judged

@@ -9,8 +9,8 @@ use lib.Signed.{ltZ}
 use Rattle.events.specs.Event.{Event, Por, Boot, Pin, Xready, Scan, Temp, Count, Sense, Load, OnBus, Level}
 use Rattle.events.specs.Fault.{Fault, Ov, Uv, Scd, Ocd}
 use Rattle.settings.specs.declared.Settings.{Settings}
-use Rattle.settings.specs.Bit.{bit}
-use Rattle.scan.specs.Scan.{someAbove, someBetween}
+use Rattle.bits.specs.Bit.{bit}
+use Rattle.cell_counts.specs.Scan.{someAbove, someBetween}
 use Rattle.protection.specs.Streak.{bumps}
 use Rattle.protection.specs.declared.Runs.{Runs}
 use Rattle.protection.specs.Fault.{runOf, runsOf}
@@ -47,7 +47,7 @@ delayCode Ocd s = s .protect2 / 16 % 8
 
 -- with DELAY_DIS one scan, or one tick (request M-101: for all four)
 abbrev pub short : Fault → Settings → Bool
-short k s = s .hasty
+short k s = s .«delay_dis»
 
 -- ── thresholds in µV, RSNS 0 then 1, code 0 first ──
 abbrev pub scdLimit : Bool → List ℕ
@@ -59,8 +59,8 @@ ocdLimit false = 9500 ∷ 11500 ∷ 14500 ∷ 17500 ∷ 19500 ∷ 22500 ∷ 2500
 ocdLimit true = 18500 ∷ 22500 ∷ 28500 ∷ 34500 ∷ 38500 ∷ 44500 ∷ 49500 ∷ 56500 ∷ 62500 ∷ 65000 ∷ 72500 ∷ 80500 ∷ 83500 ∷ 88500 ∷ 90500 ∷ 94000 ∷ []
 
 abbrev pub limitOf : Fault → Settings → ℕ
-limitOf Ov s = 8200 + 16 * s .overtrip
-limitOf Uv s = 4096 + 16 * s .undertrip
+limitOf Ov s = 8200 + 16 * s .«ov_trip»
+limitOf Uv s = 4096 + 16 * s .«uv_trip»
 limitOf Scd s = getD (scdLimit (bit (s .protect1) 128)) (s .protect1 % 8) 0
 limitOf Ocd s = getD (ocdLimit (bit (s .protect1) 128)) (s .protect2 % 16) 0
 
@@ -71,8 +71,8 @@ pub record Rule : Type 0 where
   pub need : ℕ
 
 abbrev pub measuredBy : Fault → Settings → Bool
-measuredBy Ov s = s .adc
-measuredBy Uv s = s .adc
+measuredBy Ov s = s .«adc_en»
+measuredBy Uv s = s .«adc_en»
 measuredBy Scd s = true
 measuredBy Ocd s = true
 
@@ -119,9 +119,9 @@ opinion k floor r (OnBus b) = []
 opinion k floor r (Level l) = []
 
 -- ── the runs, and what rises ──
-abbrev pub any : List Bool → Bool
-any [] = false
-any (b ∷ l) = true
+abbrev pub someOpinion : List Bool → Bool
+someOpinion [] = false
+someOpinion (b ∷ l) = true
 
 abbrev pub runAfter : ℕ → Settings → Runs → Event → Fault → ℕ
 runAfter floor s n e k = bumps (cap k) (opinion k floor (rule k s) e) (runOf k n)
@@ -130,4 +130,4 @@ abbrev pub counted : ℕ → Settings → Runs → Event → Runs
 counted floor s n e = runsOf (runAfter floor s n e)
 
 abbrev pub risen : ℕ → Settings → Runs → Event → Fault → Bool
-risen floor s n e k = any (opinion k floor (rule k s) e) && leb (rule k s .need) (runAfter floor s n e k)
+risen floor s n e k = someOpinion (opinion k floor (rule k s) e) && leb (rule k s .need) (runAfter floor s n e k)

@@ -3,7 +3,7 @@ ghost use mathlib.Core.Path.{_≡_};
 ghost use Prim.Native.Nat.{_%_, _<_};
 ghost use lib.ListN.{getD, replicate};
 ghost use Rattle.events.specs.Fault.{Ov, Uv, Scd, Ocd};
-ghost use Rattle.settings.specs.Bit.{bit};
+ghost use Rattle.bits.specs.Bit.{bit};
 ghost use Rattle.protection.specs.Streak.{bump, bumps};
 ghost use Rattle.protection.specs.Fault.{noRuns};
 ghost use Rattle.protection.specs.Rule.{ocdTicks, scdLimit, ocdLimit, rule, beyond};
@@ -93,14 +93,14 @@ pub fn no_runs() -> Runs
 pub fn over_line(s: Settings) -> u16
     ensures { λ r. ⌜ r ≡ rule Ov s .limit ⌝ }
 {
-    8200 + 16 * s.overtrip as u16
+    8200 + 16 * s.ov_trip as u16
 }
 
 // A count below this, and not below the floor, is under.
 pub fn under_line(s: Settings) -> u16
     ensures { λ r. ⌜ r ≡ rule Uv s .limit ⌝ }
 {
-    4096 + 16 * s.undertrip as u16
+    4096 + 16 * s.uv_trip as u16
 }
 
 fn scd_limit(protect1: u8) -> u32
@@ -109,7 +109,7 @@ fn scd_limit(protect1: u8) -> u32
     let code = (protect1 % 8) as usize;
     let low = SCD_LOW[code];
     let high = SCD_HIGH[code];
-    if settings::bit(protect1, 128) {
+    if bits::bit(protect1, 128) {
         high
     } else {
         low
@@ -122,7 +122,7 @@ fn ocd_limit(protect1: u8, protect2: u8) -> u32
     let code = (protect2 % 16) as usize;
     let low = OCD_LOW[code];
     let high = OCD_HIGH[code];
-    if settings::bit(protect1, 128) {
+    if bits::bit(protect1, 128) {
         high
     } else {
         low
@@ -132,7 +132,7 @@ fn ocd_limit(protect1: u8, protect2: u8) -> u32
 fn ov_scans(s: Settings) -> u16
     ensures { λ r. ⌜ r ≡ rule Ov s .need ⌝ }
 {
-    if s.hasty {
+    if s.delay_dis {
         return 1;
     }
     OV_SCANS[(s.protect3 / 16 % 4) as usize]
@@ -141,7 +141,7 @@ fn ov_scans(s: Settings) -> u16
 fn uv_scans(s: Settings) -> u16
     ensures { λ r. ⌜ r ≡ rule Uv s .need ⌝ }
 {
-    if s.hasty {
+    if s.delay_dis {
         return 1;
     }
     UV_SCANS[(s.protect3 / 64 % 4) as usize]
@@ -150,7 +150,7 @@ fn uv_scans(s: Settings) -> u16
 fn scd_ticks(s: Settings) -> u16
     ensures { λ r. ⌜ r ≡ rule Scd s .need ⌝ }
 {
-    if s.hasty {
+    if s.delay_dis {
         return 1;
     }
     SCD_TICKS[(s.protect1 / 8 % 4) as usize]
@@ -170,7 +170,7 @@ fn ticks_at(code: u8) -> u16
 fn ocd_ticks(s: Settings) -> u16
     ensures { λ r. ⌜ r ≡ rule Ocd s .need ⌝ }
 {
-    if s.hasty {
+    if s.delay_dis {
         return 1;
     }
     ticks_at(s.protect2 / 16 % 8)
@@ -233,8 +233,8 @@ impl Runs {
     pub fn scanned(self, s: Settings, above: bool, between: bool) -> Judged
         ensures { λ r. ⌜ r ≡ scanJudged s above between self ⌝ }
     {
-        let ov = bumped(32, s.adc & above, self.ov);
-        let uv = bumped(64, s.adc & between, self.uv);
+        let ov = bumped(32, s.adc_en & above, self.ov);
+        let uv = bumped(64, s.adc_en & between, self.uv);
         let risen = Faults {
             ov: ov_scans(s) <= ov,
             uv: uv_scans(s) <= uv,

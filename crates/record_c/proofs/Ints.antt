@@ -12,7 +12,7 @@ use mir.Facts.{toZ-ofZ, sfits-widen}
 use borrow.Author.Tests.{ltb-true, ltb-false, leb-true, leb-false, le-leb, lt-leb}
 use Rattle.values.proofs.Within.{lit, nat, minus, fits, back}
 use Rattle.events.specs.Event.{senseFits}
-use Rattle.records.specs.Ranges.{fits-pos, fits-neg}
+use Rattle.records.specs.RangesLaws.{fits-pos, fits-neg}
 use Rattle.record_c.specs.Values.{natOf}
 
 -- a value that was read, from its bits

@@ -99,8 +99,8 @@ pub laid-both : (old new : List ℤ) {v w x y : ℤ} → v ≡ w → x ≡ y →
 laid-both old new {w = w} {x = x} p q e = subst (λ (y : ℤ). new ≡ laid (w ∷ y ∷ []) old) q (subst (λ (v : ℤ). new ≡ laid (v ∷ x ∷ []) old) p e)
 
 -- SETUP's values, as the code lays them
-pub laid-setup : (v : Setup) (old : List ℤ) (crc : ℤ) → crc ≡ pos (bitOf (v .crc)) → v .part < 2 ^ 63 → v .address < 2 ^ 63 → v .gain < 2 ^ 63 → v .offset < 2 ^ 63 → v .floor < 2 ^ 63 → 6 ≤ length old
-    → set (set (set (set (set (set old 0 (toZ w64 (v .part))) 1 crc) 2 (toZ w64 (v .address))) 3 (toZ w64 (v .gain))) 4 (toZ w64 (v .offset))) 5 (toZ w64 (v .floor)) ≡ laid (setupValues v) old
+pub laid-setup : (v : Setup) (old : List ℤ) (crc : ℤ) → crc ≡ pos (bitOf (v .crc)) → v .part < 2 ^ 63 → v .address < 2 ^ 63 → v .«gain_code» < 2 ^ 63 → v .offset < 2 ^ 63 → v .floor < 2 ^ 63 → 6 ≤ length old
+    → set (set (set (set (set (set old 0 (toZ w64 (v .part))) 1 crc) 2 (toZ w64 (v .address))) 3 (toZ w64 (v .«gain_code»))) 4 (toZ w64 (v .offset))) 5 (toZ w64 (v .floor)) ≡ laid (setupValues v) old
 laid-setup v old crc e p a g o f h =
     laid-six old _ _ _ _ _ _ h ∙ rw (toZ-pos w64 p, e, toZ-pos w64 a, toZ-pos w64 g, toZ-pos w64 o, toZ-pos w64 f)
 

@@ -23,7 +23,7 @@ use Rattle.events.specs.declared.Event.the-variants.{Sense}
 use Rattle.records.specs.Kind.{SETUP}
 use Rattle.records.specs.Numbers.{filled}
 use Rattle.records.specs.Record.{checkedIn}
-use Rattle.records.specs.Sound.{and-left, and-right}
+use Rattle.records.specs.SoundLaws.{and-left, and-right}
 use Rattle.records.specs.declared.Payload.{Payload}
 use Rattle.records.specs.declared.Payload.the-variants.{Whole, Unfit}
 use Rattle.record_c.specs.Values.{natOf, natAt, valueAt, byteOf, wordOf, setupBy, senseBy, repeatBy, countOf, countsBy, laterBy, partBy, eventBy}

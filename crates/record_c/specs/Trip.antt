@@ -22,14 +22,14 @@ use Rattle.events.specs.declared.Event.the-variants.{Setup, Por, Boot, Scan, Te
 use Rattle.records.specs.Kind.{SETUP, POR, BOOT, SCAN, TEMP, COUNT, SENSE, PIN, LOAD, XREADY, START, OUT, IN, STOP, LEVEL, TICKS, SOAK, WIRES}
 use Rattle.records.specs.Numbers.{bitOf, filled}
 use Rattle.records.specs.Record.{checkedIn, loadOf, levelOf, inOf, ticksOf, soakOf, inputsAt, groupsAt, noCounts, readOf, countsBeside}
-use Rattle.records.specs.Counted.{few-groups, few-inputs}
-use Rattle.records.specs.Sound.{and-left, and-right}
+use Rattle.records.specs.CountedLaws.{few-groups, few-inputs}
+use Rattle.records.specs.SoundLaws.{and-left, and-right}
 use Rattle.records.specs.declared.Payload.{Payload}
 use Rattle.records.specs.declared.Payload.the-variants.{Whole, Unfit}
 use Rattle.records.specs.declared.Read.{Read}
 use Rattle.records.specs.declared.Read.the-variants.{Record}
 use Rattle.writer.specs.Write.{kindFor, recordFor, refusalFor}
-use Rattle.writer.specs.Trip.{standsFor, read-back, beside-back}
+use Rattle.writer.specs.TripLaws.{standsFor, read-back, beside-back}
 use Rattle.record_c.specs.Values.{valuesFor, setupValues, countValues, natOf, valueAt, natAt, byteOf, wordOf, setupBy, bareBy, countedBy, countBy, outBy, switchBy, senseBy, repeatBy, wiresBy, laterBy, partBy, eventBy, countOf, countsAt, countsBy}
 use Rattle.record_c.specs.Calls.{meantBy, writtenBy, recordSaid, Records, Named, named, namedRead, namedSaid, Names}
 
@@ -188,7 +188,7 @@ module _ (vs : List ℤ) (l : length vs ≡ 6) (o : natAt vs 4 ≤ 255) where
   address = byteOf (natAt vs 2)
 
   abbrev gain : ℕ
-  gain = byteOf (natAt vs 3)
+  «gain_code» = byteOf (natAt vs 3)
 
   abbrev floor : ℕ
   floor = wordOf (natAt vs 5)

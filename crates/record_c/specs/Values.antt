@@ -20,7 +20,7 @@ use Rattle.records.specs.declared.Payload.the-variants.{Whole, Unfit}
 
 -- ── the values of an event: its payload's, in their order ──
 abbrev pub setupValues : SetupValues → List ℤ
-setupValues v = pos (v .part) ∷ pos (bitOf (v .crc)) ∷ pos (v .address) ∷ pos (v .gain) ∷ pos (v .offset) ∷ pos (v .floor) ∷ []
+setupValues v = pos (v .part) ∷ pos (bitOf (v .crc)) ∷ pos (v .address) ∷ pos (v .«gain_code») ∷ pos (v .offset) ∷ pos (v .floor) ∷ []
 
 abbrev pub countValues : Counts → List ℤ
 countValues k = map pos (take (k .many) (k .of))

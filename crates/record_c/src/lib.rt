@@ -467,7 +467,7 @@ fn put_setup(out: &mut [i64], setup: Setup)
     out[0] = setup.part as i64;
     out[1] = bit_of(setup.crc);
     out[2] = setup.address as i64;
-    out[3] = setup.gain as i64;
+    out[3] = setup.gain_code as i64;
     out[4] = setup.offset as i64;
     out[5] = setup.floor as i64;
 }

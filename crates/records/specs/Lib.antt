@@ -2,9 +2,9 @@ pub mod Numbers
 pub mod Kind
 pub mod Frame
 pub mod Record
-pub mod Framing
-pub mod Ranges
-pub mod Words
-pub mod Counted
-pub mod Reading
-pub mod Sound
+pub mod FramingLaws
+pub mod RangesLaws
+pub mod WordsLaws
+pub mod CountedLaws
+pub mod ReadingLaws
+pub mod SoundLaws

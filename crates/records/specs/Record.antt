@@ -29,7 +29,7 @@ checkedIn (Good v) = Whole (Setup v)
 checkedIn Bad = Unfit (setupNumber Bad)
 
 abbrev pub setupGood : SetupValues → Bool
-setupGood v = setupFits (v .part) (bitOf (v .crc)) (v .address) (v .gain) (v .floor) && eqb (v .cells) 0
+setupGood v = setupFits (v .part) (bitOf (v .crc)) (v .address) (v .«gain_code») (v .floor) && eqb (v .cells) 0
 
 unfoldable pub setupIn : List ℕ → Payload
 setupIn b =
@@ -96,7 +96,7 @@ wiresIn b = cond (eqb (length b) 1) (Whole (Wires (getD b 0 0))) (Unfit 2)
 -- ── the kinds ──
 -- the inputs, and the groups of five, of the part that stands
 abbrev pub standing : ℕ → SetupValues
-standing part = record { part = part; crc = false; address = 0; gain = 0; offset = 0; floor = 0; cells = 0 }
+standing part = record { part = part; crc = false; address = 0; «gain_code» = 0; offset = 0; floor = 0; cells = 0 }
 
 abbrev pub groupsAt : ℕ → ℕ
 groupsAt part = groups (standing part)
@@ -180,13 +180,13 @@ countsBeside r (Refused k next) = noCounts
 countsBeside r Cut = noCounts
 
 -- ── reading begins at any place; a place past the end is cut ──
-abbrev pub moved : ℕ → Read → Read
-moved at (Record e next) = Record e (at + next)
-moved at (Refused k next) = Refused k (at + next)
-moved at Cut = Cut
+abbrev pub placeMoved : ℕ → Read → Read
+placeMoved at (Record e next) = Record e (at + next)
+placeMoved at (Refused k next) = Refused k (at + next)
+placeMoved at Cut = Cut
 
 abbrev pub takenFrom : ℕ → List ℕ → Read → Taken
-takenFrom at r x = record { read = moved at x; counts = countsBeside r x }
+takenFrom at r x = record { read = placeMoved at x; counts = countsBeside r x }
 
 unfoldable pub takenAt : ℕ → List ℕ → ℕ → Taken
 takenAt part s at = cond (ltb (length s) at) (record { read = Cut; counts = noCounts }) (takenFrom at (drop at s) (readOf part (drop at s)))

@@ -12,27 +12,27 @@ bitOf Ocd t = t .ocd
 
 -- ── a fault puts off: OV charge; UV, OCD, SCD discharge ──
 abbrev pub driveOf : Fault → Shown → Bool
-driveOf Ov s = s .chg
-driveOf Uv s = s .dsg
-driveOf Scd s = s .dsg
-driveOf Ocd s = s .dsg
+driveOf Ov s = s .«chg_on»
+driveOf Uv s = s .«dsg_on»
+driveOf Scd s = s .«dsg_on»
+driveOf Ocd s = s .«dsg_on»
 
 abbrev pub raised : (Fault → Bool) → Shown → Shown
 raised r s =
     record {
       status =
           record {
-            ready = s .status .ready;
+            «cc_ready» = s .status .«cc_ready»;
             xready = s .status .xready;
-            ovrd = s .status .ovrd;
+            «ovrd_alert» = s .status .«ovrd_alert»;
             uv = r Uv || s .status .uv;
             ov = r Ov || s .status .ov;
             scd = r Scd || s .status .scd;
             ocd = r Ocd || s .status .ocd;
           };
-      oneshot = s .oneshot;
-      dsg = not (r Uv || r Scd || r Ocd) && s .dsg;
-      chg = not (r Ov) && s .chg;
+      «cc_oneshot» = s .«cc_oneshot»;
+      «dsg_on» = not (r Uv || r Scd || r Ocd) && s .«dsg_on»;
+      «chg_on» = not (r Ov) && s .«chg_on»;
     }
 
 -- OVRD_ALERT and XREADY put off both
@@ -40,20 +40,20 @@ abbrev pub overridden : Shown → Shown
 overridden s =
     record {
       status =
-          record { ready = s .status .ready; xready = s .status .xready; ovrd = true; uv = s .status .uv; ov = s .status .ov; scd = s .status .scd; ocd = s .status .ocd };
-      oneshot = s .oneshot;
-      dsg = false;
-      chg = false;
+          record { «cc_ready» = s .status .«cc_ready»; xready = s .status .xready; «ovrd_alert» = true; uv = s .status .uv; ov = s .status .ov; scd = s .status .scd; ocd = s .status .ocd };
+      «cc_oneshot» = s .«cc_oneshot»;
+      «dsg_on» = false;
+      «chg_on» = false;
     }
 
 abbrev pub readied : Shown → Shown
 readied s =
     record {
       status =
-          record { ready = s .status .ready; xready = true; ovrd = s .status .ovrd; uv = s .status .uv; ov = s .status .ov; scd = s .status .scd; ocd = s .status .ocd };
-      oneshot = s .oneshot;
-      dsg = false;
-      chg = false;
+          record { «cc_ready» = s .status .«cc_ready»; xready = true; «ovrd_alert» = s .status .«ovrd_alert»; uv = s .status .uv; ov = s .status .ov; scd = s .status .scd; ocd = s .status .ocd };
+      «cc_oneshot» = s .«cc_oneshot»;
+      «dsg_on» = false;
+      «chg_on» = false;
     }
 
 -- COUNT raises CC_READY and drops CC_ONESHOT
@@ -61,8 +61,8 @@ abbrev pub counting : Shown → Shown
 counting s =
     record {
       status =
-          record { ready = true; xready = s .status .xready; ovrd = s .status .ovrd; uv = s .status .uv; ov = s .status .ov; scd = s .status .scd; ocd = s .status .ocd };
-      oneshot = false;
-      dsg = s .dsg;
-      chg = s .chg;
+          record { «cc_ready» = true; xready = s .status .xready; «ovrd_alert» = s .status .«ovrd_alert»; uv = s .status .uv; ov = s .status .ov; scd = s .status .scd; ocd = s .status .ocd };
+      «cc_oneshot» = false;
+      «dsg_on» = s .«dsg_on»;
+      «chg_on» = s .«chg_on»;
     }

@@ -2,11 +2,11 @@
 use mathlib.Core.Bool.{Bool, true, _||_, cond}
 use mathlib.Core.List.{List}
 use Prim.Native.Nat.{ℕ, _/_, _%_}
-use Rattle.scan.specs.Scan.{total, padded, cellPlaces, tsPlaces}
+use Rattle.cell_counts.specs.Scan.{total, padded, cellPlaces, tsPlaces}
 use Rattle.registers.specs.declared.Shown.{Shown}
 use Rattle.registers.specs.declared.Measured.{Measured}
 use Rattle.registers.specs.declared.Registers.{Registers}
-use Rattle.registers.specs.State.{noBalance, withShown, withBalance, withMeasured, alert}
+use Rattle.registers.specs.State.{noCellbal, withShown, withCellbal, withMeasured, alert}
 use Rattle.registers.specs.Fault.{overridden, readied, counting}
 
 -- ── SCAN with ADC_EN 1: store counts, BAT = sum of counts divided by 4, rounded down ──
@@ -21,10 +21,10 @@ abbrev pub cellsOf : List ℕ → Measured → Measured
 cellsOf xs m = cellsKept (padded cellPlaces xs) (total xs) m
 
 abbrev pub scanKept : List ℕ → ℕ → Registers → Registers
-scanKept cells sum r = withMeasured (cond (r .settings .adc) (cellsKept cells sum (r .measured)) (r .measured)) r
+scanKept cells sum r = withMeasured (cond (r .settings .«adc_en») (cellsKept cells sum (r .measured)) (r .measured)) r
 
 abbrev pub scanned : List ℕ → Registers → Registers
-scanned xs r = withMeasured (cond (r .settings .adc) (cellsOf xs (r .measured)) (r .measured)) r
+scanned xs r = withMeasured (cond (r .settings .«adc_en») (cellsOf xs (r .measured)) (r .measured)) r
 
 -- ── TEMP stores with ADC_EN 1 ──
 abbrev pub tsKept : List ℕ → Measured → Measured
@@ -34,10 +34,10 @@ abbrev pub tsOf : List ℕ → Measured → Measured
 tsOf xs m = tsKept (padded tsPlaces xs) m
 
 abbrev pub tempKept : List ℕ → Registers → Registers
-tempKept ts r = withMeasured (cond (r .settings .adc) (tsKept ts (r .measured)) (r .measured)) r
+tempKept ts r = withMeasured (cond (r .settings .«adc_en») (tsKept ts (r .measured)) (r .measured)) r
 
 abbrev pub warmed : List ℕ → Registers → Registers
-warmed xs r = withMeasured (cond (r .settings .adc) (tsOf xs (r .measured)) (r .measured)) r
+warmed xs r = withMeasured (cond (r .settings .«adc_en») (tsOf xs (r .measured)) (r .measured)) r
 
 -- ── COUNT with CC_EN or CC_ONESHOT 1 stores CC, raises CC_READY, drops CC_ONESHOT; else nothing ──
 abbrev pub ccOf : ℕ → Measured → Measured
@@ -45,21 +45,21 @@ ccOf n m = record { cells = m .cells; bat = m .bat; ts = m .ts; cc = n }
 
 abbrev pub coulombs : ℕ → Registers → Registers
 coulombs n r =
-    let on : Bool = r .settings .counter || r .shown .oneshot in
+    let on : Bool = r .settings .«cc_en» || r .shown .«cc_oneshot» in
     withShown (cond on (counting (r .shown)) (r .shown)) (withMeasured (cond on (ccOf n (r .measured)) (r .measured)) r)
 
 -- ── ALERT pulled up from outside raises OVRD_ALERT, only with SYS_STAT 0 ──
-abbrev pub heldAt : Bool → Shown → Shown
-heldAt l s = cond l (cond (alert (s .status)) s (overridden s)) s
+abbrev pub pulledAt : Bool → Shown → Shown
+pulledAt l s = cond l (cond (alert (s .status)) s (overridden s)) s
 
 -- PIN: an edge
 abbrev pub pulled : Registers → Registers
-pulled r = withShown (heldAt true (r .shown)) r
+pulled r = withShown (pulledAt true (r .shown)) r
 
 -- document 02, M-103: the outside level, after every event that leaves the chip in NORMAL
-abbrev pub held : Registers → Registers
-held r = withShown (heldAt (r .outside) (r .shown)) r
+abbrev pub pulledByLevel : Registers → Registers
+pulledByLevel r = withShown (pulledAt (r .«outside_level») (r .shown)) r
 
 -- ── XREADY its own bit, and clears all of CELLBAL ──
 abbrev pub unready : Registers → Registers
-unready r = withBalance noBalance (withShown (readied (r .shown)) r)
+unready r = withCellbal noCellbal (withShown (readied (r .shown)) r)

@@ -7,20 +7,20 @@ use lib.Dec.{eqb, leb, ltb}
 use borrow.Author.Tests.{eqb-true, ne-eqb, ltb-true, ltb-false, lt-ltb, le-ltb, le-leb, lt-leb}
 use Rattle.events.specs.declared.Setup.{Setup}
 use Rattle.events.specs.Setup.{groups, inputs}
-use Rattle.settings.specs.Bit.{weighed}
-use Rattle.settings.specs.Write.{protect1Of, protect2Of, protect3Of, cfgOf, settingsWith}
+use Rattle.bits.specs.Bit.{weighed}
+use Rattle.settings.specs.Write.{protect1Of, protect2Of, protect3Of, ccCfgOf, settingsWith}
 use Rattle.settings.specs.Read.{settingsByte}
 use Rattle.registers.specs.declared.Status.{Status}
-use Rattle.registers.specs.declared.Balance.{Balance}
+use Rattle.registers.specs.declared.Cellbal.{Cellbal}
 use Rattle.registers.specs.declared.Measured.{Measured}
 use Rattle.registers.specs.declared.Registers.{Registers}
 use Rattle.registers.specs.State.{alert}
-use Rattle.registers.specs.Write.{statusOf, without, fiveOf, shownWith, balanceWith, written}
-use Rattle.registers.specs.Read.{statusByte, balanceByte, lowByte, half, wordAt, fixedByte, readAt, pairAt}
+use Rattle.registers.specs.Write.{statusOf, without, fiveOf, shownWith, cellbalWith, written}
+use Rattle.registers.specs.Read.{statusByte, cellbalByte, controlByte, half, wordAt, fixedByte, readAt, pairAt}
 
 -- ── writes to unnamed and read-only addresses change nothing ──
 pub read-only : (u : Setup) (a v : ℕ) (r : Registers) → 0x0B < a → written u a v r ≡ r
-unfolding settingsWith shownWith balanceWith
+unfolding settingsWith shownWith cellbalWith
 read-only u a v r h =
     simp (differs 0x00 (omega arith), differs 0x01 (omega arith), differs 0x02 (omega arith), differs 0x03 (omega arith), differs 0x04 (omega arith), differs 0x05 (omega arith), differs 0x06 (omega arith), differs 0x07 (omega arith), differs 0x08 (omega arith), differs 0x09 (omega arith), differs 0x0A (omega arith), differs 0x0B (omega arith))
   where
@@ -35,13 +35,13 @@ and-lacks a n g h = by (eqb a n) refl
     by true e = lt-leb n g (omega (arith, eqb-true a n e))
     by false e = refl
 
-pub lacks-balance : (u : Setup) (a v : ℕ) (b : Balance) → groups u < a → balanceWith u a v b ≡ b
-unfolding balanceWith
-lacks-balance u a v b h = simp (and-lacks a 0x01 (groups u) h, and-lacks a 0x02 (groups u) h, and-lacks a 0x03 (groups u) h)
+pub lacks-cellbal : (u : Setup) (a v : ℕ) (b : Cellbal) → groups u < a → cellbalWith u a v b ≡ b
+unfolding cellbalWith
+lacks-cellbal u a v b h = simp (and-lacks a 0x01 (groups u) h, and-lacks a 0x02 (groups u) h, and-lacks a 0x03 (groups u) h)
 
-pub lacks-balance-byte : (u : Setup) (b : Balance) (a : ℕ) → groups u < a → balanceByte u b a ≡ 0
-unfolding balanceByte
-lacks-balance-byte u b a h = simp (and-lacks a 0x01 (groups u) h, and-lacks a 0x02 (groups u) h, and-lacks a 0x03 (groups u) h)
+pub lacks-cellbal-byte : (u : Setup) (b : Cellbal) (a : ℕ) → groups u < a → cellbalByte u b a ≡ 0
+unfolding cellbalByte
+lacks-cellbal-byte u b a h = simp (and-lacks a 0x01 (groups u) h, and-lacks a 0x02 (groups u) h, and-lacks a 0x03 (groups u) h)
 
 -- ── what the part lacks, and what has no name, reads 0, whatever the registers hold ──
 half-none : (a : ℕ) → half a 0 ≡ 0
@@ -53,9 +53,9 @@ half-none a = by (eqb (a % 2) 0)
     by false = refl
 
 pub lacks-five : (u : Setup) (r : Registers) (a : ℕ) → groups u < a → a < 0x04 → readAt u r a ≡ 0
-unfolding readAt lowByte
+unfolding readAt controlByte
 lacks-five u r a h k =
-    simp (lt-ltb a 0x0C (omega arith), ne-eqb a 0x00 (λ e. omega arith), ne-eqb a 0x04 (λ e. omega arith), ne-eqb a 0x05 (λ e. omega arith), lt-ltb a 0x04 k, lacks-balance-byte u (r .balance) a h)
+    simp (lt-ltb a 0x0C (omega arith), ne-eqb a 0x00 (λ e. omega arith), ne-eqb a 0x04 (λ e. omega arith), ne-eqb a 0x05 (λ e. omega arith), lt-ltb a 0x04 k, lacks-cellbal-byte u (r .cellbal) a h)
 
 pub lacks-cell : (u : Setup) (r : Registers) (a : ℕ) → 0x0C + 2 * inputs u ≤ a → a < 0x2A → readAt u r a ≡ 0
 unfolding readAt wordAt
@@ -73,10 +73,10 @@ unnamed u r a h p q s = simp (le-ltb a 0x0C (omega arith), le-ltb a 0x34 h, ne-e
 
 -- ── no read depends on the offset, but 0x51 itself ──
 abbrev pub withOffset : ℕ → Setup → Setup
-withOffset o u = record { part = u .part; crc = u .crc; address = u .address; gain = u .gain; offset = o; floor = u .floor; cells = u .cells }
+withOffset o u = record { part = u .part; crc = u .crc; address = u .address; «gain_code» = u .«gain_code»; offset = o; floor = u .floor; cells = u .cells }
 
 pub offset-alone : (o : ℕ) (u : Setup) (r : Registers) (a : ℕ) → (a ≡ 0x51 → ⊥) → readAt (withOffset o u) r a ≡ readAt u r a
-unfolding readAt lowByte balanceByte wordAt fixedByte groups inputs
+unfolding readAt controlByte cellbalByte wordAt fixedByte groups inputs
 offset-alone o u r a h = simp (ne-eqb a 0x51 h)
 
 pub offset-shows : (u : Setup) (r : Registers) → readAt u r 0x51 ≡ u .offset
@@ -93,10 +93,10 @@ pub data Plain (u : Setup) : ℕ → (ℕ → ℕ) → Type 0 where
   protect3 : Plain u 0x08 protect3Of
   ovTrip : Plain u 0x09 (λ v. v)
   uvTrip : Plain u 0x0A (λ v. v)
-  ccCfg : Plain u 0x0B cfgOf
+  ccCfg : Plain u 0x0B ccCfgOf
 
 pub plain-back : {u : Setup} {a : ℕ} {bits : ℕ → ℕ} → Plain u a bits → (v : ℕ) (r : Registers) → readAt u (written u a v r) a ≡ bits v
-unfolding readAt lowByte balanceByte balanceWith settingsByte settingsWith
+unfolding readAt controlByte cellbalByte cellbalWith settingsByte settingsWith
 plain-back {u} (cellbal1 h) v r = simp (le-leb 1 (groups u) h) (omega arith)
 plain-back {u} (cellbal2 h) v r = simp (le-leb 2 (groups u) h) (omega arith)
 plain-back {u} (cellbal3 h) v r = simp (le-leb 3 (groups u) h) (omega arith)
@@ -109,7 +109,7 @@ plain-back ccCfg v r = omega arith
 
 -- and SYS_STAT holds what the ones written did not clear
 pub status-back : (u : Setup) (v : ℕ) (r : Registers) → readAt u (written u 0x00 v r) 0x00 ≡ statusByte (without (statusOf v) (r .shown .status))
-unfolding readAt lowByte shownWith
+unfolding readAt controlByte shownWith
 status-back u v r = refl
 
 -- ── ALERT is up when SYS_STAT is not 0 ──
@@ -124,7 +124,7 @@ some-bit false false false false false false true = refl
 some-bit false false false false false false false = refl
 
 pub alert-is : (t : Status) → alert t ≡ not (eqb (statusByte t) 0)
-alert-is t = some-bit (t .ready) (t .xready) (t .ovrd) (t .uv) (t .ov) (t .scd) (t .ocd)
+alert-is t = some-bit (t .«cc_ready») (t .xready) (t .«ovrd_alert») (t .uv) (t .ov) (t .scd) (t .ocd)
 
 -- ── a pair's low byte, as IN is told it, is what the odd address reads ──
 even-below : (a k : ℕ) → a % 2 ≡ 0 → k % 2 ≡ 0 → ltb (a + 1) k ≡ ltb a k

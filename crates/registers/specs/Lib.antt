@@ -4,7 +4,7 @@ pub mod Read
 pub mod Fault
 pub mod Judging
 pub mod Laws
-pub mod Elsewhere
-pub mod Named
-pub mod Drives
-pub mod Held
+pub mod ElsewhereLaws
+pub mod NamedLaws
+pub mod DrivesLaws
+pub mod LevelLaws

@@ -5,10 +5,10 @@ use lib.ListN.{getD}
 use lib.Dec.{eqb, leb, ltb}
 use Rattle.events.specs.declared.Setup.{Setup}
 use Rattle.events.specs.Setup.{groups, inputs}
-use Rattle.settings.specs.Bit.{weighed}
+use Rattle.bits.specs.Bit.{weighed}
 use Rattle.settings.specs.Read.{settingsByte}
 use Rattle.registers.specs.declared.Status.{Status}
-use Rattle.registers.specs.declared.Balance.{Balance}
+use Rattle.registers.specs.declared.Cellbal.{Cellbal}
 use Rattle.registers.specs.declared.Measured.{Measured}
 use Rattle.registers.specs.declared.Registers.{Registers}
 use Rattle.registers.specs.declared.Pair.{Pair}
@@ -16,32 +16,32 @@ use Rattle.registers.specs.Write.{fiveOf}
 
 -- 0x00 SYS_STAT: CC_READY 7, XREADY 5, OVRD_ALERT 4, UV 3, OV 2, SCD 1, OCD 0
 abbrev pub statusByte : Status → ℕ
-statusByte t = weighed (t .ready) 128 + weighed (t .xready) 32 + weighed (t .ovrd) 16 + weighed (t .uv) 8 + weighed (t .ov) 4 + weighed (t .scd) 2 + weighed (t .ocd) 1
+statusByte t = weighed (t .«cc_ready») 128 + weighed (t .xready) 32 + weighed (t .«ovrd_alert») 16 + weighed (t .uv) 8 + weighed (t .ov) 4 + weighed (t .scd) 2 + weighed (t .ocd) 1
 
 -- 0x01 to 0x03 CELLBAL: bits 4 to 0, for the inputs that the part has
-unfoldable pub balanceByte : Setup → Balance → ℕ → ℕ
-balanceByte u b a =
-    cond (eqb a 0x01 && leb 1 (groups u)) (fiveOf (b .one))
-    (cond (eqb a 0x02 && leb 2 (groups u)) (fiveOf (b .two))
-    (cond (eqb a 0x03 && leb 3 (groups u)) (fiveOf (b .three))
+unfoldable pub cellbalByte : Setup → Cellbal → ℕ → ℕ
+cellbalByte u b a =
+    cond (eqb a 0x01 && leb 1 (groups u)) (fiveOf (b .cellbal1))
+    (cond (eqb a 0x02 && leb 2 (groups u)) (fiveOf (b .cellbal2))
+    (cond (eqb a 0x03 && leb 3 (groups u)) (fiveOf (b .cellbal3))
     0))
 
 -- 0x04 SYS_CTRL1: LOAD_PRESENT 7 (load level 1 and CHG_ON 0), ADC_EN 4, TEMP_SEL 3, the pair
 abbrev pub ctrl1Byte : Registers → ℕ
 ctrl1Byte r =
-    weighed (r .load && not (r .shown .chg)) 128 + weighed (r .settings .adc) 16 + weighed (r .settings .temp) 8 + weighed (r .settings .held) 1
+    weighed (r .«load_level» && not (r .shown .«chg_on»)) 128 + weighed (r .settings .«adc_en») 16 + weighed (r .settings .«temp_sel») 8 + weighed (r .settings .«shut_b») 1
 
 -- 0x05 SYS_CTRL2: DELAY_DIS 7, CC_EN 6, CC_ONESHOT 5, DSG_ON 1, CHG_ON 0
 abbrev pub ctrl2Byte : Registers → ℕ
 ctrl2Byte r =
-    weighed (r .settings .hasty) 128 + weighed (r .settings .counter) 64 + weighed (r .shown .oneshot) 32 + weighed (r .shown .dsg) 2 + weighed (r .shown .chg) 1
+    weighed (r .settings .«delay_dis») 128 + weighed (r .settings .«cc_en») 64 + weighed (r .shown .«cc_oneshot») 32 + weighed (r .shown .«dsg_on») 2 + weighed (r .shown .«chg_on») 1
 
-unfoldable pub lowByte : Setup → Registers → ℕ → ℕ
-lowByte u r a =
+unfoldable pub controlByte : Setup → Registers → ℕ → ℕ
+controlByte u r a =
     cond (eqb a 0x00) (statusByte (r .shown .status))
     (cond (eqb a 0x04) (ctrl1Byte r)
     (cond (eqb a 0x05) (ctrl2Byte r)
-    (cond (ltb a 0x04) (balanceByte u (r .balance) a)
+    (cond (ltb a 0x04) (cellbalByte u (r .cellbal) a)
     (settingsByte (r .settings) a))))
 
 -- high byte first: a word's high byte at the even address, its low byte at the odd one
@@ -65,13 +65,13 @@ wordAt u m a =
 -- 0x50 bits 3:2 gain code 4:3; 0x51 offset; 0x59 bits 7:5 gain code 2:0; from setup
 unfoldable pub fixedByte : Setup → ℕ → ℕ
 fixedByte u a =
-    cond (eqb a 0x50) (u .gain / 8 % 4 * 4)
+    cond (eqb a 0x50) (u .«gain_code» / 8 % 4 * 4)
     (cond (eqb a 0x51) (u .offset)
-    (cond (eqb a 0x59) (u .gain % 8 * 32)
+    (cond (eqb a 0x59) (u .«gain_code» % 8 * 32)
     0))
 
 unfoldable pub readAt : Setup → Registers → ℕ → ℕ
-readAt u r a = cond (ltb a 0x0C) (lowByte u r a) (cond (ltb a 0x34) (half a (wordAt u (r .measured) a)) (fixedByte u a))
+readAt u r a = cond (ltb a 0x0C) (controlByte u r a) (cond (ltb a 0x34) (half a (wordAt u (r .measured) a)) (fixedByte u a))
 
 -- what IN is told of an address: the byte that it reads, and the low byte of the word that stands there, 0 where none does
 unfoldable pub pairAt : Setup → Registers → ℕ → Pair

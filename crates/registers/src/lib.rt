@@ -1,10 +1,10 @@
 // The registers as a value: what an address reads, what an accepted write does, and what events leave.
 ghost use mathlib.Core.Path.{_≡_};
 ghost use Rattle.events.specs.Fault.{among};
-ghost use Rattle.registers.specs.State.{withStatus, withShown, withLoad, withOutside, alert as alertSpec, reset as resetSpec};
-ghost use Rattle.registers.specs.Write.{statusOf, without, driven, shownWith, balanceWith, written};
+ghost use Rattle.registers.specs.State.{withStatus, withShown, withLoadLevel, withOutsideLevel, alert as alertSpec, reset as resetSpec};
+ghost use Rattle.registers.specs.Write.{statusOf, without, driven, shownWith, cellbalWith, written};
 ghost use Rattle.registers.specs.Fault.{raised as raisedSpec, overridden as overriddenSpec, readied as readiedSpec, counting as countingSpec};
-ghost use Rattle.registers.specs.Judging.{scanKept, tempKept, heldAt, coulombs as coulombsSpec, pulled as pulledSpec, held as heldSpec, unready as unreadySpec};
+ghost use Rattle.registers.specs.Judging.{scanKept, tempKept, pulledAt, coulombs as coulombsSpec, pulled as pulledSpec, pulledByLevel as pulledByLevelSpec, unready as unreadySpec};
 use events::Faults;
 use events::Setup;
 use settings::Settings;
@@ -13,9 +13,9 @@ mod read;
 
 // SYS_STAT, named from bit 7 down.
 pub struct Status {
-    pub ready: bool,
+    pub cc_ready: bool,
     pub xready: bool,
-    pub ovrd: bool,
+    pub ovrd_alert: bool,
     pub uv: bool,
     pub ov: bool,
     pub scd: bool,
@@ -25,15 +25,15 @@ pub struct Status {
 // What faults move too: SYS_STAT, CC_ONESHOT, DSG_ON and CHG_ON.
 pub struct Shown {
     pub status: Status,
-    pub oneshot: bool,
-    pub dsg: bool,
-    pub chg: bool,
+    pub cc_oneshot: bool,
+    pub dsg_on: bool,
+    pub chg_on: bool,
 }
 
-pub struct Balance {
-    pub one: u8,
-    pub two: u8,
-    pub three: u8,
+pub struct Cellbal {
+    pub cellbal1: u8,
+    pub cellbal2: u8,
+    pub cellbal3: u8,
 }
 
 pub struct Measured {
@@ -46,11 +46,11 @@ pub struct Measured {
 pub struct Registers {
     pub settings: Settings,
     pub shown: Shown,
-    pub balance: Balance,
+    pub cellbal: Cellbal,
     pub measured: Measured,
-    pub load: bool,
+    pub load_level: bool,
     // The outside level.
-    pub outside: bool,
+    pub outside_level: bool,
 }
 
 // The byte at an address, and the low byte of the word that stands there.
@@ -64,20 +64,20 @@ impl Status {
     pub fn alert(self) -> bool
         ensures { λ r. ⌜ r ≡ alertSpec self ⌝ }
     {
-        self.ready | self.xready | self.ovrd | self.uv | self.ov | self.scd | self.ocd
+        self.cc_ready | self.xready | self.ovrd_alert | self.uv | self.ov | self.scd | self.ocd
     }
 
     fn less(self, v: u8) -> Self
         ensures { λ r. ⌜ r ≡ without (statusOf v) self ⌝ }
     {
         Status {
-            ready: self.ready & !settings::bit(v, 128),
-            xready: self.xready & !settings::bit(v, 32),
-            ovrd: self.ovrd & !settings::bit(v, 16),
-            uv: self.uv & !settings::bit(v, 8),
-            ov: self.ov & !settings::bit(v, 4),
-            scd: self.scd & !settings::bit(v, 2),
-            ocd: self.ocd & !settings::bit(v, 1),
+            cc_ready: self.cc_ready & !bits::bit(v, 128),
+            xready: self.xready & !bits::bit(v, 32),
+            ovrd_alert: self.ovrd_alert & !bits::bit(v, 16),
+            uv: self.uv & !bits::bit(v, 8),
+            ov: self.ov & !bits::bit(v, 4),
+            scd: self.scd & !bits::bit(v, 2),
+            ocd: self.ocd & !bits::bit(v, 1),
         }
     }
 }
@@ -95,13 +95,13 @@ impl Shown {
         ensures { λ r. ⌜ r ≡ driven v self ⌝ }
     {
         let s = self.status;
-        let dsg = settings::bit(v, 2) & !(s.uv | s.ocd | s.scd | s.ovrd | s.xready);
-        let chg = settings::bit(v, 1) & !(s.ov | s.ovrd | s.xready);
-        let oneshot = settings::bit(v, 32) & !settings::bit(v, 64) & !s.ready;
+        let dsg_on = bits::bit(v, 2) & !(s.uv | s.ocd | s.scd | s.ovrd_alert | s.xready);
+        let chg_on = bits::bit(v, 1) & !(s.ov | s.ovrd_alert | s.xready);
+        let cc_oneshot = bits::bit(v, 32) & !bits::bit(v, 64) & !s.cc_ready;
         Shown {
-            oneshot,
-            dsg,
-            chg,
+            cc_oneshot,
+            dsg_on,
+            chg_on,
             ..self
         }
     }
@@ -130,12 +130,12 @@ impl Shown {
             ocd: rise.ocd | s.ocd,
             ..s
         };
-        let dsg = !(rise.uv | rise.scd | rise.ocd) & self.dsg;
-        let chg = !rise.ov & self.chg;
+        let dsg_on = !(rise.uv | rise.scd | rise.ocd) & self.dsg_on;
+        let chg_on = !rise.ov & self.chg_on;
         Shown {
             status,
-            dsg,
-            chg,
+            dsg_on,
+            chg_on,
             ..self
         }
     }
@@ -144,18 +144,18 @@ impl Shown {
         ensures { λ r. ⌜ r ≡ overriddenSpec self ⌝ }
     {
         let s = self.status;
-        let status = Status { ovrd: true, ..s };
+        let status = Status { ovrd_alert: true, ..s };
         Shown {
             status,
-            dsg: false,
-            chg: false,
+            dsg_on: false,
+            chg_on: false,
             ..self
         }
     }
 
     // ALERT pulled up from outside, or not: OVRD_ALERT rises only with SYS_STAT 0.
     fn pressed(self, level: bool) -> Self
-        ensures { λ r. ⌜ r ≡ heldAt level self ⌝ }
+        ensures { λ r. ⌜ r ≡ pulledAt level self ⌝ }
     {
         if !level {
             return self;
@@ -174,8 +174,8 @@ impl Shown {
         let status = Status { xready: true, ..s };
         Shown {
             status,
-            dsg: false,
-            chg: false,
+            dsg_on: false,
+            chg_on: false,
             ..self
         }
     }
@@ -184,35 +184,35 @@ impl Shown {
         ensures { λ r. ⌜ r ≡ countingSpec self ⌝ }
     {
         let s = self.status;
-        let status = Status { ready: true, ..s };
+        let status = Status { cc_ready: true, ..s };
         Shown {
             status,
-            oneshot: false,
+            cc_oneshot: false,
             ..self
         }
     }
 }
 
-impl Balance {
+impl Cellbal {
     pub fn write(self, setup: Setup, a: u8, v: u8) -> Self
-        ensures { λ r. ⌜ r ≡ balanceWith setup a v self ⌝ }
+        ensures { λ r. ⌜ r ≡ cellbalWith setup a v self ⌝ }
     {
         let groups = setup.groups();
         if (a == 0x01) & (1 <= groups) {
-            return Balance {
-                one: v % 32,
+            return Cellbal {
+                cellbal1: v % 32,
                 ..self
             };
         }
         if (a == 0x02) & (2 <= groups) {
-            return Balance {
-                two: v % 32,
+            return Cellbal {
+                cellbal2: v % 32,
                 ..self
             };
         }
         if (a == 0x03) & (3 <= groups) {
-            return Balance {
-                three: v % 32,
+            return Cellbal {
+                cellbal3: v % 32,
                 ..self
             };
         }
@@ -226,9 +226,9 @@ pub fn reset() -> Registers
 {
     let settings = settings::reset();
     let status = Status {
-        ready: false,
+        cc_ready: false,
         xready: false,
-        ovrd: false,
+        ovrd_alert: false,
         uv: false,
         ov: false,
         scd: false,
@@ -236,9 +236,9 @@ pub fn reset() -> Registers
     };
     let shown = Shown {
         status,
-        oneshot: false,
-        dsg: false,
-        chg: false,
+        cc_oneshot: false,
+        dsg_on: false,
+        chg_on: false,
     };
     let cells = [0; 15];
     let ts = [0; 3];
@@ -251,14 +251,14 @@ pub fn reset() -> Registers
     Registers {
         settings,
         shown,
-        balance: Balance {
-            one: 0,
-            two: 0,
-            three: 0,
+        cellbal: Cellbal {
+            cellbal1: 0,
+            cellbal2: 0,
+            cellbal3: 0,
         },
         measured,
-        load: false,
-        outside: false,
+        load_level: false,
+        outside_level: false,
     }
 }
 
@@ -269,9 +269,9 @@ impl Registers {
     {
         let settings = self.settings;
         let shown = self.shown;
-        let balance = self.balance;
+        let cellbal = self.cellbal;
         self.settings = settings.write(a, v);
-        self.balance = balance.write(setup, a, v);
+        self.cellbal = cellbal.write(setup, a, v);
         self.shown = shown.write(a, v);
         self
     }
@@ -288,7 +288,7 @@ impl Registers {
     pub fn scanned(mut self, cells: [u16; 15], sum: u32) -> Self
         ensures { λ r. ⌜ r ≡ scanKept cells sum self ⌝ }
     {
-        if self.settings.adc {
+        if self.settings.adc_en {
             let m = self.measured;
             let bat = (sum / 4 % 65536) as u16;
             let measured = Measured { cells, bat, ..m };
@@ -301,7 +301,7 @@ impl Registers {
     pub fn warmed(self, ts: [u16; 3]) -> Self
         ensures { λ r. ⌜ r ≡ tempKept ts self ⌝ }
     {
-        if self.settings.adc {
+        if self.settings.adc_en {
             let m = self.measured;
             let measured = Measured { ts, ..m };
             return Registers { measured, ..self };
@@ -313,7 +313,7 @@ impl Registers {
     pub fn coulombs(self, cc: u16) -> Self
         ensures { λ r. ⌜ r ≡ coulombsSpec cc self ⌝ }
     {
-        if self.settings.counter | self.shown.oneshot {
+        if self.settings.cc_en | self.shown.cc_oneshot {
             let m = self.measured;
             let measured = Measured { cc, ..m };
             let shown = self.shown;
@@ -342,38 +342,38 @@ impl Registers {
     {
         let shown = self.shown;
         let shown = shown.readied();
-        let balance = Balance {
-            one: 0,
-            two: 0,
-            three: 0,
+        let cellbal = Cellbal {
+            cellbal1: 0,
+            cellbal2: 0,
+            cellbal3: 0,
         };
         Registers {
             shown,
-            balance,
+            cellbal,
             ..self
         }
     }
 
     // LOAD.
     pub fn loaded(self, load: bool) -> Self
-        ensures { λ r. ⌜ r ≡ withLoad load self ⌝ }
+        ensures { λ r. ⌜ r ≡ withLoadLevel load self ⌝ }
     {
-        Registers { load, ..self }
+        Registers { load_level: load, ..self }
     }
 
     // The outside level.
     pub fn leveled(self, outside: bool) -> Self
-        ensures { λ r. ⌜ r ≡ withOutside outside self ⌝ }
+        ensures { λ r. ⌜ r ≡ withOutsideLevel outside self ⌝ }
     {
-        Registers { outside, ..self }
+        Registers { outside_level: outside, ..self }
     }
 
     // What the outside level does after an event.
-    pub fn held(mut self) -> Self
-        ensures { λ r. ⌜ r ≡ heldSpec self ⌝ }
+    pub fn pulled_by_level(mut self) -> Self
+        ensures { λ r. ⌜ r ≡ pulledByLevelSpec self ⌝ }
     {
         let shown = self.shown;
-        self.shown = shown.pressed(self.outside);
+        self.shown = shown.pressed(self.outside_level);
         self
     }
 }

@@ -1,8 +1,8 @@
 // What an address reads.
 ghost use mathlib.Core.Path.{_≡_};
 ghost use Prim.Native.Nat.{_≤_, _<_};
-ghost use Rattle.registers.specs.Read.{statusByte, balanceByte, ctrl1Byte, ctrl2Byte, lowByte, half, cellAt, tsAt, wordAt, fixedByte, readAt, pairAt};
-use crate::Balance;
+ghost use Rattle.registers.specs.Read.{statusByte, cellbalByte, ctrl1Byte, ctrl2Byte, controlByte, half, cellAt, tsAt, wordAt, fixedByte, readAt, pairAt};
+use crate::Cellbal;
 use crate::Measured;
 use crate::Pair;
 use crate::Registers;
@@ -13,29 +13,29 @@ impl Status {
     pub fn byte(self) -> u8
         ensures { λ r. ⌜ r ≡ statusByte self ⌝ }
     {
-        settings::weigh(self.ready, 128)
-            + settings::weigh(self.xready, 32)
-            + settings::weigh(self.ovrd, 16)
-            + settings::weigh(self.uv, 8)
-            + settings::weigh(self.ov, 4)
-            + settings::weigh(self.scd, 2)
-            + settings::weigh(self.ocd, 1)
+        bits::weigh(self.cc_ready, 128)
+            + bits::weigh(self.xready, 32)
+            + bits::weigh(self.ovrd_alert, 16)
+            + bits::weigh(self.uv, 8)
+            + bits::weigh(self.ov, 4)
+            + bits::weigh(self.scd, 2)
+            + bits::weigh(self.ocd, 1)
     }
 }
 
-impl Balance {
+impl Cellbal {
     fn byte(self, setup: Setup, a: u8) -> u8
-        ensures { λ r. ⌜ r ≡ balanceByte setup self a ⌝ }
+        ensures { λ r. ⌜ r ≡ cellbalByte setup self a ⌝ }
     {
         let groups = setup.groups();
         if (a == 0x01) & (1 <= groups) {
-            return self.one % 32;
+            return self.cellbal1 % 32;
         }
         if (a == 0x02) & (2 <= groups) {
-            return self.two % 32;
+            return self.cellbal2 % 32;
         }
         if (a == 0x03) & (3 <= groups) {
-            return self.three % 32;
+            return self.cellbal3 % 32;
         }
         0
     }
@@ -95,9 +95,9 @@ fn fixed_byte(setup: Setup, a: u8) -> u8
     ensures { λ r. ⌜ r ≡ fixedByte setup a ⌝ }
 {
     match a {
-        0x50 => setup.gain / 8 % 4 * 4,
+        0x50 => setup.gain_code / 8 % 4 * 4,
         0x51 => setup.offset,
-        0x59 => setup.gain % 8 * 32,
+        0x59 => setup.gain_code % 8 * 32,
         _ => 0,
     }
 }
@@ -107,10 +107,10 @@ impl Registers {
         ensures { λ r. ⌜ r ≡ ctrl1Byte self ⌝ }
     {
         let s = self.settings;
-        settings::weigh(self.load & !self.shown.chg, 128)
-            + settings::weigh(s.adc, 16)
-            + settings::weigh(s.temp, 8)
-            + settings::weigh(s.held, 1)
+        bits::weigh(self.load_level & !self.shown.chg_on, 128)
+            + bits::weigh(s.adc_en, 16)
+            + bits::weigh(s.temp_sel, 8)
+            + bits::weigh(s.shut_b, 1)
     }
 
     fn ctrl2(self) -> u8
@@ -118,15 +118,15 @@ impl Registers {
     {
         let s = self.settings;
         let shown = self.shown;
-        settings::weigh(s.hasty, 128)
-            + settings::weigh(s.counter, 64)
-            + settings::weigh(shown.oneshot, 32)
-            + settings::weigh(shown.dsg, 2)
-            + settings::weigh(shown.chg, 1)
+        bits::weigh(s.delay_dis, 128)
+            + bits::weigh(s.cc_en, 64)
+            + bits::weigh(shown.cc_oneshot, 32)
+            + bits::weigh(shown.dsg_on, 2)
+            + bits::weigh(shown.chg_on, 1)
     }
 
-    fn low_byte(self, setup: Setup, a: u8) -> u8
-        ensures { λ r. ⌜ r ≡ lowByte setup self a ⌝ }
+    fn control_byte(self, setup: Setup, a: u8) -> u8
+        ensures { λ r. ⌜ r ≡ controlByte setup self a ⌝ }
     {
         if a == 0x00 {
             let shown = self.shown;
@@ -140,8 +140,8 @@ impl Registers {
             return self.ctrl2();
         }
         if a < 0x04 {
-            let balance = self.balance;
-            return balance.byte(setup, a);
+            let cellbal = self.cellbal;
+            return cellbal.byte(setup, a);
         }
         let settings = self.settings;
         settings.byte(a)
@@ -152,7 +152,7 @@ impl Registers {
         ensures { λ r. ⌜ r ≡ pairAt setup self a ⌝ }
     {
         if a < 0x0C {
-            let here = self.low_byte(setup, a);
+            let here = self.control_byte(setup, a);
             return Pair { here, low: 0 };
         }
         if a < 0x34 {

@@ -1,9 +1,9 @@
 pub mod Column
 pub mod Report
-pub mod Places
-pub mod Single
-pub mod Cases
-pub mod Ordered
-pub mod Joined
-pub mod Readings
-pub mod Worked
+pub mod PlacesLaws
+pub mod SingleLaws
+pub mod CasesLaws
+pub mod OrderedLaws
+pub mod JoinedLaws
+pub mod ReadingsLaws
+pub mod WorkedLaws

@@ -1,4 +1,3 @@
-pub mod Bit
 pub mod State
 pub mod Write
 pub mod Read

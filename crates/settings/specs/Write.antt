@@ -3,7 +3,7 @@ use mathlib.Core.Bool.{Bool, not, _&&_, cond}
 use Prim.Native.Nat.{ℕ, _+_, _*_, _/_, _%_}
 use lib.Dec.{eqb}
 use Rattle.settings.specs.declared.Settings.{Settings}
-use Rattle.settings.specs.Bit.{bit}
+use Rattle.bits.specs.Bit.{bit}
 use Rattle.settings.specs.State.{withCtrl1, withCtrl2, withProtect1, withProtect2, withProtect3, withOvTrip, withUvTrip, withCcCfg}
 
 -- ── the pair of SYS_CTRL1: SHUT_A bit 1, SHUT_B bit 0 ──
@@ -15,11 +15,11 @@ shutB v = bit v 1
 
 -- pair (0,1) while (0,0) is held is kept, every other pair leaves (0,0)
 abbrev pub keepsPair : ℕ → Settings → Bool
-keepsPair v s = not (s .held) && not (shutA v) && shutB v
+keepsPair v s = not (s .«shut_b») && not (shutA v) && shutB v
 
 -- pair (1,0) while (0,1) is held enters SHIP
 abbrev pub ships : ℕ → ℕ → Settings → Bool
-ships a v s = eqb a 0x04 && s .held && shutA v && not (shutB v)
+ships a v s = eqb a 0x04 && s .«shut_b» && shutA v && not (shutB v)
 
 -- ── the bits that a register has ──
 -- 0x06: RSNS 7, SCD delay 4:3, SCD threshold 2:0
@@ -35,8 +35,8 @@ abbrev pub protect3Of : ℕ → ℕ
 protect3Of v = v / 16 * 16
 
 -- 0x0B: the low six bits
-abbrev pub cfgOf : ℕ → ℕ
-cfgOf v = v % 64
+abbrev pub ccCfgOf : ℕ → ℕ
+ccCfgOf v = v % 64
 
 -- ── the write: every other address leaves them ──
 unfoldable pub settingsWith : ℕ → ℕ → Settings → Settings
@@ -48,5 +48,5 @@ settingsWith a v s =
     (cond (eqb a 0x08) (withProtect3 (protect3Of v) s)
     (cond (eqb a 0x09) (withOvTrip v s)
     (cond (eqb a 0x0A) (withUvTrip v s)
-    (cond (eqb a 0x0B) (withCcCfg (cfgOf v) s)
+    (cond (eqb a 0x0B) (withCcCfg (ccCfgOf v) s)
     s)))))))

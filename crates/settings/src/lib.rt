@@ -1,26 +1,26 @@
 // The settings as a value: what accepted writes alone move.
 ghost use mathlib.Core.Path.{_≡_};
 ghost use Prim.Native.Nat.{_≤_};
-ghost use Rattle.settings.specs.Bit.{bit as bitSpec, weighed};
+ghost use Rattle.bits.specs.Bit.{bit as bitSpec, weighed};
 ghost use Rattle.settings.specs.State.{resetSettings};
-ghost use Rattle.settings.specs.Write.{ships as shipsSpec, protect1Of, protect2Of, protect3Of, cfgOf, settingsWith};
+ghost use Rattle.settings.specs.Write.{ships as shipsSpec, protect1Of, protect2Of, protect3Of, ccCfgOf, settingsWith};
 ghost use Rattle.settings.specs.Read.{settingsByte};
 
 pub struct Settings {
     // ADC_EN, TEMP_SEL and whether the pair (0,1) is held.
-    pub adc: bool,
-    pub temp: bool,
-    pub held: bool,
+    pub adc_en: bool,
+    pub temp_sel: bool,
+    pub shut_b: bool,
     // DELAY_DIS and CC_EN.
-    pub hasty: bool,
-    pub counter: bool,
+    pub delay_dis: bool,
+    pub cc_en: bool,
     pub protect1: u8,
     pub protect2: u8,
     pub protect3: u8,
     // OV_TRIP, UV_TRIP and CC_CFG.
-    pub overtrip: u8,
-    pub undertrip: u8,
-    pub cfg: u8,
+    pub ov_trip: u8,
+    pub uv_trip: u8,
+    pub cc_cfg: u8,
 }
 
 // The bit of weight 1, 2, 4, .. of a byte; no byte has a bit of weight 0.
@@ -60,7 +60,7 @@ fn protect3_of(v: u8) -> u8
 }
 
 fn cfg_of(v: u8) -> u8
-    ensures { λ r. ⌜ r ≡ cfgOf v ⌝ }
+    ensures { λ r. ⌜ r ≡ ccCfgOf v ⌝ }
 {
     v % 64
 }
@@ -70,17 +70,17 @@ pub fn reset() -> Settings
     ensures { λ r. ⌜ r ≡ resetSettings ⌝ }
 {
     Settings {
-        adc: true,
-        temp: false,
-        held: false,
-        hasty: false,
-        counter: false,
+        adc_en: true,
+        temp_sel: false,
+        shut_b: false,
+        delay_dis: false,
+        cc_en: false,
         protect1: 0,
         protect2: 0,
         protect3: 0,
-        overtrip: 0xAC,
-        undertrip: 0x97,
-        cfg: 0x17,
+        ov_trip: 0xAC,
+        uv_trip: 0x97,
+        cc_cfg: 0x17,
     }
 }
 
@@ -89,7 +89,7 @@ impl Settings {
     pub fn ships(self, a: u8, v: u8) -> bool
         ensures { λ r. ⌜ r ≡ shipsSpec a v self ⌝ }
     {
-        (a == 0x04) & self.held & bit(v, 2) & !bit(v, 1)
+        (a == 0x04) & self.shut_b & bit(v, 2) & !bit(v, 1)
     }
 
     pub fn write(mut self, a: u8, v: u8) -> Self
@@ -97,15 +97,15 @@ impl Settings {
     {
         match a {
             0x04 => {
-                let held = !self.held & !bit(v, 2) & bit(v, 1);
-                self.adc = bit(v, 16);
-                self.temp = bit(v, 8);
-                self.held = held;
+                let shut_b = !self.shut_b & !bit(v, 2) & bit(v, 1);
+                self.adc_en = bit(v, 16);
+                self.temp_sel = bit(v, 8);
+                self.shut_b = shut_b;
                 self
             }
             0x05 => {
-                self.hasty = bit(v, 128);
-                self.counter = bit(v, 64);
+                self.delay_dis = bit(v, 128);
+                self.cc_en = bit(v, 64);
                 self
             }
             0x06 => Settings {
@@ -121,15 +121,15 @@ impl Settings {
                 ..self
             },
             0x09 => Settings {
-                overtrip: v,
+                ov_trip: v,
                 ..self
             },
             0x0A => Settings {
-                undertrip: v,
+                uv_trip: v,
                 ..self
             },
             0x0B => Settings {
-                cfg: cfg_of(v),
+                cc_cfg: cfg_of(v),
                 ..self
             },
             _ => self,
@@ -144,9 +144,9 @@ impl Settings {
             0x06 => protect1_of(self.protect1),
             0x07 => protect2_of(self.protect2),
             0x08 => protect3_of(self.protect3),
-            0x09 => self.overtrip,
-            0x0A => self.undertrip,
-            0x0B => cfg_of(self.cfg),
+            0x09 => self.ov_trip,
+            0x0A => self.uv_trip,
+            0x0B => cfg_of(self.cc_cfg),
             _ => 0,
         }
     }

@@ -14,11 +14,11 @@ use Rattle.events.specs.declared.Event.{Event}
 use Rattle.records.specs.declared.Read.{Read}
 use Rattle.records.specs.declared.Read.the-variants.{Record, Refused, Cut}
 use Rattle.records.specs.Frame.{frameOf}
-use Rattle.records.specs.Framing.{first-refused}
+use Rattle.records.specs.FramingLaws.{first-refused}
 use Rattle.records.specs.Record.{readOf, numberOf}
-use Rattle.records.specs.Reading.{Placed, placed}
+use Rattle.records.specs.ReadingLaws.{Placed, placed}
 use Rattle.stream.specs.Frames.{frames, framesAfter, framesOf}
-use Rattle.stream.specs.Counted.{Framed, framed, frame-place}
+use Rattle.stream.specs.CountedLaws.{Framed, framed, frame-place}
 use Rattle.stream.proofs.Loop.{rest-is}
 
 pub record Counting (s : List ℕ) (at n : ℕ) : Type 0 where

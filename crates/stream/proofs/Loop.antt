@@ -17,7 +17,7 @@ use borrow.Author.Tests.{le-leb, lt-leb, leb-true}
 use Rattle.records.specs.Record.{readOf}
 use Rattle.records.specs.declared.Read.{Read}
 use Rattle.records.specs.declared.Read.the-variants.{Record, Refused, Cut}
-use Rattle.records.specs.Reading.{Placed, placed}
+use Rattle.records.specs.ReadingLaws.{Placed, placed}
 use Rattle.events.specs.declared.Event.{Event}
 use Rattle.events.specs.declared.Event.the-variants.{Setup, Por, Boot, Scan, Temp, Count, Sense, Pin, Load, Xready, OnBus, Level, Ticks, Soak, Wires}
 use Rattle.events.specs.declared.Setup.{Setup as SetupValues}
@@ -29,9 +29,9 @@ use Rattle.events.specs.Event.{meantOf}
 use Rattle.records.specs.Record.{countsBeside}
 use Rattle.chip.specs.declared.Chip.{Chip}
 use Rattle.chip.specs.declared.Stepped.{Stepped}
-use Rattle.chip.specs.Chip.{quiet}
+use Rattle.chip.specs.Chip.{numbered}
 use Rattle.chip.specs.Calm.{Calmed, ship-calm}
-use Rattle.chip.specs.Repeat.{calm-as}
+use Rattle.chip.specs.RepeatLaws.{calm-as}
 use Rattle.stream.specs.Stream.{Turn, turnOf, turned, runs, stands, entries, lastChip, none, entryBytes, bytesOf, noted, wiredAs, acted, Ran, Played}
 use Rattle.stream.specs.declared.Entry.{Entry}
 
@@ -129,7 +129,7 @@ unfolding turnOf
 turn-next o chip rest l = turned-next o chip rest (readOf (chip .setup .part) rest) (placed (chip .setup .part) rest) l
 
 -- the outside level and SYS_STAT at 0 do not stand together after a turn, where they did not before it
-wires-calm : (o t : Bool) (u : SetupValues) (c : Chip) → Calmed c → Calmed (cond o (wiredAs (cond t (With u) NoRow) c) (quiet 2 c) .chip)
+wires-calm : (o t : Bool) (u : SetupValues) (c : Chip) → Calmed c → Calmed (cond o (wiredAs (cond t (With u) NoRow) c) (numbered 2 c) .chip)
 wires-calm true true u c k = ship-calm u
 wires-calm true false u c k = k
 wires-calm false t u c k = k

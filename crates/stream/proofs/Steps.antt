@@ -21,12 +21,12 @@ use Rattle.records.specs.declared.Framed.the-variants.{Header, Short}
 use Rattle.records.specs.declared.Payload.{Payload}
 use Rattle.records.specs.declared.Payload.the-variants.{Whole, Unfit}
 use Rattle.records.specs.Frame.{headerOf}
-use Rattle.records.specs.Framing.{framed-reads, short-reads}
+use Rattle.records.specs.FramingLaws.{framed-reads, short-reads}
 use Rattle.records.specs.Record.{payloadOf, asRead, readOf, countsBeside}
 use Rattle.events.specs.Setup.{inputs}
 use lib.ListN.{take, drop}
 use lib.IntN.{ℤ}
-use Rattle.records.specs.Sound.{IsSetup, first-setup, Meaning, isWires, later-means}
+use Rattle.records.specs.SoundLaws.{IsSetup, first-setup, Meaning, isWires, later-means}
 use Rattle.wiring.specs.declared.Wiring.{Wiring}
 use Rattle.wiring.specs.Rows.{wiredWith}
 use Rattle.chip.specs.declared.Chip.{Chip}
@@ -38,15 +38,15 @@ use Rattle.chip.specs.Parts.{raisedBy, heardOf, landed, told, tick-parts, still
 use Rattle.chip.proofs.Modes.{in-normal}
 use Rattle.chip.specs.Calm.{Calmed, settles, calm-scan, calm-tick}
 use Rattle.registers.specs.declared.Registers.{Registers}
-use Rattle.registers.specs.State.{withOutside}
-use Rattle.registers.specs.Judging.{held}
-use Rattle.registers.specs.Held.{Calm}
-use Rattle.chip.specs.Chip.{quiet, withAwake, withBus, withRegisters, withRuns, settled, normally, asleep, happened, stepped, ticked, steppedAs, steppedBy, happenedAs, happenedBy}
+use Rattle.registers.specs.State.{withOutsideLevel}
+use Rattle.registers.specs.Judging.{pulledByLevel}
+use Rattle.registers.specs.LevelLaws.{Calm}
+use Rattle.chip.specs.Chip.{numbered, withNormal, withBus, withRegisters, withRuns, settled, normally, asleep, happened, stepped, ticked, steppedAs, steppedBy, happenedAs, happenedBy}
 use Rattle.stream.specs.Stream.{unanswered, answerOf, answerHeard, faceOf, entryWith, entryOf, saying, bornOf, wiredAs, wires, acted, staysFresh, turn, turned, turnOf}
 use Rattle.stream.specs.declared.Answer.{Answer}
 use Rattle.stream.specs.declared.Entry.{Entry}
 use Rattle.stream.specs.declared.Face.{Face}
-use Rattle.stream.specs.Often.{often, awakeWork, moved}
+use Rattle.stream.specs.Often.{often, awakeWork, registersMoved}
 use Rattle.stream.specs.declared.Work.the-variants.{Other}
 
 -- what is in range steps as it happens
@@ -56,7 +56,7 @@ step-is e c f = simp f
 
 as-meant : (m : Meant) (c : Chip) → inRange m ≡ true → happenedAs m c ≡ steppedAs m c
 as-meant (means e) c f = sym (step-is e c f)
-as-meant (ticks most v n) c f = ap (λ (t : Bool). cond t (ticked n v c) (quiet 3 c)) (sym f)
+as-meant (ticks most v n) c f = ap (λ (t : Bool). cond t (ticked n v c) (numbered 3 c)) (sym f)
 as-meant unfit c f = cc
 
 counts-by : (t : Bool) (m : Meant) (c : Chip) → inRange (cond t m unfit) ≡ true → happenedAs m c ≡ steppedAs (cond t m unfit) c
@@ -188,55 +188,55 @@ off false t p q = refl
 off true true p q = p
 off true false p q = sym q
 
-pub sleeping : (c : Chip) (e e′ : Event) → (c .awake && often e) ≡ false → e ≡ e′ → often e′ ≡ true → c .awake ≡ false
-sleeping c e e′ p q o = off (c .awake) (often e) p (ap often q ∙ o)
+pub sleeping : (c : Chip) (e e′ : Event) → (c .normal && often e) ≡ false → e ≡ e′ → often e′ ≡ true → c .normal ≡ false
+sleeping c e e′ p q o = off (c .normal) (often e) p (ap often q ∙ o)
 
-pub in-sleep : {s : Stepped} (e : Happening) (c : Chip) → c .awake ≡ false → s ≡ asleep e c → s ≡ happened e c
+pub in-sleep : {s : Stepped} (e : Happening) (c : Chip) → c .normal ≡ false → s ≡ asleep e c → s ≡ happened e c
 unfolding happened
-in-sleep e c a h = h ∙ sym (by (c .awake) a)
+in-sleep e c a h = h ∙ sym (by (c .normal) a)
   where
     by : (b : Bool) → b ≡ false → cond b (settled (normally e c)) (asleep e c) ≡ asleep e c
     by true q = cc
     by false q = refl
 
 -- the registers moved, by the mode
-pub moved-awake : {s : Stepped} (r : Registers) (c : Chip) → c .awake ≡ true → s ≡ quiet 0 (withRegisters r c) → s ≡ moved r c
-unfolding moved
-moved-awake r c a h = h ∙ ap (λ (b : Bool). cond b (quiet 0 (withRegisters r c)) (quiet 4 c)) (sym a)
+pub moved-awake : {s : Stepped} (r : Registers) (c : Chip) → c .normal ≡ true → s ≡ numbered 0 (withRegisters r c) → s ≡ registersMoved r c
+unfolding registersMoved
+moved-awake r c a h = h ∙ ap (λ (b : Bool). cond b (numbered 0 (withRegisters r c)) (numbered 4 c)) (sym a)
 
-pub moved-asleep : {s : Stepped} (r : Registers) (c : Chip) → c .awake ≡ false → s ≡ quiet 4 c → s ≡ moved r c
-unfolding moved
-moved-asleep r c a h = h ∙ ap (λ (b : Bool). cond b (quiet 0 (withRegisters r c)) (quiet 4 c)) (sym a)
+pub moved-asleep : {s : Stepped} (r : Registers) (c : Chip) → c .normal ≡ false → s ≡ numbered 4 c → s ≡ registersMoved r c
+unfolding registersMoved
+moved-asleep r c a h = h ∙ ap (λ (b : Bool). cond b (numbered 0 (withRegisters r c)) (numbered 4 c)) (sym a)
 
-pub moved-to : {s : Stepped} {q r : Registers} (c : Chip) → q ≡ r → s ≡ moved q c → s ≡ moved r c
-moved-to c e h = h ∙ ap (λ (q : Registers). moved q c) e
+pub moved-to : {s : Stepped} {q r : Registers} (c : Chip) → q ≡ r → s ≡ registersMoved q c → s ≡ registersMoved r c
+moved-to c e h = h ∙ ap (λ (q : Registers). registersMoved q c) e
 
 -- an event that moves registers alone, and leaves the outside level no work
-pub moves : {s : Stepped} (e : Happening) (c : Chip) (r : Registers) → normally e c ≡ quiet 0 (withRegisters r c) → asleep e c ≡ quiet 4 c → Calm r → s ≡ moved r c → s ≡ happened e c
-unfolding happened moved
-moves e c r n z k h = h ∙ sym (by (c .awake))
+pub moves : {s : Stepped} (e : Happening) (c : Chip) (r : Registers) → normally e c ≡ numbered 0 (withRegisters r c) → asleep e c ≡ numbered 4 c → Calm r → s ≡ registersMoved r c → s ≡ happened e c
+unfolding happened registersMoved
+moves e c r n z k h = h ∙ sym (by (c .normal))
   where
-    by : (b : Bool) → cond b (settled (normally e c)) (asleep e c) ≡ cond b (quiet 0 (withRegisters r c)) (quiet 4 c)
-    by true = ap settled n ∙ settles (quiet 0 (withRegisters r c)) k
+    by : (b : Bool) → cond b (settled (normally e c)) (asleep e c) ≡ cond b (numbered 0 (withRegisters r c)) (numbered 4 c)
+    by true = ap settled n ∙ settles (numbered 0 (withRegisters r c)) k
     by false = z
 
 -- the outside level itself
-pub levels : {s : Stepped} (l : Bool) (c : Chip) → s ≡ moved (held (withOutside l (c .registers))) c → s ≡ happened (Leveled l) c
-unfolding happened moved
-levels l c h = h ∙ sym (by (c .awake))
+pub levels : {s : Stepped} (l : Bool) (c : Chip) → s ≡ registersMoved (pulledByLevel (withOutsideLevel l (c .registers))) c → s ≡ happened (Leveled l) c
+unfolding happened registersMoved
+levels l c h = h ∙ sym (by (c .normal))
   where
-    by : (b : Bool) → cond b (settled (normally (Leveled l) c)) (asleep (Leveled l) c) ≡ cond b (quiet 0 (withRegisters (held (withOutside l (c .registers))) c)) (quiet 4 c)
+    by : (b : Bool) → cond b (settled (normally (Leveled l) c)) (asleep (Leveled l) c) ≡ cond b (numbered 0 (withRegisters (pulledByLevel (withOutsideLevel l (c .registers))) c)) (numbered 4 c)
     by true = refl
     by false = refl
 
 -- BOOT
-pub boots : {s : Stepped} (c : Chip) → Calmed c → s ≡ quiet 0 (withAwake true c) → s ≡ happened Booted c
+pub boots : {s : Stepped} (c : Chip) → Calmed c → s ≡ numbered 0 (withNormal true c) → s ≡ happened Booted c
 unfolding happened
-boots c k h = h ∙ sym (by (c .awake) refl)
+boots c k h = h ∙ sym (by (c .normal) refl)
   where
-    by : (b : Bool) → c .awake ≡ b → cond b (settled (normally Booted c)) (asleep Booted c) ≡ quiet 0 (withAwake true c)
-    by true e = settles (quiet 0 c) k ∙ ap (λ (a : Bool). quiet 0 (withAwake a c)) e
-    by false e = settles (quiet 0 (withAwake true c)) k
+    by : (b : Bool) → c .normal ≡ b → cond b (settled (normally Booted c)) (asleep Booted c) ≡ numbered 0 (withNormal true c)
+    by true e = settles (numbered 0 c) k ∙ ap (λ (a : Bool). numbered 0 (withNormal a c)) e
+    by false e = settles (numbered 0 (withNormal true c)) k
 
 -- SETUP
 pub setup-is : {s : Stepped} (op : Bool) (c : Chip) (e : Event) (v : SetupValues) (k : Counts) → e ≡ Setup v → s ≡ bornOf v → s ≡ acted op e k c
@@ -248,7 +248,7 @@ pub wires-is : {s : Stepped} (op : Bool) (c : Chip) (e : Event) (n : ℕ) (k : C
 unfolding acted
 wires-is op c e n k q h = h ∙ ap (λ (e : Event). acted op e k c) (sym q)
 
-pub wires-closed : {s : Stepped} (n : ℕ) (c : Chip) {op : Bool} → op ≡ false → s ≡ quiet 2 c → s ≡ wires op n c
+pub wires-closed : {s : Stepped} (n : ℕ) (c : Chip) {op : Bool} → op ≡ false → s ≡ numbered 2 c → s ≡ wires op n c
 wires-closed n c e h = h ∙ sym (ap (λ (o : Bool). wires o n c) e)
 
 pub wires-fresh : {s : Stepped} {w w′ : Wiring} (n : ℕ) (c : Chip) {op : Bool} → op ≡ true → w ≡ wiredWith (c .setup) n → w ≡ w′ → s ≡ wiredAs w′ c → s ≡ wires op n c
@@ -259,7 +259,7 @@ pub entry-is : {e : Entry} {a : Answer} {f : Face} (s : Stepped) → e ≡ entry
 entry-is {e} {a} {f} s h p q = h ∙ ap (λ (a : Answer). entryWith a f) p ∙ ap (entryWith (answerOf s)) q
 
 -- ── turns, by the header and the payload ──
-pub short-turn : (o : Bool) (c : Chip) (rest : List ℕ) → headerOf rest ≡ Short → turn (quiet 9 c) o 0 true ≡ turnOf o c rest
+pub short-turn : (o : Bool) (c : Chip) (rest : List ℕ) → headerOf rest ≡ Short → turn (numbered 9 c) o 0 true ≡ turnOf o c rest
 unfolding turnOf
 short-turn o c rest h = sym (ap (turned o c rest) (short-reads (c .setup .part) rest h))
 
@@ -267,7 +267,7 @@ module _ (o : Bool) (c : Chip) (rest : List ℕ) (kind next : ℕ) (h : headerOf
   read-as : asRead next p ≡ readOf (c .setup .part) rest
   read-as = ap (asRead next) q ∙ sym (framed-reads rest kind next h (c .setup .part))
 
-  pub unfit-turn : (k : ℕ) → p ≡ Unfit k → turn (quiet k c) o next (eqb (c .setup .part) 0) ≡ turnOf o c rest
+  pub unfit-turn : (k : ℕ) → p ≡ Unfit k → turn (numbered k c) o next (eqb (c .setup .part) 0) ≡ turnOf o c rest
   unfolding turnOf
   unfit-turn k w = ap (turned o c rest) (ap (asRead next) (sym w) ∙ read-as)
 
@@ -291,14 +291,14 @@ closes o c r e e′ next s q t f z =
     by false false h n m = refl
 
 -- ── what each arm of the loop comes to, in NORMAL; the outside level does something after a store alone ──
-pub scan-arm : (c : Chip) (xs : List ℕ) (d : Chip) → Calmed c → c .awake ≡ true → d ≡ normally (Scanned (take (inputs (c .setup)) xs)) c .chip → saying (unanswered 0) d ≡ happenedBy Scan xs c
+pub scan-arm : (c : Chip) (xs : List ℕ) (d : Chip) → Calmed c → c .normal ≡ true → d ≡ normally (Scanned (take (inputs (c .setup)) xs)) c .chip → saying (unanswered 0) d ≡ happenedBy Scan xs c
 scan-arm c xs d m a h = in-normal (Scanned (take (inputs (c .setup)) xs)) c a (ap (saying (unanswered 0)) h ∙ calm-scan (take (inputs (c .setup)) xs) c m)
 
-pub tick-arm : (c : Chip) (v : ℤ) (xs : List ℕ) (j : Judged) (d : Chip) → Calmed c → c .awake ≡ true → j ≡ tickJudged (c .registers .settings) v (c .runs) → d ≡ raisedBy (j .risen) (withRuns (j .runs) c)
+pub tick-arm : (c : Chip) (v : ℤ) (xs : List ℕ) (j : Judged) (d : Chip) → Calmed c → c .normal ≡ true → j ≡ tickJudged (c .registers .settings) v (c .runs) → d ≡ raisedBy (j .risen) (withRuns (j .runs) c)
     → saying (unanswered 0) d ≡ happenedBy (Sense v) xs c
 tick-arm c v xs j d m a hj h =
     in-normal (Ticked v) c a
-    (ap (quiet 0) (h ∙ calm-tick (j .risen) (j .runs) c m) ∙ ap (λ (j : Judged). settled (quiet 0 (raisedBy (j .risen) (withRuns (j .runs) c)))) hj ∙ ap settled (tick-parts v c))
+    (ap (numbered 0) (h ∙ calm-tick (j .risen) (j .runs) c m) ∙ ap (λ (j : Judged). settled (numbered 0 (raisedBy (j .risen) (withRuns (j .runs) c)))) hj ∙ ap settled (tick-parts v c))
 
 -- nothing rises: nothing is shown anew
 pub still-arm : (c : Chip) (v : ℤ) (j : Judged) → j ≡ tickJudged (c .registers .settings) v (c .runs) → (j .risen .scd || j .risen .ocd) ≡ false → withRuns (j .runs) c ≡ raisedBy (j .risen) (withRuns (j .runs) c)
@@ -306,6 +306,6 @@ still-arm c v j hj n =
     subst (λ (j : Judged). withRuns (j .runs) c ≡ raisedBy (j .risen) (withRuns (j .runs) c)) (sym hj)
     (sym (still-tick (c .registers .settings) v (c .runs) (withRuns (tickJudged (c .registers .settings) v (c .runs) .runs) c) (subst (λ (j : Judged). (j .risen .scd || j .risen .ocd) ≡ false) hj n)))
 
-pub bus-arm : (c : Chip) (b : BusEvent) (xs : List ℕ) (h : Heard) (d : Chip) → c .awake ≡ true → h ≡ heardOf b c → d ≡ landed (h .store) (withBus (h .bus) c)
+pub bus-arm : (c : Chip) (b : BusEvent) (xs : List ℕ) (h : Heard) (d : Chip) → c .normal ≡ true → h ≡ heardOf b c → d ≡ landed (h .store) (withBus (h .bus) c)
     → saying (answerHeard h) d ≡ happenedBy (OnBus b) xs c
 bus-arm c b xs h d a hh hd = in-normal (Signalled b) c a (ap (saying (answerHeard h)) hd ∙ ap (λ (h : Heard). told h c) hh ∙ bus-parts b c)

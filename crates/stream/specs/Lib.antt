@@ -1,10 +1,10 @@
 pub mod Stream
 pub mod Often
 pub mod Frames
-pub mod Counted
+pub mod CountedLaws
 pub mod Convert
 pub mod Forecast
-pub mod Asked
-pub mod Prefix
-pub mod Standing
-pub mod Same
+pub mod AskedLaws
+pub mod PrefixLaws
+pub mod StandingLaws
+pub mod SameLaws

@@ -5,7 +5,7 @@ use Rattle.events.specs.declared.Event.{Event}
 use Rattle.registers.specs.declared.Registers.{Registers}
 use Rattle.chip.specs.declared.Chip.{Chip}
 use Rattle.chip.specs.declared.Stepped.{Stepped}
-use Rattle.chip.specs.Chip.{quiet, withRegisters}
+use Rattle.chip.specs.Chip.{numbered, withRegisters}
 use Rattle.stream.specs.declared.Work.{Work}
 use Rattle.stream.specs.declared.Work.the-variants.{Scans, Ticks, Hears, Other}
 use Rattle.events.specs.declared.Event.the-variants.{Setup, Por, Boot, Scan, Temp, Count, Sense, Pin, Load, Xready, OnBus, Level, Ticks as Repeated, Soak, Wires}
@@ -49,8 +49,8 @@ unfoldable pub workOf : Bool → Event → Work
 workOf a e = cond a (awakeWork e) Other
 
 -- an event that moves registers alone, to these; number 4 in SHIP
-unfoldable pub moved : Registers → Chip → Stepped
-moved r c = cond (c .awake) (quiet 0 (withRegisters r c)) (quiet 4 c)
+unfoldable pub registersMoved : Registers → Chip → Stepped
+registersMoved r c = cond (c .normal) (numbered 0 (withRegisters r c)) (numbered 4 c)
 
 -- what is known of an event by its work
 abbrev pub Sorted : Bool → Event → Work → Type 0

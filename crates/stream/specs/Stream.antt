@@ -17,12 +17,12 @@ use Rattle.records.specs.Record.{standing, readOf, countsIn, countsBeside}
 use Rattle.wiring.specs.Rows.{wiredWith, wiredNumber}
 use Rattle.wiring.specs.declared.Wiring.{Wiring}
 use Rattle.wiring.specs.declared.Wiring.the-variants.{With, NoRow}
-use Rattle.settings.specs.Bit.{weighed}
+use Rattle.bits.specs.Bit.{weighed}
 use Rattle.registers.specs.Read.{statusByte}
 use Rattle.chip.specs.declared.Chip.{Chip}
 use Rattle.chip.specs.declared.Stepped.{Stepped}
 use Rattle.chip.specs.declared.Heard.{Heard}
-use Rattle.chip.specs.Chip.{quiet, inShip, steppedBy}
+use Rattle.chip.specs.Chip.{numbered, inShip, steppedBy}
 use Rattle.chip.specs.Outward.{pinsOf}
 use Rattle.stream.specs.declared.Entry.{Entry}
 use Rattle.stream.specs.declared.Answer.{Answer}
@@ -56,15 +56,15 @@ entryOf s = entryWith (answerOf s) (faceOf (s .chip))
 
 -- the chip that SETUP makes
 abbrev pub bornOf : SetupValues → Stepped
-bornOf v = quiet 0 (inShip v)
+bornOf v = numbered 0 (inShip v)
 
 -- request M-107: a wiring record makes the chip anew, with its cells; it is taken straight after SETUP, and elsewhere it is 2
 abbrev pub wiredAs : Wiring → Chip → Stepped
 wiredAs (With u) c = bornOf u
-wiredAs NoRow c = quiet (wiredNumber NoRow) c
+wiredAs NoRow c = numbered (wiredNumber NoRow) c
 
 abbrev pub wires : Bool → ℕ → Chip → Stepped
-wires fresh n c = cond fresh (wiredAs (wiredWith (c .setup) n) c) (quiet 2 c)
+wires fresh n c = cond fresh (wiredAs (wiredWith (c .setup) n) c) (numbered 2 c)
 
 -- SETUP, which the reader gives only first, makes the chip; every other event happens to it. `fresh` says that only SETUP and refused records
 -- stand before
@@ -104,8 +104,8 @@ turn s fresh next last = record { chip = s .chip; fresh = fresh; entry = entryOf
 abbrev pub turned : Bool → Chip → List ℕ → Read → Turn
 turned o c rest (Record e next) =
     turn (acted o e (countsBeside rest (Record e next)) c) (staysFresh o c (acted o e (countsBeside rest (Record e next)) c)) next false
-turned o c rest (Refused k next) = turn (quiet k c) o next (eqb (c .setup .part) 0)
-turned o c rest Cut = turn (quiet 9 c) o 0 true
+turned o c rest (Refused k next) = turn (numbered k c) o next (eqb (c .setup .part) 0)
+turned o c rest Cut = turn (numbered 9 c) o 0 true
 
 unfoldable pub turnOf : Bool → Chip → List ℕ → Turn
 turnOf o c rest = turned o c rest (readOf (c .setup .part) rest)

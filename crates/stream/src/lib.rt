@@ -6,14 +6,14 @@ ghost use Rattle.records.specs.Record.{readOf, countsBeside};
 ghost use Rattle.records.specs.declared.Read.the-variants.{Record};
 ghost use Rattle.stream.specs.Stream.{none, faceOf, answerOf, unanswered as unansweredSpec, answerHeard, entryWith, bornOf, wires, acted, noted, Ran, Played};
 ghost use mathlib.Core.Bool.{true, false, _&&_};
-ghost use Rattle.registers.specs.State.{withOutside};
-ghost use Rattle.registers.specs.Judging.{held};
-ghost use Rattle.chip.specs.Chip.{quiet as quietSpec, withAwake, happened, happenedBy};
+ghost use Rattle.registers.specs.State.{withOutsideLevel};
+ghost use Rattle.registers.specs.Judging.{pulledByLevel};
+ghost use Rattle.chip.specs.Chip.{numbered as numberedSpec, withNormal, happened, happenedBy};
 ghost use Rattle.chip.specs.Calm.{Calmed};
 ghost use Rattle.events.specs.Event.{Temp};
 ghost use Rattle.events.specs.Setup.{groups};
 ghost use Rattle.stream.specs.Frames.{framesOf};
-ghost use Rattle.stream.specs.Often.{often, workOf, moved as movedSpec};
+ghost use Rattle.stream.specs.Often.{often, workOf, registersMoved as registersMovedSpec};
 use bus::Store;
 use chip::Chip;
 use chip::Heard;
@@ -70,7 +70,7 @@ pub fn no_chip() -> Chip
         part: 0,
         crc: false,
         address: 0,
-        gain: 0,
+        gain_code: 0,
         offset: 0,
         floor: 0,
         cells: 0,
@@ -84,9 +84,9 @@ fn face_of(chip: Chip) -> Face
     let registers = chip.registers;
     let shown = registers.shown;
     let stat = chip.status();
-    let pins = settings::weigh(stat != 0, 4)
-        + settings::weigh(shown.chg, 2)
-        + settings::weigh(shown.dsg, 1);
+    let pins = bits::weigh(stat != 0, 4)
+        + bits::weigh(shown.chg_on, 2)
+        + bits::weigh(shown.dsg_on, 1);
     Face { stat, pins }
 }
 
@@ -123,7 +123,7 @@ fn answer_heard(heard: Heard) -> Answer
 fn entry_of(answer: Answer, face: Face) -> Entry
     ensures { λ r. ⌜ r ≡ entryWith answer face ⌝ }
 {
-    let flag = settings::weigh(answer.flag, 1);
+    let flag = bits::weigh(answer.flag, 1);
     Entry {
         number: answer.number,
         flag,
@@ -133,10 +133,10 @@ fn entry_of(answer: Answer, face: Face) -> Entry
     }
 }
 
-fn work_of(awake: bool, event: Event) -> Work
-    ensures { λ r. ⌜ r ≡ workOf awake event ⌝ }
+fn work_of(normal: bool, event: Event) -> Work
+    ensures { λ r. ⌜ r ≡ workOf normal event ⌝ }
 {
-    if !awake {
+    if !normal {
         return Work::Other;
     }
     match event {
@@ -160,55 +160,55 @@ fn work_of(awake: bool, event: Event) -> Work
 
 // What happens to a chip in SHIP, or seldom. The outside level has work after its own event alone: what else stands here lowers no bit.
 fn seldom(chip: Chip, event: Event, counts: [u16; 15]) -> Stepped
-    requires { ⌜ (chip .awake && often event) ≡ false ⌝ }
+    requires { ⌜ (chip .normal && often event) ≡ false ⌝ }
     requires { ⌜ Calmed chip ⌝ }
     ensures { λ r. ⌜ r ≡ happenedBy event counts chip ⌝ }
 {
     let registers = chip.registers;
     match event {
-        Event::Setup(_) => quiet(2, chip),
+        Event::Setup(_) => numbered(2, chip),
         Event::Por => chip.por(),
         Event::Boot => roused(chip),
-        Event::Scan => quiet(4, chip),
+        Event::Scan => numbered(4, chip),
         Event::Temp => heated(chip, counts),
-        Event::Count(cc) => moved(chip, registers.coulombs(cc)),
-        Event::Sense(_) => quiet(4, chip),
-        Event::Pin => moved(chip, registers.pulled()),
-        Event::Load(level) => moved(chip, registers.loaded(level)),
-        Event::Xready => moved(chip, registers.unready()),
+        Event::Count(cc) => registers_moved(chip, registers.coulombs(cc)),
+        Event::Sense(_) => numbered(4, chip),
+        Event::Pin => registers_moved(chip, registers.pulled()),
+        Event::Load(level) => registers_moved(chip, registers.loaded(level)),
+        Event::Xready => registers_moved(chip, registers.unready()),
         Event::OnBus(bus) => chip.doze(bus),
-        Event::Level(level) => moved(chip, leveled(registers, level)),
+        Event::Level(level) => registers_moved(chip, leveled(registers, level)),
         Event::Ticks(value, repeat) => chip.ticked(value, repeat as u32),
         Event::Soak(value, repeat) => chip.ticked(value, repeat),
-        Event::Wires(_) => quiet(2, chip),
+        Event::Wires(_) => numbered(2, chip),
     }
 }
 
 // BOOT.
 fn roused(mut chip: Chip) -> Stepped
-    ensures { λ r. ⌜ r ≡ quietSpec 0 (withAwake true chip) ⌝ }
+    ensures { λ r. ⌜ r ≡ numberedSpec 0 (withNormal true chip) ⌝ }
 {
-    chip.awake = true;
-    quiet(0, chip)
+    chip.normal = true;
+    numbered(0, chip)
 }
 
 // The registers moved, in NORMAL.
-fn moved(mut chip: Chip, registers: Registers) -> Stepped
-    ensures { λ r. ⌜ r ≡ movedSpec registers chip ⌝ }
+fn registers_moved(mut chip: Chip, registers: Registers) -> Stepped
+    ensures { λ r. ⌜ r ≡ registersMovedSpec registers chip ⌝ }
 {
-    if !chip.awake {
-        return quiet(4, chip);
+    if !chip.normal {
+        return numbered(4, chip);
     }
     chip.registers = registers;
-    quiet(0, chip)
+    numbered(0, chip)
 }
 
 // The outside level, kept and looked at.
 fn leveled(registers: Registers, level: bool) -> Registers
-    ensures { λ r. ⌜ r ≡ held (withOutside level registers) ⌝ }
+    ensures { λ r. ⌜ r ≡ pulledByLevel (withOutsideLevel level registers) ⌝ }
 {
     let registers = registers.leveled(level);
-    registers.held()
+    registers.pulled_by_level()
 }
 
 // TEMP, whose counts the reader has judged.
@@ -216,10 +216,10 @@ fn heated(chip: Chip, counts: [u16; 15]) -> Stepped
     requires { ⌜ Calmed chip ⌝ }
     ensures { λ r. ⌜ r ≡ happened (Temp (take (groups (chip .setup)) counts)) chip ⌝ }
 {
-    if !chip.awake {
-        return quiet(4, chip);
+    if !chip.normal {
+        return numbered(4, chip);
     }
-    quiet(0, chip.warmed(counts))
+    numbered(0, chip.warmed(counts))
 }
 
 // The counts beside an event that was read.
@@ -234,7 +234,7 @@ fn counted(part: u8, event: Event, rest: &[u8], next: usize) -> [u16; 15]
 // A record that was read, done: SETUP makes the chip, a wiring record makes it anew, every other event happens to it.
 fn act(chip: Chip, fresh: bool, event: Event, rest: &[u8], next: usize) -> Stepped
     requires { ⌜ readOf (chip .setup .part) (now rest) ≡ Record event next ⌝ }
-    requires { ⌜ (chip .awake && often event) ≡ false ⌝ }
+    requires { ⌜ (chip .normal && often event) ≡ false ⌝ }
     requires { ⌜ Calmed chip ⌝ }
     ensures { λ r. ⌜ r ≡ acted fresh event (countsBeside (now (rest .entry)) (Record event next)) chip ⌝ }
 {
@@ -266,11 +266,11 @@ pub fn rewired(chip: Chip, fresh: bool, cells: u8) -> Stepped
     ensures { λ r. ⌜ r ≡ wires fresh cells chip ⌝ }
 {
     if !fresh {
-        return quiet(2, chip);
+        return numbered(2, chip);
     }
     match wiring::wire(chip.setup, cells) {
         Wiring::With(setup) => born(setup),
-        Wiring::NoRow => quiet(13, chip),
+        Wiring::NoRow => numbered(13, chip),
     }
 }
 
@@ -278,12 +278,12 @@ pub fn rewired(chip: Chip, fresh: bool, cells: u8) -> Stepped
 pub fn born(setup: Setup) -> Stepped
     ensures { λ r. ⌜ r ≡ bornOf setup ⌝ }
 {
-    quiet(0, chip::in_ship(setup))
+    numbered(0, chip::in_ship(setup))
 }
 
 // An answer with no bus byte.
-pub fn quiet(number: u8, chip: Chip) -> Stepped
-    ensures { λ r. ⌜ r ≡ quietSpec number chip ⌝ }
+pub fn numbered(number: u8, chip: Chip) -> Stepped
+    ensures { λ r. ⌜ r ≡ numberedSpec number chip ⌝ }
 {
     Stepped {
         chip,
@@ -334,7 +334,7 @@ fn run(s: &[u8], out: &mut [u8]) -> Chip
                     return chip;
                 }
             }
-            Payload::Whole(event) => match work_of(chip.awake, event) {
+            Payload::Whole(event) => match work_of(chip.normal, event) {
                 Work::Scans => {
                     chip = chip.scanned(counted(setup.part, event, rest, next));
                     fresh = false;

@@ -2,7 +2,7 @@ pub mod Values
 pub mod Said
 pub mod Double
 pub mod Forecast
-pub mod Same
+pub mod SameLaws
 pub mod Laws
-pub mod Rounding
-pub mod Worked
+pub mod RoundingLaws
+pub mod WorkedLaws

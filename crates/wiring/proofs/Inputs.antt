@@ -10,11 +10,11 @@ use borrow.Author.Tests.{eqb-true}
 use Rattle.events.specs.declared.Setup.{Setup}
 use Rattle.events.specs.declared.Counts.{Counts}
 use Rattle.events.specs.Setup.{inputs}
-use Rattle.events.specs.Few.{few-inputs}
-use Rattle.scan.specs.Scan.{padded}
+use Rattle.events.specs.FewLaws.{few-inputs}
+use Rattle.cell_counts.specs.Scan.{padded}
 use Rattle.wiring.specs.Rows.{isWired, upward, wiredInputs, packCells, inputOf}
 use Rattle.wiring.specs.Numbered.{numbers}
-use Rattle.wiring.specs.Kept.{countsOf, heldBy, padded-at}
+use Rattle.wiring.specs.Kept.{countsOf, picked, padded-at}
 use Rattle.wiring.proofs.Table.{every, every-is}
 
 abbrev pub ones : List ℕ
@@ -29,18 +29,18 @@ own i a b =
     let e : suc (i - 1) ≡ i = omega arith in
     eqb-true (getD ones (i - 1) 0) (suc (i - 1)) (every-is 15 (λ j. eqb (getD ones j 0) (suc j)) (i - 1) each-own (omega arith)) ∙ e
 
-held-by : (i : ℕ) (l : List ℕ) → 1 ≤ i → i < 16 → heldBy ones l ≡ l → (t : Bool) → heldBy ones (cond t (i ∷ l) l) ≡ cond t (i ∷ l) l
+held-by : (i : ℕ) (l : List ℕ) → 1 ≤ i → i < 16 → picked ones l ≡ l → (t : Bool) → picked ones (cond t (i ∷ l) l) ≡ cond t (i ∷ l) l
 held-by i l a b ih true = ap₂ _∷_ (own i a b) ih
 held-by i l a b ih false = ih
 
-held-own : (such : ℕ → Bool) (i k : ℕ) → 1 ≤ i → i + k ≤ 16 → heldBy ones (upward such i k) ≡ upward such i k
-held-own such i zero a b = refl
-held-own such i (suc k) a b = held-by i (upward such (suc i) k) a (omega arith) (held-own such (suc i) k (omega arith) (omega arith)) (such i)
+picked-own : (such : ℕ → Bool) (i k : ℕ) → 1 ≤ i → i + k ≤ 16 → picked ones (upward such i k) ≡ upward such i k
+picked-own such i zero a b = refl
+picked-own such i (suc k) a b = held-by i (upward such (suc i) k) a (omega arith) (picked-own such (suc i) k (omega arith) (omega arith)) (such i)
 
 -- what is packed are the inputs, cell 1's first
-pub packed-is : (u : Setup) {r : Counts} → r ≡ countsOf (heldBy ones (wiredInputs u)) → r ≡ countsOf (wiredInputs u)
+pub packed-is : (u : Setup) {r : Counts} → r ≡ countsOf (picked ones (wiredInputs u)) → r ≡ countsOf (wiredInputs u)
 unfolding wiredInputs
-packed-is u h = h ∙ ap countsOf (held-own (isWired u) 1 (inputs u) (omega arith) (omega (arith, few-inputs u)))
+packed-is u h = h ∙ ap countsOf (picked-own (isWired u) 1 (inputs u) (omega arith) (omega (arith, few-inputs u)))
 
 past : (l : List ℕ) (i : ℕ) → length l ≤ i → getD l i 0 ≡ 0
 past [] i h = refl

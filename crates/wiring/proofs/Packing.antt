@@ -10,7 +10,7 @@ use lib.ListN.{length, getD, set, drop, length-append, drop-of-length-le}
 use lib.Seq.{drop-cons}
 use borrow.Author.Tests.{eq-eqb, ne-eqb}
 use Rattle.events.specs.declared.Counts.{Counts}
-use Rattle.scan.specs.Scan.{padded}
+use Rattle.cell_counts.specs.Scan.{padded}
 use Rattle.wiring.specs.Kept.{kept, countsOf, set-next}
 
 pub record Packing (mask : ℕ) (xs : List ℕ) (rest : ℕ) (out : List ℕ) (many i : ℕ) : Type 0 where

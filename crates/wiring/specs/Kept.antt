@@ -9,8 +9,8 @@ use lib.ListN.{length, getD, set, take}
 use Rattle.events.specs.declared.Setup.{Setup}
 use Rattle.events.specs.declared.Counts.{Counts}
 use Rattle.events.specs.Setup.{inputs}
-use Rattle.events.specs.Few.{few-inputs}
-use Rattle.scan.specs.Scan.{padded, cellPlaces}
+use Rattle.events.specs.FewLaws.{few-inputs}
+use Rattle.cell_counts.specs.Scan.{padded, cellPlaces}
 use Rattle.wiring.specs.Rows.{isWired, upward, wiredInputs, bits, wiredBits}
 
 -- the lowest bit is the first number's
@@ -23,8 +23,8 @@ abbrev pub countsOf : List ℕ → Counts
 countsOf xs = record { many = length xs; of = padded cellPlaces xs }
 
 -- what inputs hold, of what each input holds
-abbrev pub heldBy : List ℕ → List ℕ → List ℕ
-heldBy xs is = map (λ (i : ℕ). getD xs (i - 1) 0) is
+abbrev pub picked : List ℕ → List ℕ → List ℕ
+picked xs is = map (λ (i : ℕ). getD xs (i - 1) 0) is
 
 -- ── the bits of inputs keep what these inputs hold ──
 abbrev from : (ℕ → ℕ) → ℕ → ℕ → List ℕ
@@ -60,7 +60,7 @@ from-is (x ∷ xs) f i h =
     step : (j : ℕ) → suc i + j ≡ i + suc j
     step j = omega arith
 
-pub kept-bits : (such : ℕ → Bool) (k : ℕ) (xs : List ℕ) → k ≤ length xs → kept (bits such 1 k) xs ≡ heldBy xs (upward such 1 k)
+pub kept-bits : (such : ℕ → Bool) (k : ℕ) (xs : List ℕ) → k ≤ length xs → kept (bits such 1 k) xs ≡ picked xs (upward such 1 k)
 kept-bits such k xs h =
     ap (kept (bits such 1 k)) (sym (from-is xs at 1 (λ j. ap (λ (i : ℕ). getD xs i 0) (back j)))) ∙ kept-from such at 1 k (length xs) h
   where
@@ -71,7 +71,7 @@ kept-bits such k xs h =
     back j = omega arith
 
 -- fifteen numbers, by a pack's wiring
-pub kept-wired : (u : Setup) (xs : List ℕ) → length xs ≡ 15 → kept (wiredBits u) xs ≡ heldBy xs (wiredInputs u)
+pub kept-wired : (u : Setup) (xs : List ℕ) → length xs ≡ 15 → kept (wiredBits u) xs ≡ picked xs (wiredInputs u)
 unfolding wiredBits wiredInputs
 kept-wired u xs l = kept-bits (isWired u) (inputs u) xs (omega (arith, few-inputs u, l))
 
@@ -96,11 +96,11 @@ take-padded zero (x ∷ xs) h = absurd (omega arith)
 take-padded (suc k) (x ∷ xs) h = ap (λ (l : List ℕ). x ∷ l) (take-padded k xs (omega arith))
 
 -- what the input at a place holds
-pub held-at : (xs is : List ℕ) (n : ℕ) → n < length is → getD (heldBy xs is) n 0 ≡ getD xs (getD is n 0 - 1) 0
-held-at xs [] n h = absurd (omega arith)
-held-at xs (i ∷ is) zero h = refl
-held-at xs (i ∷ is) (suc n) h = held-at xs is n (omega arith)
+pub picked-at : (xs is : List ℕ) (n : ℕ) → n < length is → getD (picked xs is) n 0 ≡ getD xs (getD is n 0 - 1) 0
+picked-at xs [] n h = absurd (omega arith)
+picked-at xs (i ∷ is) zero h = refl
+picked-at xs (i ∷ is) (suc n) h = picked-at xs is n (omega arith)
 
-pub held-many : (xs is : List ℕ) → length (heldBy xs is) ≡ length is
-held-many xs [] = refl
-held-many xs (i ∷ is) = ap suc (held-many xs is)
+pub picked-many : (xs is : List ℕ) → length (picked xs is) ≡ length is
+picked-many xs [] = refl
+picked-many xs (i ∷ is) = ap suc (picked-many xs is)

@@ -1,5 +1,5 @@
 pub mod Rows
-pub mod Upward
+pub mod UpwardLaws
 pub mod Numbered
 pub mod Kept
 pub mod Linked

@@ -9,11 +9,11 @@ use lib.Dec.{leb, eqb}
 use lib.ListN.{length, getD}
 use Rattle.events.specs.declared.Setup.{Setup}
 use Rattle.events.specs.Setup.{inputs}
-use Rattle.events.specs.Few.{few-inputs}
-use Rattle.scan.specs.Scan.{some}
+use Rattle.events.specs.FewLaws.{few-inputs}
+use Rattle.cell_counts.specs.Scan.{some}
 use Rattle.wiring.specs.Rows.{hasRow, shorted, isWired, upward, wiredInputs, bits, wiredBits, packCells, inputOf, connected, linkedInputs, linkedBits, converts}
 use Rattle.wiring.specs.Numbered.{numbers, shorter, none-shorted}
-use Rattle.wiring.specs.Kept.{kept, heldBy, kept-bits}
+use Rattle.wiring.specs.Kept.{kept, picked, kept-bits}
 
 -- ── by whether there is a wiring record ──
 pub linked-row : (u : Setup) (xs : List ℕ) → hasRow (u .part) (u .cells) ≡ true → wiredBits u ≡ linkedBits u xs
@@ -28,7 +28,7 @@ unfolding linkedBits connected
 linked-none u xs h = sym (ap (λ (t : Bool). bits (λ i. cond t (isWired u i) (leb (u .floor) (getD xs (i - 1) 0))) 1 (inputs u)) h)
 
 -- ── what the connected inputs hold ──
-pub kept-linked : (u : Setup) (xs : List ℕ) → length xs ≡ 15 → kept (linkedBits u xs) xs ≡ heldBy xs (linkedInputs u xs)
+pub kept-linked : (u : Setup) (xs : List ℕ) → length xs ≡ 15 → kept (linkedBits u xs) xs ≡ picked xs (linkedInputs u xs)
 unfolding linkedBits linkedInputs
 kept-linked u xs l = kept-bits (connected u xs) (inputs u) xs (omega (arith, few-inputs u, l))
 

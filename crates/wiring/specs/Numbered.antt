@@ -8,12 +8,12 @@ use native.Mathlib.Omega.{arith}
 use lib.Dec.{eqb}
 use lib.ListN.{length, getD}
 use borrow.Author.Tests.{eqb-true}
-use Rattle.scan.specs.Scan.{some}
+use Rattle.cell_counts.specs.Scan.{some}
 use Rattle.events.specs.declared.Setup.{Setup}
 use Rattle.events.specs.Setup.{inputs, setupOf, withCells}
-use Rattle.events.specs.Few.{few-inputs}
+use Rattle.events.specs.FewLaws.{few-inputs}
 use Rattle.wiring.specs.Rows.{Row, rows, isRow, rowIn, shortedIn, hasRow, shorted, isWired, upward, wiredInputs, packCells, inputOf, bits, wiredBits}
-use Rattle.wiring.specs.Upward.{Stands, stands, climbs, finds}
+use Rattle.wiring.specs.UpwardLaws.{Stands, stands, climbs, finds}
 
 -- ── to know something of every row, it is enough to know it of the thirteen ──
 abbrev pub Each : (ℕ → ℕ → Type 0) → List Row → Type 0

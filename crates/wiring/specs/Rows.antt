@@ -5,7 +5,7 @@ use mathlib.Core.List.{List, [], _∷_}
 use Prim.Native.Nat.{ℕ, zero, suc, _+_, _-_, _*_}
 use lib.Dec.{eqb, leb}
 use lib.ListN.{length, getD}
-use Rattle.scan.specs.Scan.{some}
+use Rattle.cell_counts.specs.Scan.{some}
 use Rattle.events.specs.declared.Setup.{Setup}
 use Rattle.events.specs.Setup.{inputs, withCells}
 use Rattle.wiring.specs.declared.Wiring.{Wiring}

@@ -4,7 +4,7 @@ ghost use Rattle.wiring.specs.Rows.{hasRow, bits, wiredBits, wiredWith, 
 ghost use Rattle.wiring.specs.Linked.{aboveFloor};
 ghost use mathlib.Core.Bool.{cond};
 ghost use Prim.Native.Nat.{_≤_};
-ghost use Rattle.wiring.specs.Kept.{kept, countsOf, heldBy};
+ghost use Rattle.wiring.specs.Kept.{kept, countsOf, picked};
 use events::Counts;
 use events::Setup;
 
@@ -97,10 +97,10 @@ fn packed(mask: u16, of: [u16; 15]) -> Counts
 }
 
 // Of what each input holds what the cells of the pack hold, cell 1's first.
-pub fn pack(setup: Setup, held: [u16; 15]) -> Counts
-    ensures { λ r. ⌜ r ≡ countsOf (heldBy held (wiredInputs setup)) ⌝ }
+pub fn pack(setup: Setup, cells: [u16; 15]) -> Counts
+    ensures { λ r. ⌜ r ≡ countsOf (picked held (wiredInputs setup)) ⌝ }
 {
-    packed(wired(setup), held)
+    packed(wired(setup), cells)
 }
 
 // The input of a cell of the pack, or 0 where it has no such cell.
@@ -125,7 +125,7 @@ fn bit_of(t: bool) -> u16
 }
 
 // The first inputs whose counts are not below the floor, input 1 the lowest bit.
-fn above(floor: u16, held: [u16; 15], inputs: u8) -> u16
+fn above(floor: u16, cells: [u16; 15], inputs: u8) -> u16
     requires { ⌜ inputs ≤ 15 ⌝ }
     ensures { λ r. ⌜ r ≡ bits (aboveFloor floor held) 1 inputs ⌝ }
 {
@@ -133,26 +133,26 @@ fn above(floor: u16, held: [u16; 15], inputs: u8) -> u16
     let mut i = inputs as usize;
     while 0 < i {
         i -= 1;
-        mask = bit_of(floor <= held[i]) + 2 * mask;
+        mask = bit_of(floor <= cells[i]) + 2 * mask;
     }
     mask
 }
 
 // Request M-108: the connected inputs, of what each input holds, input 1 the lowest bit.
-pub fn linked(setup: Setup, held: [u16; 15]) -> u16
+pub fn linked(setup: Setup, cells: [u16; 15]) -> u16
     ensures { λ r. ⌜ r ≡ linkedBits setup held ⌝ }
 {
     if has_row(setup.part, setup.cells) {
         return wired(setup);
     }
-    above(setup.floor, held, setup.inputs())
+    above(setup.floor, cells, setup.inputs())
 }
 
 // What the connected inputs hold, the lowest first.
-pub fn link(setup: Setup, held: [u16; 15]) -> Counts
-    ensures { λ r. ⌜ r ≡ countsOf (heldBy held (linkedInputs setup held)) ⌝ }
+pub fn link(setup: Setup, cells: [u16; 15]) -> Counts
+    ensures { λ r. ⌜ r ≡ countsOf (picked held (linkedInputs setup held)) ⌝ }
 {
-    packed(linked(setup, held), held)
+    packed(linked(setup, cells), cells)
 }
 
 // Whether a cell of the pack converts at a count: a wired one always does.

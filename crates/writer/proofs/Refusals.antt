@@ -18,7 +18,7 @@ use Rattle.wiring.specs.Rows.{hasRow}
 use Rattle.records.specs.Numbers.{bitOf}
 use Rattle.records.specs.Record.{setupGood, noCounts}
 use Rattle.writer.specs.Write.{recordOf, recordFor, bytes32, bits32, valueRefusal, refusalFor, Writes, Puts}
-use Rattle.writer.specs.Checked.{refusalAt, other, refusal-is}
+use Rattle.writer.specs.CheckedLaws.{refusalAt, other, refusal-is}
 use Rattle.writer.specs.declared.Wrote.{Wrote}
 use Rattle.writer.specs.declared.Wrote.the-variants.{Refused}
 
@@ -31,11 +31,11 @@ and-true : (b : Bool) → b && true ≡ b
 and-true true = refl
 and-true false = refl
 
-pub good-is : (v : Setup) → leb 1 (v .part) && leb (v .part) 3 && leb 0x08 (v .address) && leb (v .address) 0x77 && leb (v .gain) 31 && leb (v .floor) 4095 && eqb (v .cells) 0 ≡ setupGood v
+pub good-is : (v : Setup) → leb 1 (v .part) && leb (v .part) 3 && leb 0x08 (v .address) && leb (v .address) 0x77 && leb (v .«gain_code») 31 && leb (v .floor) 4095 && eqb (v .cells) 0 ≡ setupGood v
 good-is v =
     let e : leb 1 (v .part) && leb (v .part) 3 && leb (bitOf (v .crc)) 1 ≡ leb 1 (v .part) && leb (v .part) 3 =
     ap (λ (t : Bool). leb 1 (v .part) && leb (v .part) 3 && t) (bit-fits (v .crc)) ∙ and-true (leb 1 (v .part) && leb (v .part) 3) in
-    ap (λ (t : Bool). t && leb 0x08 (v .address) && leb (v .address) 0x77 && leb (v .gain) 31 && leb (v .floor) 4095 && eqb (v .cells) 0) (sym e)
+    ap (λ (t : Bool). t && leb 0x08 (v .address) && leb (v .address) 0x77 && leb (v .«gain_code») 31 && leb (v .floor) 4095 && eqb (v .cells) 0) (sym e)
 
 -- what follows for an event from what follows for the one it was found to be
 pub at-record : (k : Counts) (old : List ℕ) {r : Wrote} {new : List ℕ} {e e′ : Event} → e ≡ e′ → Writes (recordFor e′ k) old r new → Writes (recordFor e k) old r new

@@ -13,7 +13,7 @@ use borrow.Rule.Slice.PartAt.{part-to-end}
 use borrow.Author.Tests.{le-leb, lt-leb}
 use Rattle.events.specs.declared.Setup.{Setup}
 use Rattle.records.specs.Numbers.{bitOf}
-use Rattle.writer.specs.Bytes.{words-length}
+use Rattle.writer.specs.BytesLaws.{words-length}
 use Rattle.writer.specs.Write.{Writes, recordOf, writtenOf, wordBytes, bytes16, setupBytes}
 use Rattle.writer.specs.declared.Wrote.{Wrote}
 use Rattle.writer.specs.declared.Wrote.the-variants.{Done, Refused}
@@ -104,7 +104,7 @@ short-counts kind n cs old m h =
 
 -- SETUP's bytes with the CRC's byte as it was made
 abbrev pub setupWith : Setup → ℕ → List ℕ
-setupWith v crc = v .part ∷ crc ∷ v .address ∷ v .gain ∷ v .offset ∷ bytes16 (v .floor)
+setupWith v crc = v .part ∷ crc ∷ v .address ∷ v .«gain_code» ∷ v .offset ∷ bytes16 (v .floor)
 
 pub at-crc : (v : Setup) (old : List ℕ) {new : List ℕ} {r : Wrote} {crc : ℕ} → crc ≡ bitOf (v .crc) → Writes (recordOf 0 (setupWith v crc)) old r new → Writes (recordOf 0 (setupBytes v)) old r new
 at-crc v old {new} {r} e w = subst (λ (n : ℕ). Writes (recordOf 0 (setupWith v n)) old r new) e w

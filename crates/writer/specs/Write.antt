@@ -62,7 +62,7 @@ kindFor (Wires n) = WIRES
 
 -- part, CRC, address, gain code, offset (1 each), floor (2)
 abbrev pub setupBytes : SetupValues → List ℕ
-setupBytes v = v .part ∷ bitOf (v .crc) ∷ v .address ∷ v .gain ∷ v .offset ∷ bytes16 (v .floor)
+setupBytes v = v .part ∷ bitOf (v .crc) ∷ v .address ∷ v .«gain_code» ∷ v .offset ∷ bytes16 (v .floor)
 
 -- 2 bytes for each count
 abbrev pub countBytes : Counts → List ℕ

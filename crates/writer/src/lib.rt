@@ -7,7 +7,7 @@ ghost use Rattle.events.specs.declared.Event.the-variants.{Setup as SetupEvent,
 ghost use Rattle.records.specs.Numbers.{bitOf};
 ghost use Rattle.records.specs.Record.{setupGood, standing, noCounts};
 ghost use Rattle.writer.specs.Write.{bits32, bytes16, bytes32, wordBytes, writtenOf, recordOf, recordFor, refusalFor, setupBytes, Writes, Puts};
-ghost use Rattle.writer.specs.Checked.{refusalAt};
+ghost use Rattle.writer.specs.CheckedLaws.{refusalAt};
 use events::BusEvent;
 use events::Counts;
 use events::Event;
@@ -40,7 +40,7 @@ fn setup_good(v: Setup) -> bool
         & (v.part <= 3)
         & (0x08 <= v.address)
         & (v.address <= 0x77)
-        & (v.gain <= 31)
+        & (v.gain_code <= 31)
         & (v.floor <= 4095)
         & (v.cells == 0)
 }
@@ -164,7 +164,7 @@ fn write_setup(out: &mut [u8], v: Setup) -> Wrote
     out[4] = v.part;
     out[5] = bit_of(v.crc);
     out[6] = v.address;
-    out[7] = v.gain;
+    out[7] = v.gain_code;
     out[8] = v.offset;
     out[9] = (v.floor % 256) as u8;
     out[10] = (v.floor / 256) as u8;
@@ -210,7 +210,7 @@ fn standing_at(part: u8) -> Setup
         part,
         crc: false,
         address: 0,
-        gain: 0,
+        gain_code: 0,
         offset: 0,
         floor: 0,
         cells: 0,
@@ -222,7 +222,7 @@ fn setup_refusal(v: Setup, counts: Counts) -> u8
     ensures { λ r. ⌜ r ≡ refusalFor (SetupEvent v) counts 0 ⌝ }
 {
     if (1 <= v.part) & (v.part <= 3) {
-        if checks::counts_fit(0, counts) {
+        if ranges::counts_fit(0, counts) {
             if setup_good(v) {
                 return 0;
             }
@@ -238,7 +238,7 @@ fn wires_refusal(cells: u8, counts: Counts, part: u8) -> u8
     ensures { λ r. ⌜ r ≡ refusalFor (Wires cells) counts part ⌝ }
 {
     if (1 <= part) & (part <= 3) {
-        if checks::counts_fit(0, counts) {
+        if ranges::counts_fit(0, counts) {
             if wiring::has_row(part, cells) {
                 return 0;
             }
@@ -254,7 +254,7 @@ fn refusal_at(event: Event, counts: Counts, part: u8) -> u8
     ensures { λ r. ⌜ r ≡ refusalAt event counts part ⌝ }
 {
     if (1 <= part) & (part <= 3) {
-        return checks::refusal(standing_at(part), event, counts);
+        return ranges::refusal(standing_at(part), event, counts);
     }
     1
 }

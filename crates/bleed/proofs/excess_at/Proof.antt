@@ -8,7 +8,7 @@ use lib.Dec.{leb}
 use lib.ListN.{getD}
 use borrow.Author.Needs.{needs}
 use borrow.Author.Tests.{leb-true}
-use Rattle.bleed.specs.Best.{right-of}
+use Rattle.bleed.specs.BestLaws.{right-of}
 use Rattle.bleed.specs.Excess.{linkedAt, excessAt}
 use Rattle.bleed.proofs.excess_at.Statement.{statement}
 use Rattle.bleed.proofs.excess_at.Tie as tie

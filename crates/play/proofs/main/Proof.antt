@@ -12,9 +12,9 @@ use mir.Syntax.{w64}
 use mir.Val.{toZ, ofZ, Fits}
 use mir.Facts.{toZ-pos}
 use borrow.Author.Needs.{needs}
-use Rattle.lines.specs.Text.{mostText, textOf, Written}
-use Rattle.lines.specs.Few.{text-few}
-use Rattle.lines.specs.Whole.{never-short}
+use Rattle.play_lines.specs.Text.{mostText, textOf, Written}
+use Rattle.play_lines.specs.FewLaws.{text-few}
+use Rattle.play_lines.specs.WholeLaws.{never-short}
 use Rattle.play.proofs.main.Statement.{statement}
 use Rattle.play.proofs.main.Tie as tie
 

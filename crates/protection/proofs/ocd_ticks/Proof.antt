@@ -4,7 +4,7 @@ use Prim.Native.Nat.{_/_, _%_}
 use Prim.Native.Nat.{_/_, _%_}
 use native.Mathlib.Omega.{arith}
 use Rattle.protection.specs.Rule.{rule}
-use Rattle.protection.specs.Ticks.{ticks-are}
+use Rattle.protection.specs.TicksLaws.{ticks-are}
 use borrow.Author.Needs.{needs}
 use Rattle.protection.proofs.ocd_ticks.Statement.{statement}
 use Rattle.protection.proofs.ocd_ticks.Tie as tie

@@ -3,7 +3,7 @@ use mathlib.Core.Path.{_≡_, ap, _∙_}
 use native.Mathlib.Omega.{arith}
 use Prim.Native.Nat.{suc, _-_}
 use Rattle.protection.specs.Rule.{ocdTicks}
-use Rattle.protection.specs.Ticks.{shift-is}
+use Rattle.protection.specs.TicksLaws.{shift-is}
 use borrow.Author.Needs.{needs}
 use Rattle.protection.proofs.ticks_at.Statement.{statement}
 use Rattle.protection.proofs.ticks_at.Tie as tie

@@ -1,5 +1,5 @@
 -- `toralinge_values` names the record that was read, or gives the number it is refused with (Told).
-use Rattle.records.specs.Reading.{Placed, placed}
+use Rattle.records.specs.ReadingLaws.{Placed, placed}
 use Rattle.records.specs.declared.Read.the-variants.{Record}
 use Rattle.events.specs.declared.Event.{Event}
 use mir.Val.{toZ, ofZ}

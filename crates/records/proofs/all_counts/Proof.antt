@@ -5,7 +5,7 @@ use native.Mathlib.Omega.{arith}
 use lib.ListN.{drop}
 use Rattle.events.specs.Event.{within, countMost}
 use Rattle.records.specs.Numbers.{words}
-use Rattle.records.specs.Words.{words-end, fit-not, fit-next}
+use Rattle.records.specs.WordsLaws.{words-end, fit-not, fit-next}
 use Rattle.records.proofs.all_counts.Statement.{statement}
 use Rattle.records.proofs.all_counts.Tie as tie
 

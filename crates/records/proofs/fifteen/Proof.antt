@@ -1,5 +1,5 @@
 -- `fifteen` is the payload's numbers filled up with 0, word by word.
-use Rattle.records.specs.Words.{words-from}
+use Rattle.records.specs.WordsLaws.{words-from}
 use borrow.Author.Needs.{needs}
 use Rattle.records.proofs.fifteen.Statement.{statement}
 use Rattle.records.proofs.fifteen.Tie as tie

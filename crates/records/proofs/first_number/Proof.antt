@@ -4,7 +4,7 @@ use Prim.Native.Nat.{ℕ, _≤_}
 use lib.ListN.{length}
 use native.Mathlib.Omega.{arith}
 use Rattle.records.specs.Frame.{headerOf}
-use Rattle.records.specs.Framing.{first-short, first-other, first-setup, payloadNumber, framed-place}
+use Rattle.records.specs.FramingLaws.{first-short, first-other, first-setup, payloadNumber, framed-place}
 use Rattle.records.specs.declared.Framed.the-variants.{Header}
 use borrow.Author.Needs.{needs}
 use Rattle.records.proofs.first_number.Statement.{statement}

@@ -2,7 +2,7 @@
 use native.Mathlib.Omega.{arith}
 use mathlib.Core.Path.{ap}
 use Rattle.events.specs.declared.Counts.{Counts}
-use Rattle.records.specs.Reading.{read-whole}
+use Rattle.records.specs.ReadingLaws.{read-whole}
 use borrow.Author.Needs.{needs}
 use Rattle.stream.proofs.counted.Statement.{statement}
 use Rattle.stream.proofs.counted.Tie as tie

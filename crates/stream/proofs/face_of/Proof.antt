@@ -3,7 +3,7 @@ use mathlib.Core.Path.{_∙_, ap, sym}
 use mathlib.Core.Bool.{Bool, not}
 use Prim.Native.Nat.{ℕ}
 use lib.Dec.{eqb}
-use Rattle.settings.specs.Bit.{weighed}
+use Rattle.bits.specs.Bit.{weighed}
 use Rattle.registers.specs.Laws.{alert-is}
 use borrow.Author.Needs.{needs}
 use Rattle.stream.proofs.face_of.Statement.{statement}

@@ -4,7 +4,7 @@ use Rattle.stream.proofs.leveled.Statement.{statement}
 use Rattle.stream.proofs.leveled.Tie as tie
 
 returns : tie.Need-returns
-returns c = simp (c .held .ensures, c .before .leveled .ensures)
+returns c = simp (c .pulled-by-level .ensures, c .before .leveled .ensures)
 
 pub leveled-spec : {M : Type 1} → statement M
 leveled-spec = tie.close (tie.spec (λ c κs. search needs) (λ c κs. search needs) returns)

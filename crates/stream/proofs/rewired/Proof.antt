@@ -7,7 +7,7 @@ use Rattle.stream.proofs.rewired.Statement.{statement}
 use Rattle.stream.proofs.rewired.Tie as tie
 
 returns : tie.Need-returns
-returns c = let a = c .before .before .args in wires-closed (a .cells) (a .chip) {op = a .fresh} (not-true _ (c .before .if1 .taken)) (c .quiet .ensures)
+returns c = let a = c .before .before .args in wires-closed (a .cells) (a .chip) {op = a .fresh} (not-true _ (c .before .if1 .taken)) (c .numbered .ensures)
 
 returns-2 : tie.Need-returns-2
 returns-2 c =

@@ -4,7 +4,7 @@ use Rattle.stream.proofs.roused.Statement.{statement}
 use Rattle.stream.proofs.roused.Tie as tie
 
 returns : tie.Need-returns
-returns c = c .quiet .ensures
+returns c = c .numbered .ensures
 
 pub roused-spec : {M : Type 1} → statement M
 roused-spec = tie.close (tie.spec (λ c κs. search needs) returns)

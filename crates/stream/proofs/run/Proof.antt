@@ -21,13 +21,13 @@ use Rattle.records.specs.declared.Framed.the-variants.{Header}
 use Rattle.records.specs.declared.Payload.the-variants.{Whole, Unfit}
 use Rattle.records.specs.declared.Read.the-variants.{Record}
 use Rattle.records.specs.Frame.{headerOf}
-use Rattle.records.specs.Framing.{framed-place}
+use Rattle.records.specs.FramingLaws.{framed-place}
 use Rattle.records.specs.Record.{payloadOf, readOf, countsBeside}
 use Rattle.protection.specs.declared.Judged.{Judged}
 use Rattle.protection.specs.Judged.{tickJudged}
 use Rattle.chip.specs.declared.Chip.{Chip}
 use Rattle.chip.specs.declared.Stepped.{Stepped}
-use Rattle.chip.specs.Chip.{quiet, withBus, withRuns, happenedBy}
+use Rattle.chip.specs.Chip.{numbered, withBus, withRuns, happenedBy}
 use Rattle.chip.specs.Parts.{landed}
 use Rattle.chip.specs.Calm.{Calmed, calm-bus}
 use Rattle.stream.specs.Often.{often, workOf, Sorted, sorted}
@@ -98,8 +98,8 @@ returns : tie.Need-returns Inv-loop μ-loop
 returns c =
     let r = c .before .before .before .before .before .before .before .before in
     let q = short-turn (fresh r) (chip r) (rest r) (sym (r .header-of .ensures) ∙ c .before .before .before .before .before .before .enum-told .given .1) in
-    let e = entry-is (quiet 9 (chip r)) (c .before .before .before .entry-of .ensures) (c .before .before .before .before .unanswered .ensures) (head r .loop .inv .1) in
-    last-turn r (turn (quiet 9 (chip r)) (fresh r) 0 true) q (c .before .before .note .last .0) (c .before .before .note .ensures ∙ ap (noted (head r .loop .out) (head r .loop .n)) e) refl
+    let e = entry-is (numbered 9 (chip r)) (c .before .before .before .entry-of .ensures) (c .before .before .before .before .unanswered .ensures) (head r .loop .inv .1) in
+    last-turn r (turn (numbered 9 (chip r)) (fresh r) 0 true) q (c .before .before .note .last .0) (c .before .before .note .ensures ∙ ap (noted (head r .loop .out) (head r .loop .n)) e) refl
 
 -- the payload: its header, and what is known of it
 module _ (u : tie.After-unanswered2 Inv-loop μ-loop) where
@@ -143,7 +143,7 @@ module _ (p : tie.After-payload-of Inv-loop μ-loop) where
   payload-is : p .payload-of .result ≡ payloadOf (kind (p .before .before)) (chip was .setup .part) (take (next (p .before .before) - 4) (drop 4 (rest was)))
   payload-is = p .payload-of .ensures
 
-  unfit : (k : ℕ) → p .payload-of .result ≡ Unfit k → turn (quiet k (chip was)) (fresh was) (next (p .before .before)) (eqb (chip was .setup .part) 0) ≡ turnOf (fresh was) (chip was) (rest was)
+  unfit : (k : ℕ) → p .payload-of .result ≡ Unfit k → turn (numbered k (chip was)) (fresh was) (next (p .before .before)) (eqb (chip was .setup .part) 0) ≡ turnOf (fresh was) (chip was) (rest was)
   unfit = unfit-turn (fresh was) (chip was) (rest was) (kind (p .before .before)) (next (p .before .before)) (header (p .before .before)) (p .payload-of .result) payload-is
 
   module _ (e : Event) (w : p .payload-of .result ≡ Whole e) where
@@ -164,8 +164,8 @@ module _ (p : tie.After-payload-of Inv-loop μ-loop) where
     shut : (s : Stepped) (f : Event) → e ≡ f → often f ≡ true → s .number ≡ 0 → s ≡ acted (fresh was) e beside (chip was) → turn s false (next (p .before .before)) false ≡ turnOf (fresh was) (chip was) (rest was)
     shut s f q o z h = ap (λ (t : Bool). turn s t (next (p .before .before)) false) (closes (fresh was) (chip was) (rest was) e f (next (p .before .before)) s read q o z) ∙ did s h
 
-    kinds : (v : Work) → v ≡ workOf (chip was .awake) e → Sorted (chip was .awake) e v
-    kinds v h = subst (Sorted (chip was .awake) e) (sym h) (sorted (chip was .awake) e)
+    kinds : (v : Work) → v ≡ workOf (chip was .normal) e → Sorted (chip was .normal) e v
+    kinds v h = subst (Sorted (chip was .normal) e) (sym h) (sorted (chip was .normal) e)
 
 -- the first record refused
 returns-2 : tie.Need-returns-2 Inv-loop μ-loop
@@ -174,8 +174,8 @@ returns-2 c =
     let r = was p in
     let k = c .before .before .before .before .before .before .before .before .before .number .given .0 .0 in
     let q = unfit p k (c .before .before .before .before .before .before .before .before .before .number .given .1) in
-    let e = entry-is (quiet k (chip r)) (c .before .before .before .entry-of2 .ensures) (c .before .before .before .before .before .before .before .unanswered3 .ensures) (head r .loop .inv .1) in
-    last-turn r (turn (quiet k (chip r)) (fresh r) (next (p .before .before)) (eqb (chip r .setup .part) 0)) q (c .before .before .note2 .last .0)
+    let e = entry-is (numbered k (chip r)) (c .before .before .before .entry-of2 .ensures) (c .before .before .before .before .before .before .before .unanswered3 .ensures) (head r .loop .inv .1) in
+    last-turn r (turn (numbered k (chip r)) (fresh r) (next (p .before .before)) (eqb (chip r .setup .part) 0)) q (c .before .before .note2 .last .0)
     (c .before .before .note2 .ensures ∙ ap (noted (head r .loop .out) (head r .loop .n)) e) (eq-eqb (chip r .setup .part) 0 (c .before .before .before .before .before .if1 .taken))
 
 counted-requires : tie.Need-counted-requires Inv-loop μ-loop
@@ -221,7 +221,7 @@ module _ (c : tie.At-match2-came Inv-loop μ-loop) where
   came =
       ⊎-elim (λ w. let n = w .1 .given .0 .0 in way k _ _ _ (w .6) (w .7) (w .8) (w .9) (
         ap (λ (a : Answer). turn (saying a k) (fresh (was pay)) (next (pay .before .before)) false) (w .3 .ensures)
-            ∙ sym (ap (turn (quiet n k) (fresh (was pay)) (next (pay .before .before))) (ne-eqb (k .setup .part) 0 (w .5 .left))) ∙ unfit pay n (w .1 .given .1),
+            ∙ sym (ap (turn (numbered n k) (fresh (was pay)) (next (pay .before .before))) (ne-eqb (k .setup .part) 0 (w .5 .left))) ∙ unfit pay n (w .1 .given .1),
         shown,
       ))
       (⊎-elim (λ w. let e = w .1 .given .0 .0 in let f = w .1 .given .1 in let o = kinds pay e f Scans (sym (w .5 .given .1) ∙ w .3 .ensures) in way _ _ _ _ (w .9) (w .10) (w .11) (w .12)

@@ -4,16 +4,16 @@ use mir.Syntax.{w32}
 use mir.Val.{toZ, ofZ}
 use Rattle.chip.specs.Chip.{ticked}
 use Rattle.events.specs.Event.{Count, Pin, Load, Xready}
-use Rattle.registers.specs.State.{withLoad}
+use Rattle.registers.specs.State.{withLoadLevel}
 use Rattle.registers.specs.Judging.{coulombs, pulled, unready}
-use Rattle.registers.specs.Held.{pulled-calm, unready-calm, coulombs-calm}
+use Rattle.registers.specs.LevelLaws.{pulled-calm, unready-calm, coulombs-calm}
 use Rattle.stream.proofs.Steps.{as-event, sleeping, in-sleep, boots, moves, levels, moved-to}
 use borrow.Author.Needs.{needs}
 use Rattle.stream.proofs.seldom.Statement.{statement}
 use Rattle.stream.proofs.seldom.Tie as tie
 
 returns : tie.Need-returns
-returns c = let a = c .before .before .before .before in as-event (a .args .counts) (a .args .chip) (c .before .enum-told .given .1) (c .quiet .ensures)
+returns c = let a = c .before .before .before .before in as-event (a .args .counts) (a .args .chip) (c .before .enum-told .given .1) (c .numbered .ensures)
 
 returns-2 : tie.Need-returns-2
 returns-2 c = let a = c .before .before .before .before in as-event (a .args .counts) (a .args .chip) (c .before .enum-told2 .given .1) (c .por .ensures)
@@ -28,7 +28,7 @@ returns-5 : tie.Need-returns-5
 returns-5 c = let a = c .before .before .before .before in as-event (a .args .counts) (a .args .chip) (c .before .enum-told5 .given .1) (c .heated .ensures)
 
 returns-6 : tie.Need-returns-6
-returns-6 c = let a = c .before .before .before .before .before .before in let n = c .before .before .before .event .given .0 .0 in as-event (a .args .counts) (a .args .chip) (c .before .before .before .event .given .1) (moves (Count n) (a .args .chip) (coulombs n (a .args .chip .registers)) refl refl (coulombs-calm n (a .args .chip .registers) (a .pre .1)) (moved-to (a .args .chip) (c .before .coulombs .ensures) (c .moved .ensures)))
+returns-6 c = let a = c .before .before .before .before .before .before in let n = c .before .before .before .event .given .0 .0 in as-event (a .args .counts) (a .args .chip) (c .before .before .before .event .given .1) (moves (Count n) (a .args .chip) (coulombs n (a .args .chip .registers)) refl refl (coulombs-calm n (a .args .chip .registers) (a .pre .1)) (moved-to (a .args .chip) (c .before .coulombs .ensures) (c .registers-moved .ensures)))
 
 returns-7 : tie.Need-returns-7
 returns-7 c = let a = c .before .before .before .before in as-event (a .args .counts) (a .args .chip) (c .before .enum-told6 .given .1) (in-sleep _ (a .args .chip) (sleeping (a .args .chip) (a .args .event) _ (a .pre .0) (c .before .enum-told6 .given .1) refl) (c .quiet3 .ensures))
@@ -37,7 +37,7 @@ returns-8 : tie.Need-returns-8
 returns-8 c = let a = c .before .before .before .before .before in as-event (a .args .counts) (a .args .chip) (c .before .before .enum-told7 .given .1) (moves Pin (a .args .chip) (pulled (a .args .chip .registers)) refl refl (pulled-calm (a .args .chip .registers)) (moved-to (a .args .chip) (c .before .pulled .ensures) (c .moved2 .ensures)))
 
 returns-9 : tie.Need-returns-9
-returns-9 c = let a = c .before .before .before .before .before .before in let l = c .before .before .before .event2 .given .0 .0 in as-event (a .args .counts) (a .args .chip) (c .before .before .before .event2 .given .1) (moves (Load l) (a .args .chip) (withLoad l (a .args .chip .registers)) refl refl (a .pre .1) (moved-to (a .args .chip) (c .before .loaded .ensures) (c .moved3 .ensures)))
+returns-9 c = let a = c .before .before .before .before .before .before in let l = c .before .before .before .event2 .given .0 .0 in as-event (a .args .counts) (a .args .chip) (c .before .before .before .event2 .given .1) (moves (Load l) (a .args .chip) (withLoadLevel l (a .args .chip .registers)) refl refl (a .pre .1) (moved-to (a .args .chip) (c .before .loaded .ensures) (c .moved3 .ensures)))
 
 returns-10 : tie.Need-returns-10
 returns-10 c = let a = c .before .before .before .before .before in as-event (a .args .counts) (a .args .chip) (c .before .before .enum-told8 .given .1) (moves Xready (a .args .chip) (unready (a .args .chip .registers)) refl refl (unready-calm (a .args .chip .registers)) (moved-to (a .args .chip) (c .before .unready .ensures) (c .moved4 .ensures)))

@@ -11,23 +11,23 @@ use Rattle.stream.proofs.work_of.Tie as tie
 
 returns : tie.Need-returns
 unfolding workOf
-returns c = simp (not-true (c .before .args .awake) (c .if1 .taken))
+returns c = simp (not-true (c .before .args .normal) (c .if1 .taken))
 
 returns-2 : tie.Need-returns-2
 unfolding workOf
-returns-2 c = simp (not-false (c .before .before .before .args .awake) (c .before .before .if1 .left), c .enum-told .given .1)
+returns-2 c = simp (not-false (c .before .before .before .args .normal) (c .before .before .if1 .left), c .enum-told .given .1)
 
 returns-3 : tie.Need-returns-3
 unfolding workOf
-returns-3 c = let z = c .before .event .given .0 .0 in let e : toZ w32 (ofZ w32 z) ≡ z = search needs in simp (not-false (c .before .before .before .before .args .awake) (c .before .before .before .if1 .left), c .before .event .given .1, e)
+returns-3 c = let z = c .before .event .given .0 .0 in let e : toZ w32 (ofZ w32 z) ≡ z = search needs in simp (not-false (c .before .before .before .before .args .normal) (c .before .before .before .if1 .left), c .before .event .given .1, e)
 
 returns-4 : tie.Need-returns-4
 unfolding workOf
-returns-4 c = simp (not-false (c .before .before .before .before .args .awake) (c .before .before .before .if1 .left), c .before .event2 .given .1)
+returns-4 c = simp (not-false (c .before .before .before .before .args .normal) (c .before .before .before .if1 .left), c .before .event2 .given .1)
 
 returns-5 : tie.Need-returns-5
 unfolding workOf
-returns-5 c = simp (not-false (c .before .before .args .awake) (c .before .if1 .left)) (seldom-work (c .before .before .args .event) (c .match .keys4))
+returns-5 c = simp (not-false (c .before .before .args .normal) (c .before .if1 .left)) (seldom-work (c .before .before .args .event) (c .match .keys4))
 
 pub work-of-spec : {M : Type 1} → statement M
 work-of-spec =

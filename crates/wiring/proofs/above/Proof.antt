@@ -10,10 +10,10 @@ use Rattle.wiring.proofs.above.Statement.{statement}
 use Rattle.wiring.proofs.above.Tie as tie
 
 abbrev Inv-loop : tie.InvT-loop
-Inv-loop floor inputs held mask₀ i₀ mask i = (i ≤ inputs) × (mask ≡ bits (aboveFloor floor held) (i + 1) (inputs - i)) × (inputs ≤ 15)
+Inv-loop floor inputs cells mask₀ i₀ mask i = (i ≤ inputs) × (mask ≡ bits (aboveFloor floor cells) (i + 1) (inputs - i)) × (inputs ≤ 15)
 
 abbrev μ-loop : tie.MeasureT-loop
-μ-loop floor inputs held mask₀ i₀ mask i = i
+μ-loop floor inputs cells mask₀ i₀ mask i = i
 
 loop-holds : tie.Need-loop-holds Inv-loop μ-loop
 loop-holds c = let a = c .args in (omega arith, begins (a .floor) (a .t2) (a .inputs), c .pre)

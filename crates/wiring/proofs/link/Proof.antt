@@ -11,8 +11,8 @@ use Rattle.wiring.proofs.link.Tie as tie
 returns : tie.Need-returns
 returns c =
     let a = c .before .before .args in
-    let l : length (a .held) ≡ 15 = search needs in
-    c .packed .ensures ∙ ap (λ (m : ℕ). countsOf (kept m (a .held))) (c .before .linked .ensures) ∙ ap countsOf (kept-linked (a .setup) (a .held) l)
+    let l : length (a .cells) ≡ 15 = search needs in
+    c .packed .ensures ∙ ap (λ (m : ℕ). countsOf (kept m (a .cells))) (c .before .linked .ensures) ∙ ap countsOf (kept-linked (a .setup) (a .cells) l)
 
 pub link-spec : {M : Type 1} → statement M
 link-spec = tie.close (tie.spec (λ c κs. search needs) (λ c κs. search needs) returns)

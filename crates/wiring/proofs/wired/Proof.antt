@@ -4,7 +4,7 @@ use native.Mathlib.Omega.{arith}
 use mathlib.Core.Path.{ap, sym, _∙_}
 use Prim.Native.Nat.{ℕ}
 use lib.ListN.{getD}
-use Rattle.events.specs.Few.{few-groups}
+use Rattle.events.specs.FewLaws.{few-groups}
 use Rattle.wiring.proofs.Table.{row-small, row-bits, whole, whole-bits}
 use Rattle.wiring.proofs.wired.Statement.{statement}
 use Rattle.wiring.proofs.wired.Tie as tie

@@ -1,9 +1,9 @@
 -- `refusal_at` looks at the part, and then asks the checks.
 use mathlib.Core.Path.{ap, _∙_}
-use Rattle.writer.specs.Checked.{refusalAt}
+use Rattle.writer.specs.CheckedLaws.{refusalAt}
 use Rattle.events.specs.declared.Setup.{Setup}
 use Rattle.events.specs.Event.{meantOf}
-use Rattle.checks.specs.Refusal.{refusalOf}
+use Rattle.ranges.specs.Refusal.{refusalOf}
 use borrow.Author.Needs.{needs}
 use Rattle.writer.proofs.refusal_at.Statement.{statement}
 use Rattle.writer.proofs.refusal_at.Tie as tie

@@ -1,7 +1,7 @@
 -- `write_record` refuses as `refusal` says and writes nothing then, or writes the event's record.
 use mathlib.Core.Path.{sym, _∙_}
 use Rattle.writer.specs.Write.{refusalFor, recordFor}
-use Rattle.writer.specs.Accepted.{accepted-few}
+use Rattle.writer.specs.AcceptedLaws.{accepted-few}
 use Rattle.writer.proofs.Refusals.{refused-puts, taken-puts}
 use borrow.Author.Needs.{needs}
 use Rattle.writer.proofs.write_record.Statement.{statement}

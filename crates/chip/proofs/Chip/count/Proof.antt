@@ -7,7 +7,7 @@ use Rattle.chip.proofs.Chip.count.Statement.{statement}
 use Rattle.chip.proofs.Chip.count.Tie as tie
 
 returns : tie.Need-returns
-returns c = in-sleep (Count _) (c .before .before .before .args .self) (not-true _ (c .before .if1 .taken)) (c .quiet .ensures)
+returns c = in-sleep (Count _) (c .before .before .before .args .self) (not-true _ (c .before .if1 .taken)) (c .numbered .ensures)
 
 returns-2 : tie.Need-returns-2
 returns-2 c = let b = c .before .before .before .before .before .before in in-normal (Count _) (b .before .before .args .self) (not-false _ (b .if1 .left)) (simp (c .done .ensures, c .before .before .before .before .coulombs .ensures))

@@ -4,7 +4,7 @@ use borrow.Author.Needs.{needs}
 use mathlib.Core.Path.{_≡_}
 use mathlib.Core.Bool.{true}
 use Rattle.chip.specs.declared.Chip.{Chip}
-use Rattle.chip.specs.Packed.{pack-reads, asleep-number, none-number, given-number}
+use Rattle.chip.specs.PackedLaws.{pack-reads, asleep-number, none-number, given-number}
 use Rattle.chip.proofs.Chip.forecast.Statement.{statement}
 use Rattle.chip.proofs.Chip.forecast.Tie as tie
 
@@ -16,8 +16,8 @@ module _ (l : tie.After-link) where
   abbrev chip : Chip
   chip = l .before .before .before .before .before .before .before .args .self
 
-  awake : chip .awake ≡ true
-  awake = not-false _ (l .before .before .before .before .before .if1 .left)
+  awake : chip .normal ≡ true
+  normal = not-false _ (l .before .before .before .before .before .if1 .left)
 
 returns-2 : tie.Need-returns-2
 returns-2 c = let l = c .before .before in none-number (chip l) (l .link .result) (l .link .ensures) (awake l) (c .if2 .taken)

@@ -4,7 +4,7 @@ use mir.Syntax.{w32}
 use mir.Facts.{toZ-ofZ}
 use Rattle.protection.specs.Repeat.{ticksJudged}
 use Rattle.protection.specs.declared.Judged.{Judged}
-use Rattle.chip.specs.Repeat.{tickedBy}
+use Rattle.chip.specs.RepeatLaws.{tickedBy}
 use borrow.Author.Needs.{needs}
 use Rattle.chip.proofs.Chip.judged_by.Statement.{statement}
 use Rattle.chip.proofs.Chip.judged_by.Tie as tie

@@ -16,7 +16,7 @@ unfolding fits
 returns c =
     let l = c .before .before in
     let a = l .before in
-    out-of-range (Sense _) (a .args .self) (ap senseFits (sym (toZ-ofZ {w = w32} (a .fits .value))) ∙ sym (l .sense-fits .ensures) ∙ not-true _ (c .before .if1 .taken)) (c .quiet .ensures)
+    out-of-range (Sense _) (a .args .self) (ap senseFits (sym (toZ-ofZ {w = w32} (a .fits .value))) ∙ sym (l .sense-fits .ensures) ∙ not-true _ (c .before .if1 .taken)) (c .numbered .ensures)
 
 returns-2 : tie.Need-returns-2
 unfolding fits

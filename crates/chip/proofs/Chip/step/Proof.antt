@@ -12,7 +12,7 @@ returns : tie.Need-returns
 returns c =
     let f = c .before .before in
     let a = f .before .before .args in
-    step-unfit (a .event) (a .counts) (a .self) (ap (λ (n : ℕ). countsFit n (a .counts)) (sym (f .before .counts-wanted .ensures)) ∙ sym (f .counts-fit .ensures) ∙ not-true _ (c .before .if1 .taken)) (c .quiet .ensures)
+    step-unfit (a .event) (a .counts) (a .self) (ap (λ (n : ℕ). countsFit n (a .counts)) (sym (f .before .counts-wanted .ensures)) ∙ sym (f .counts-fit .ensures) ∙ not-true _ (c .before .if1 .taken)) (c .numbered .ensures)
 
 returns-2 : tie.Need-returns-2
 returns-2 c =

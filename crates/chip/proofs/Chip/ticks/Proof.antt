@@ -5,7 +5,7 @@ use borrow.Author.Tests.{not-true, not-false}
 use mir.Syntax.{w32}
 use mir.Facts.{toZ-ofZ}
 use Rattle.events.specs.Event.{ticksMost, ticksFit}
-use Rattle.chip.specs.Chip.{quiet, ticked}
+use Rattle.chip.specs.Chip.{numbered, ticked}
 use borrow.Author.Needs.{needs}
 use Rattle.chip.proofs.Chip.ticks.Statement.{statement}
 use Rattle.chip.proofs.Chip.ticks.Tie as tie
@@ -15,7 +15,7 @@ returns c =
     let l = c .before .before in
     let a = l .before in
     let f = ap (λ v. ticksFit ticksMost v (a .args .repeat)) (sym (toZ-ofZ {w = w32} (a .fits .value))) ∙ sym (l .ticks-fit .ensures) ∙ not-true _ (c .before .if1 .taken) in
-    c .quiet .ensures ∙ ap (λ (t : Bool). cond t (ticked (a .args .repeat) (a .args .value) (a .args .self)) (quiet 3 (a .args .self))) (sym f)
+    c .numbered .ensures ∙ ap (λ (t : Bool). cond t (ticked (a .args .repeat) (a .args .value) (a .args .self)) (numbered 3 (a .args .self))) (sym f)
 
 returns-2 : tie.Need-returns-2
 returns-2 c =
@@ -23,7 +23,7 @@ returns-2 c =
     let a = l .before in
     let e = toZ-ofZ {w = w32} (a .fits .value) in
     let f = ap (λ v. ticksFit ticksMost v (a .args .repeat)) (sym e) ∙ sym (l .ticks-fit .ensures) ∙ not-false _ (c .before .if1 .left) in
-    c .ticked .ensures ∙ ap (λ v. ticked (a .args .repeat) v (a .args .self)) e ∙ ap (λ (t : Bool). cond t (ticked (a .args .repeat) (a .args .value) (a .args .self)) (quiet 3 (a .args .self))) (sym f)
+    c .ticked .ensures ∙ ap (λ v. ticked (a .args .repeat) v (a .args .self)) e ∙ ap (λ (t : Bool). cond t (ticked (a .args .repeat) (a .args .value) (a .args .self)) (numbered 3 (a .args .self))) (sym f)
 
 pub ticks-spec : {M : Type 1} → statement M
 ticks-spec =

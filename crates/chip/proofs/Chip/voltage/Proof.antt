@@ -2,7 +2,7 @@
 use mathlib.Core.Path.{_≡_, sym, ap, _∙_}
 use mathlib.Core.Bool.{true}
 use borrow.Author.Tests.{not-true, not-false}
-use Rattle.chip.specs.Voltage.{asleep-said, zero-said, above-said, apart-said, cell-said, holds-linked}
+use Rattle.chip.specs.VoltageLaws.{asleep-said, zero-said, above-said, apart-said, cell-said, holds-linked}
 use Rattle.values.specs.Values.{gives, cellMicrovolts}
 use Rattle.registers.specs.Read.{cellAt}
 use lib.IntN.{ℤ}
@@ -43,8 +43,8 @@ module _ (c : tie.After-input-of) where
   most : n ≤ packCells (chip .setup)
   most = rw (tested .cells .ensures) at (c .before .before .before .if3 .left)
 
-  awake : chip .awake ≡ true
-  awake = not-false _ (tested .before .before .if1 .left)
+  awake : chip .normal ≡ true
+  normal = not-false _ (tested .before .before .if1 .left)
 
   -- what the register of its input holds
   held : {x : ℕ} → x ≡ cellAt (chip .setup) (chip .registers .measured) (c .input-of .result - 1) → x ≡ cellAt (chip .setup) (chip .registers .measured) (inputOf (chip .setup) n - 1)
@@ -65,7 +65,7 @@ returns-4 c = let p = c .before .before .before in apart-said (n p) (chip p) (aw
 returns-5 : tie.Need-returns-5
 returns-5 c =
     let p = c .before .before .before .before in
-    ap (λ (z : ℤ). gives z) (c .cell-microvolts .ensures ∙ ap (cellMicrovolts (chip p .setup .gain) (chip p .setup .offset)) (held p (c .before .before .before .cell .ensures)))
+    ap (λ (z : ℤ). gives z) (c .cell-microvolts .ensures ∙ ap (cellMicrovolts (chip p .setup .«gain_code») (chip p .setup .offset)) (held p (c .before .before .before .cell .ensures)))
     ∙ cell-said (n p) (chip p) (awake p) (one p) (most p) (sym (asked (c .before .before)) ∙ not-false _ (c .before .if4 .left))
 
 pub voltage-spec : {M : Type 1} → statement M

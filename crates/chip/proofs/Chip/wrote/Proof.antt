@@ -11,7 +11,7 @@ returns c = simp (sym (c .before .before .ships .ensures) ∙ c .before .if1 .ta
 
 returns-2 : tie.Need-returns-2
 unfolding wrote
-returns-2 c = simp (sym (c .before .before .before .ships .ensures) ∙ c .before .before .if1 .left, c .held .ensures, c .before .write .ensures)
+returns-2 c = simp (sym (c .before .before .before .ships .ensures) ∙ c .before .before .if1 .left, c .pulled-by-level .ensures, c .before .write .ensures)
 
 pub wrote-spec : {M : Type 1} → statement M
 wrote-spec = tie.close (tie.spec (λ c κs. search needs) (λ c κs. search needs) returns (λ c κs. search needs) (λ c κs. search needs) returns-2)

@@ -1,7 +1,7 @@
 -- `Measured::cell` meets its contract, by which side of the part's inputs the place is; no part has more than fifteen.
 use borrow.Author.Tests.{lt-ltb, le-ltb}
 use native.Mathlib.Omega.{arith}
-use Rattle.events.specs.Few.{few-inputs}
+use Rattle.events.specs.FewLaws.{few-inputs}
 use borrow.Author.Needs.{needs}
 use Rattle.registers.proofs.Measured.cell.Statement.{statement}
 use Rattle.registers.proofs.Measured.cell.Tie as tie

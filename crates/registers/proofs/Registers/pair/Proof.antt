@@ -7,7 +7,7 @@ use Rattle.registers.proofs.Registers.pair.Tie as tie
 
 returns : tie.Need-returns
 unfolding readAt pairAt
-returns c = simp (lt-ltb _ _ (c .before .if1 .taken), c .low-byte .ensures)
+returns c = simp (lt-ltb _ _ (c .before .if1 .taken), c .control-byte .ensures)
 
 returns-2 : tie.Need-returns-2
 unfolding readAt pairAt

@@ -1,4 +1,0 @@
-pub mod Care
-pub mod Total
-pub mod Same
-pub mod Connected

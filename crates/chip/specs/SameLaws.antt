@@ -1,0 +1,41 @@
+-- Document 01, "What every call owes": any two answers about voltages that a promise of the chip allows are the same. Assumes nothing.
+use mathlib.Core.Path.{_≡_, refl, sym, ap, _∙_}
+use mathlib.Core.Bool.{cond}
+use native.Mathlib.Omega.{arith}
+use lib.Dec.{eqb}
+use lib.IntN.{ℤ}
+use Rattle.values.specs.Values.{Said, gives, refuses}
+use Rattle.values.specs.SameLaws.{settled, same-reading}
+use Rattle.chip.specs.declared.Chip.{Chip}
+use Rattle.chip.specs.declared.outward.CellAnswer.{CellAnswer}
+use Rattle.chip.specs.declared.outward.CellAnswer.the-variants as Cell
+use Rattle.chip.specs.declared.outward.ForecastAnswer.{ForecastAnswer}
+use Rattle.chip.specs.declared.outward.ForecastAnswer.the-variants as Forecast
+use Rattle.chip.specs.Outward.{saidCell, Forecasts}
+
+-- the answer that says this
+cell : Said ℤ → CellAnswer
+cell (gives z) = Cell.Is (record { 0 = z })
+cell (refuses n) = cond (eqb n 4) Cell.Asleep (cond (eqb n 6) Cell.NoCell Cell.NotConnected)
+
+cell-said : (a : CellAnswer) → cell (saidCell a) ≡ a
+unfolding cell
+cell-said (Cell.Is v) = refl
+cell-said Cell.Asleep = refl
+cell-said Cell.NoCell = refl
+cell-said Cell.NotConnected = refl
+
+pub same-cell : (a b : CellAnswer) → saidCell a ≡ saidCell b → a ≡ b
+same-cell = settled saidCell cell cell-said
+
+-- the number settles the case, and the registers the reading
+pub same-forecast : (c : Chip) (a b : ForecastAnswer) → Forecasts c a → Forecasts c b → a ≡ b
+same-forecast c (Forecast.Is r) (Forecast.Is t) p q = ap Forecast.Is (same-reading r t (p .1) (q .1))
+same-forecast c (Forecast.Is r) Forecast.Asleep p q = absurd (let e : 4 ≡ 0 = q ∙ p .0 in omega (arith, e))
+same-forecast c (Forecast.Is r) Forecast.NotConnected p q = absurd (let e : 10 ≡ 0 = q ∙ p .0 in omega (arith, e))
+same-forecast c Forecast.Asleep (Forecast.Is r) p q = absurd (let e : 4 ≡ 0 = p ∙ q .0 in omega (arith, e))
+same-forecast c Forecast.Asleep Forecast.Asleep p q = refl
+same-forecast c Forecast.Asleep Forecast.NotConnected p q = absurd (let e : 4 ≡ 10 = p ∙ sym q in omega (arith, e))
+same-forecast c Forecast.NotConnected (Forecast.Is r) p q = absurd (let e : 10 ≡ 0 = p ∙ q .0 in omega (arith, e))
+same-forecast c Forecast.NotConnected Forecast.Asleep p q = absurd (let e : 10 ≡ 4 = p ∙ sym q in omega (arith, e))
+same-forecast c Forecast.NotConnected Forecast.NotConnected p q = refl

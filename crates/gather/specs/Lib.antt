@@ -1,4 +1,0 @@
-pub mod Stored
-pub mod Asked
-pub mod Heard
-pub mod Coded

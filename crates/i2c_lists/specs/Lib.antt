@@ -1,0 +1,11 @@
+pub mod Grammar
+pub mod Reader
+pub mod Records
+pub mod Judging
+pub mod Putting
+pub mod CuttingLaws
+pub mod ExactLaws
+pub mod WordingLaws
+pub mod NumberingLaws
+pub mod AnswersLaws
+pub mod ExamplesLaws

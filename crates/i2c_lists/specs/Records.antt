@@ -1,0 +1,76 @@
+-- Request M-102: the records of a list, with the numbers 20, 21 and 5. Assumes nothing.
+use mathlib.Core.Path.{_≡_}
+use Prim.Native.Nat.{ℕ, zero, suc, _+_, _*_}
+use mathlib.Core.List.{List, [], _∷_, _++_, map}
+use mathlib.Core.Bool.{Bool, true, cond, _&&_}
+use lib.Dec.{leb, eqb}
+use lib.IntN.{ℤ, pos, negℤ}
+use lib.ListN.{length}
+use Rattle.events.specs.declared.BusEvent.{BusEvent}
+use Rattle.events.specs.declared.BusEvent.the-variants.{Start, Out, In, Stop}
+use Rattle.events.specs.declared.Event.the-variants.{OnBus}
+use Rattle.records.specs.Record.{noCounts}
+use Rattle.writer.specs.Write.{recordFor, writtenOf}
+use Rattle.i2c_lists.specs.Grammar.{Message, sends, takes}
+use Rattle.i2c_lists.specs.Reader.{Listing, lists, none, listIn}
+
+-- ── "Each message is START, its address byte (as in 01) and its bytes, the last is followed by STOP" ──
+-- "address × 2, plus 1 to read"
+abbrev pub toWrite : ℕ → ℕ
+toWrite address = 2 * address
+
+abbrev pub toRead : ℕ → ℕ
+toRead address = 2 * address + 1
+
+abbrev pub outOf : ℕ → BusEvent
+outOf b = Out b
+
+-- "in a read every byte is acknowledged but the last": IN holds whether the host does not acknowledge
+abbrev pub taken : ℕ → List BusEvent
+taken zero = []
+taken (suc n) = In (eqb n 0) ∷ taken n
+
+abbrev pub messageEvents : Message → List BusEvent
+messageEvents (sends a bs) = Start ∷ Out (toWrite a) ∷ map outOf bs
+messageEvents (takes a n) = Start ∷ Out (toRead a) ∷ taken n
+
+abbrev pub eventsOf : List Message → List BusEvent
+eventsOf [] = Stop ∷ []
+eventsOf (m ∷ ms) = messageEvents m ++ eventsOf ms
+
+-- their records, one after the other, as document 01 has them
+abbrev pub recordsOf : List BusEvent → List ℕ
+recordsOf [] = []
+recordsOf (e ∷ es) = recordFor (OnBus e) noCounts ++ recordsOf es
+
+abbrev pub bytesOf : Listing → List ℕ
+bytesOf (lists ms) = recordsOf (eventsOf ms)
+bytesOf none = []
+
+-- ── refusals, in this order: 20 not a list of this grammar, 21 an address outside 0x08 to 0x77, then 5 ──
+abbrev pub near : ℕ → Bool
+near address = leb 0x08 address && leb address 0x77
+
+abbrev pub addressOf : Message → ℕ
+addressOf (sends a bs) = a
+addressOf (takes a n) = a
+
+abbrev pub allNear : List Message → Bool
+allNear [] = true
+allNear (m ∷ ms) = near (addressOf m) && allNear ms
+
+abbrev pub numberFor : Listing → ℕ → ℕ
+numberFor none room = 20
+numberFor (lists ms) room = cond (allNear ms) (cond (leb (length (recordsOf (eventsOf ms))) room) 0 5) 21
+
+-- the answer: how many bytes were written, or minus the number
+abbrev pub answerWith : ℕ → List ℕ → ℤ
+answerWith number bytes = cond (eqb number 0) (pos (length bytes)) (negℤ (pos number))
+
+-- "A list is either taken whole or nothing is written": no byte after the records changes
+abbrev pub contentsWith : ℕ → List ℕ → List ℕ → List ℕ
+contentsWith number bytes old = cond (eqb number 0) (writtenOf bytes old) old
+
+pub record Taken (line old : List ℕ) (r : ℤ) (new : List ℕ) : Type 0 where
+  pub answer : r ≡ answerWith (numberFor (listIn line) (length old)) (bytesOf (listIn line))
+  pub contents : new ≡ contentsWith (numberFor (listIn line) (length old)) (bytesOf (listIn line)) old

@@ -1,0 +1,240 @@
+-- Request M-112: the plain engine's entries are the base engine's, and what it decides with are the verdicts of the records before. Assumes nothing.
+use mathlib.Core.Path.{_≡_, refl, sym, ap, _∙_}
+use mathlib.Core.Bool.{Bool, true, false, cond, _&&_, true≢false}
+use mathlib.Core.List.{List, [], _∷_, _++_, map, append-assoc, append-nil}
+use Prim.Native.Nat.{ℕ, zero, suc, _+_, _-_, _*_, _≤_, _<_, min}
+use native.Mathlib.Omega.{arith}
+use native.Mathlib.Nat.{zero-add, min-zero}
+use lib.Dec.{leb, ltb}
+use lib.IntN.{ℤ, pos, negsuc}
+use lib.ListN.{length, take, drop, replicate, length-append, length-take}
+use lib.Seq.{drop-at}
+use borrow.Author.Tests.{le-leb, lt-ltb}
+use Rattle.events.specs.declared.Setup.{Setup as SetupValues}
+use Rattle.events.specs.declared.Event.{Event as Coded}
+use Rattle.events.specs.declared.Event.the-variants.{Setup, Por, Boot, Scan, Temp, Count, Sense, Pin, Load, Xready, OnBus, Level, Ticks, Soak, Wires}
+use Rattle.events.specs.Event.{Event}
+use Rattle.events.specs.Fault.{Fault, Ov, Uv, Scd, Ocd}
+use Rattle.records.specs.declared.Read.{Read}
+use Rattle.records.specs.declared.Read.the-variants.{Record, Refused, Cut}
+use Rattle.records.specs.Record.{readOf}
+use Rattle.records.specs.SoundLaws.{IsSetup, first-setup}
+use Rattle.settings.specs.declared.Settings.{Settings}
+use Rattle.protection.specs.declared.Runs.{Runs}
+use Rattle.protection.specs.Streak.{lastAll, streak, bumps, bumps-streak}
+use Rattle.protection.specs.Fault.{runOf, runsOf}
+use Rattle.protection.specs.declared.Judged.{Judged}
+use Rattle.protection.specs.Rule.{cap, rule, beyond, opinion, someOpinion, risen}
+use Rattle.protection.specs.Judged.{lasts}
+use Rattle.protection.specs.Repeat.{ticksJudged, alike, ticks-alike}
+use Rattle.protection.specs.TablesLaws.{run-tells}
+use Rattle.chip.specs.declared.Chip.{Chip}
+use Rattle.chip.specs.Chip.{withRuns}
+use Rattle.stream.specs.declared.Entry.{Entry}
+use Rattle.stream.specs.Stream.{none, Turn, turned, turnOf, runs, stands, entries, lastChip, bytesOf, Played}
+use Rattle.stream.specs.PrefixLaws.{same-frame, turn-inside, turn-past}
+use Rattle.demands.specs.Demand.{chip}
+use Rattle.demands.specs.History.{runs-are}
+use Rattle.demands.specs.Told.{run-of}
+use Rattle.demands.specs.Wired.{same-but-cells}
+use Rattle.demands.specs.Streams.{heard, cellsIn, last-chip, histories, shows, toShow, entries-show}
+use Rattle.plain_back.specs.Said.{verdictsAfter, verdictsIn, streaksIn, most}
+use Rattle.plain.specs.Plain.{asks, runsFrom, lent, forgetful, plainTurn, plainRuns, plainEntries, PlainPlayed}
+use Rattle.plain.specs.AsideLaws.{unrun, turned-unrun}
+
+-- ── WHAT IT DECIDES: an event that judges k raises it exactly where the newest verdicts of this waking spell, its own included and as many as the
+-- delay now set, are there and all true. No counter is named ──
+pub decides : (k : Fault) (floor : ℕ) (s : Settings) (before : List ℕ) (e : Event)
+    → risen floor s (runsFrom (streaksIn before)) e k ≡ someOpinion (opinion k floor (rule k s) e) && lastAll (rule k s .need) (opinion k floor (rule k s) e ++ verdictsIn k before)
+unfolding streaksIn
+decides k floor s before e =
+    ap (λ (b : Bool). someOpinion op && b)
+    (ap (λ (n : ℕ). leb (rule k s .need) (bumps (cap k) op n)) (run-is k)
+    ∙ ap (leb (rule k s .need)) (bumps-streak (cap k) op (verdictsIn k before))
+    ∙ run-tells k s (op ++ verdictsIn k before))
+  where
+    op : List Bool
+    op = opinion k floor (rule k s) e
+
+    run-is : (k : Fault) → runOf k (runsFrom (streaksIn before)) ≡ min (cap k) (streak (verdictsIn k before))
+    run-is Ov = refl
+    run-is Uv = refl
+    run-is Scd = refl
+    run-is Ocd = refl
+
+-- .. and of ticks of one value every one counts
+pub decides-ticks : (m : ℕ) (s : Settings) (v : ℤ) (before : List ℕ)
+    → ticksJudged (suc m) s v (runsFrom (streaksIn before)) .risen
+    ≡ record {
+      ov = false;
+      uv = false;
+      scd = lastAll (rule Scd s .need) (replicate (suc m) (beyond (rule Scd s) v) ++ verdictsIn Scd before);
+      ocd = lastAll (rule Ocd s .need) (replicate (suc m) (beyond (rule Ocd s) v) ++ verdictsIn Ocd before);
+    }
+unfolding streaksIn
+decides-ticks m s v before = ap (λ (j : Judged). j .risen) (ticks-alike (suc m) s v (runsFrom (streaksIn before))) ∙ (λ i. record { ov = false; uv = false; scd = told Scd i; ocd = told Ocd i })
+  where
+    told : (k : Fault) → ltb 0 (suc m) && lasts k s (alike (cap k) (beyond (rule k s) v) (suc m) (min (cap k) (streak (verdictsIn k before)))) ≡ lastAll (rule k s .need) (replicate (suc m) (beyond (rule k s) v) ++ verdictsIn k before)
+    told k =
+        ap (λ (b : Bool). b && lasts k s (alike (cap k) (beyond (rule k s) v) (suc m) (min (cap k) (streak (verdictsIn k before))))) (lt-ltb 0 (suc m) (omega arith))
+        ∙ ap (lasts k s) (bumps-streak (cap k) (replicate (suc m) (beyond (rule k s) v)) (verdictsIn k before))
+        ∙ run-tells k s (replicate (suc m) (beyond (rule k s) v) ++ verdictsIn k before)
+
+-- ── what the records say is what the base engine's runs hold after them ──
+runs-by : (n : Runs) (f : Fault → ℕ) → ((k : Fault) → runOf k n ≡ f k) → n ≡ runsOf f
+runs-by n f h = λ i. record { ov = h Ov i; uv = h Uv i; scd = h Scd i; ocd = h Ocd i }
+
+-- by the first record; where it is refused or cut short no chip stands, and nothing is said
+abbrev Stands : Read → Bool
+Stands (Record e next) = true
+Stands (Refused k next) = false
+Stands Cut = false
+
+none-stands : (s : List ℕ) (x : Read) → readOf 0 s ≡ x → Stands x ≡ false → lastChip s ≡ none
+unfolding lastChip turnOf
+none-stands [] x q h = refl
+none-stands (b ∷ s) x q h =
+    ap (λ (x : Read). cond (turned false none (b ∷ s) x .last) (turned false none (b ∷ s) x .chip) (stands (length s) (turned false none (b ∷ s) x .fresh) (turned false none (b ∷ s) x .chip) (drop (turned false none (b ∷ s) x .next) (b ∷ s)))) q
+    ∙ by x h
+  where
+    by : (x : Read) → Stands x ≡ false
+        → cond (turned false none (b ∷ s) x .last) (turned false none (b ∷ s) x .chip) (stands (length s) (turned false none (b ∷ s) x .fresh) (turned false none (b ∷ s) x .chip) (drop (turned false none (b ∷ s) x .next) (b ∷ s))) ≡ none
+    by (Record e next) h = absurd (true≢false h)
+    by (Refused k next) h = refl
+    by Cut h = refl
+
+none-said : (s : List ℕ) (k : Fault) → lastChip s ≡ none → runOf k (lastChip s .runs) ≡ min (cap k) 0
+none-said s k h = ap (λ (c : Chip). runOf k (c .runs)) h ∙ run-of (λ k. 0) k ∙ sym (min-zero (cap k))
+
+first-said : (s : List ℕ) (x : Read) → readOf 0 s ≡ x → (k : Fault) → runOf k (lastChip s .runs) ≡ min (cap k) (streak (verdictsAfter k s x))
+first-said s (Record e next) q k = by e q (first-setup s e next q)
+  where
+    by : (e : Coded) → readOf 0 s ≡ Record e next → IsSetup e → runOf k (lastChip s .runs) ≡ min (cap k) (streak (verdictsAfter k s (Record e next)))
+    by (Setup u) q g =
+        ap (λ (c : Chip). runOf k (c .runs)) (last-chip s u next q ∙ same-but-cells (cellsIn u next s) u (heard u next s)) ∙ runs-are u k (heard u next s)
+    by Por q g = absurd g
+    by Boot q g = absurd g
+    by Scan q g = absurd g
+    by Temp q g = absurd g
+    by (Count n) q g = absurd g
+    by (Sense v) q g = absurd g
+    by Pin q g = absurd g
+    by (Load l) q g = absurd g
+    by Xready q g = absurd g
+    by (OnBus b) q g = absurd g
+    by (Level l) q g = absurd g
+    by (Ticks v n) q g = absurd g
+    by (Soak v n) q g = absurd g
+    by (Wires n) q g = absurd g
+first-said s (Refused n next) q k = none-said s k (none-stands s (Refused n next) q refl)
+first-said s Cut q k = none-said s k (none-stands s Cut q refl)
+
+pub runs-said : (s : List ℕ) → runsFrom (streaksIn s) ≡ lastChip s .runs
+unfolding streaksIn verdictsIn
+runs-said s = sym (runs-by (lastChip s .runs) (λ k. min (cap k) (streak (verdictsAfter k s (readOf 0 s)))) (first-said s (readOf 0 s) refl))
+
+-- ── one record ──
+pub plain-turn : (before : List ℕ) (o : Bool) (c : Chip) (rest : List ℕ) → runsFrom (streaksIn before) ≡ c .runs → plainTurn before o (unrun c) rest ≡ forgetful (turnOf o c rest)
+unfolding plainTurn turnOf
+plain-turn before o c rest h = by (asks (readOf (c .setup .part) rest)) refl
+  where
+    by : (t : Bool) → asks (readOf (c .setup .part) rest) ≡ t
+        → forgetful (turned o (lent t before (unrun c)) rest (readOf (c .setup .part) rest)) ≡ forgetful (turned o c rest (readOf (c .setup .part) rest))
+    by true a = ap (λ (n : Runs). forgetful (turned o (withRuns n c) rest (readOf (c .setup .part) rest))) h
+    by false a = turned-unrun o c rest (readOf (c .setup .part) rest) a
+
+-- ── the bytes lent so far are n whole records, which leave the chip c ──
+pub record Lent (before : List ℕ) (o : Bool) (c : Chip) (n : ℕ) : Type 0 where
+  pub leads : (f : ℕ) (q : List ℕ) → stands (n + f) false none (before ++ q) ≡ stands f o c q
+  pub few : n ≤ length before
+
+pub lent-none : Lent [] false none 0
+lent-none = record { leads = λ f q. ap (λ (n : ℕ). stands n false none q) (zero-add f); few = omega arith }
+
+none-left : (f : ℕ) (o : Bool) (c : Chip) → stands f o c [] ≡ c
+none-left zero o c = refl
+none-left (suc f) o c = refl
+
+stands-cons : (f : ℕ) (o : Bool) (c : Chip) (l : List ℕ) → 0 < length l
+    → stands (suc f) o c l ≡ cond (turnOf o c l .last) (turnOf o c l .chip) (stands f (turnOf o c l .fresh) (turnOf o c l .chip) (drop (turnOf o c l .next) l))
+stands-cons f o c [] h = absurd (omega arith)
+stands-cons f o c (b ∷ l) h = refl
+
+module _ (before : List ℕ) (o : Bool) (c : Chip) (n : ℕ) (g : Lent before o c n) where
+  pub lent-chip : lastChip before ≡ c
+  unfolding lastChip
+  lent-chip =
+      let e : length before ≡ n + (length before - n) = omega (arith, g .few) in
+      ap (λ (f : ℕ). stands f false none before) e ∙ ap (stands (n + (length before - n)) false none) (sym (append-nil before)) ∙ g .leads (length before - n) [] ∙ none-left (length before - n) o c
+
+  pub lent-runs : runsFrom (streaksIn before) ≡ c .runs
+  lent-runs = runs-said before ∙ ap (λ (d : Chip). d .runs) lent-chip
+
+  module _ (rest : List ℕ) (h : turnOf o c rest .last ≡ false) where
+    abbrev t : Turn
+    t = turnOf o c rest
+
+    sized : length (take (t .next) rest) ≡ t .next
+    sized = simp length-take (omega (arith, turn-inside o c rest h))
+
+    leads-on : (f : ℕ) (q : List ℕ) → stands (n + 1 + f) false none ((before ++ take (t .next) rest) ++ q) ≡ stands f (t .fresh) (t .chip) q
+    leads-on f q =
+        let e : n + 1 + f ≡ n + suc f = omega arith in
+        let l : 0 < length (take (t .next) rest ++ q) = simp length-append (omega (arith, sized, turn-past o c rest h)) in
+        ap (λ (m : ℕ). stands m false none ((before ++ take (t .next) rest) ++ q)) e
+        ∙ ap (stands (n + suc f) false none) (append-assoc before (take (t .next) rest) q)
+        ∙ g .leads (suc f) (take (t .next) rest ++ q)
+        ∙ stands-cons f o c (take (t .next) rest ++ q) l
+        ∙ ap (λ (x : Turn). cond (x .last) (x .chip) (stands f (x .fresh) (x .chip) (drop (x .next) (take (t .next) rest ++ q)))) (same-frame o c rest q h)
+        ∙ ap (λ (b : Bool). cond b (t .chip) (stands f (t .fresh) (t .chip) (drop (t .next) (take (t .next) rest ++ q)))) h
+        ∙ ap (stands f (t .fresh) (t .chip)) (drop-at (take (t .next) rest) q (t .next) sized)
+
+    pub lent-next : Lent (before ++ take (t .next) rest) (t .fresh) (t .chip) (n + 1)
+    lent-next = record { leads = leads-on; few = simp length-append (omega (arith, g .few, sized, turn-past o c rest h)) }
+
+-- ── all of them ──
+plain-runs : (f : ℕ) (before : List ℕ) (o : Bool) (c : Chip) (n : ℕ) (rest : List ℕ) → Lent before o c n → plainRuns f before o (unrun c) rest ≡ runs f o c rest
+plain-runs zero before o c n rest g = refl
+plain-runs (suc f) before o c n [] g = refl
+plain-runs (suc f) before o c n (b ∷ r) g =
+    ap (λ (x : Turn). x .entry ∷ cond (x .last) [] (plainRuns f (before ++ take (x .next) (b ∷ r)) (x .fresh) (x .chip) (drop (x .next) (b ∷ r)))) (plain-turn before o c (b ∷ r) (lent-runs before o c n g))
+    ∙ ap (λ (l : List Entry). turnOf o c (b ∷ r) .entry ∷ l) (by (turnOf o c (b ∷ r) .last) (λ h. plain-runs f (before ++ take (turnOf o c (b ∷ r) .next) (b ∷ r)) (turnOf o c (b ∷ r) .fresh) (turnOf o c (b ∷ r) .chip) (n + 1) (drop (turnOf o c (b ∷ r) .next) (b ∷ r)) (lent-next before o c n g (b ∷ r) h)))
+  where
+    plainly : List Entry
+    plainly = plainRuns f (before ++ take (turnOf o c (b ∷ r) .next) (b ∷ r)) (turnOf o c (b ∷ r) .fresh) (unrun (turnOf o c (b ∷ r) .chip)) (drop (turnOf o c (b ∷ r) .next) (b ∷ r))
+
+    quickly : List Entry
+    quickly = runs f (turnOf o c (b ∷ r) .fresh) (turnOf o c (b ∷ r) .chip) (drop (turnOf o c (b ∷ r) .next) (b ∷ r))
+
+    by : (z : Bool) → (z ≡ false → plainly ≡ quickly) → cond z [] plainly ≡ cond z [] quickly
+    by true h = refl
+    by false h = h refl
+
+-- THE SAME ENTRIES, of every stream
+pub plain-entries : (s : List ℕ) → plainEntries s ≡ entries s
+unfolding plainEntries entries
+plain-entries s = plain-runs (length s) [] false none 0 s lent-none
+
+-- .. so each shows the SYS_STAT and the pins of the events heard so far, of which demand 3 says when a bit is up
+pub plain-shows : (s : List ℕ) (u : SetupValues) (next : ℕ) → readOf 0 s ≡ Record (Setup u) next → map shows (plainEntries s) ≡ map (λ past. toShow (chip u past)) (histories u next s)
+plain-shows s u next first = ap (map shows) (plain-entries s) ∙ entries-show s u next first
+
+-- .. so up to 65,536 bytes the call answers and writes what `toralinge_play` does
+pub plays : {s old new : List ℕ} {r : ℤ} → length s ≤ most → PlainPlayed s old r new → Played s old r new
+plays {s} {old} {new} {r} h p =
+    let l : leb (length s) most ≡ true = le-leb (length s) most h in
+    record {
+      answer = p .answer ∙ ap (λ (b : Bool). cond b (count (plainEntries s)) (negsuc 23)) l ∙ ap count (plain-entries s);
+      contents = p .contents ∙ ap (λ (b : Bool). cond (b && leb (5 * length (plainEntries s)) (length old)) (filled (plainEntries s)) old) l
+          ∙ ap (λ (es : List Entry). cond (leb (5 * length es) (length old)) (filled es) old) (plain-entries s);
+    }
+  where
+    count : List Entry → ℤ
+    count es = cond (leb (5 * length es) (length old)) (pos (length es)) (negsuc 4)
+
+    filled : List Entry → List ℕ
+    filled es = bytesOf es ++ drop (5 * length es) old
+
+-- and any two answers that its promise allows are the same
+pub same-plain : {s old new new′ : List ℕ} {r r′ : ℤ} → PlainPlayed s old r new → PlainPlayed s old r′ new′ → (r ≡ r′) × (new ≡ new′)
+same-plain p q = (p .answer ∙ sym (q .answer), p .contents ∙ sym (q .contents))

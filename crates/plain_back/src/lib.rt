@@ -1,0 +1,226 @@
+// Request M-112: what the records lent so far say of the four faults, found by walking them from the first on. Nothing is kept between two calls.
+ghost use mathlib.Core.Path.{_≡_};
+ghost use Prim.Native.Nat.{_≤_, _^_};
+ghost use lib.ListN.{length, take};
+ghost use Rattle.events.specs.Setup.{inputs};
+ghost use Rattle.chip.specs.Core.{coreOf, bare};
+ghost use Rattle.plain_back.specs.Said.{noStreaks, streaksIn, saidBack, backSaid};
+ghost use Rattle.plain_back.specs.Walk.{Small, goesOn, scanSaid, ticksSaid, scannedBy, tickedBy, movedBy, walkedBy, passedOn};
+use bus::Bus;
+use chip::Chip;
+use events::Counts;
+use events::Event;
+use records::Read;
+use registers::Registers;
+
+// For each fault, how many of the newest verdicts of this waking spell are true, up to the first that is not.
+pub struct Streaks {
+    pub ov: u64,
+    pub uv: u64,
+    pub scd: u64,
+    pub ocd: u64,
+}
+
+pub enum Back {
+    Is(Streaks),
+    // Number 24: more than 65,536 bytes.
+    TooLong,
+}
+
+// What is carried from record to record: a chip that has its mode, the bus's line and the settings alone, and what was said so far.
+pub struct Walk {
+    pub chip: Chip,
+    pub said: Streaks,
+}
+
+// A record passed, and the place after it; 0 for one that is cut short.
+pub struct Passed {
+    pub walk: Walk,
+    pub next: usize,
+}
+
+fn none_said() -> Streaks
+    ensures { λ r. ⌜ r ≡ noStreaks ⌝ }
+{
+    Streaks {
+        ov: 0,
+        uv: 0,
+        scd: 0,
+        ocd: 0,
+    }
+}
+
+// More verdicts that are all alike: a streak goes on by them, or is over.
+fn go_on(verdict: bool, more: u32, streak: u64) -> u64
+    requires { ⌜ streak ≤ 2 ^ 40 ⌝ }
+    ensures { λ r. ⌜ r ≡ goesOn verdict more streak ⌝ }
+{
+    if verdict { streak + more as u64 } else { 0 }
+}
+
+// A SCAN, by the settings that stand when it comes; in SHIP it says nothing.
+fn scan_said(chip: Chip, counts: [u16; 15], said: Streaks) -> Streaks
+    requires { ⌜ Small said ⌝ }
+    ensures { λ r. ⌜ r ≡ scanSaid chip (take (inputs (chip .setup)) counts) said ⌝ }
+{
+    if !chip.normal {
+        return said;
+    }
+    let setup = chip.setup;
+    let registers = chip.registers;
+    let s = registers.settings;
+    let over = protection::over_line(s);
+    let under = protection::under_line(s);
+    let looked = cell_counts::look(counts, setup.inputs(), over, setup.floor, under);
+    let ov = go_on(s.adc_en & looked.over, 1, said.ov);
+    let uv = go_on(s.adc_en & looked.under, 1, said.uv);
+    Streaks { ov, uv, ..said }
+}
+
+// That many ticks of one value.
+fn ticks_said(chip: Chip, value: i32, more: u32, said: Streaks) -> Streaks
+    requires { ⌜ Small said ⌝ }
+    ensures { λ r. ⌜ r ≡ ticksSaid chip value more said ⌝ }
+{
+    if !chip.normal {
+        return said;
+    }
+    let registers = chip.registers;
+    let s = registers.settings;
+    let scd = go_on(protection::beyond_scd(s, value), more, said.scd);
+    let ocd = go_on(protection::beyond_ocd(s, value), more, said.ocd);
+    Streaks { scd, ocd, ..said }
+}
+
+// The mode, the line and the settings of a chip, and nothing else of it.
+fn bared(chip: Chip) -> Chip
+    ensures { λ r. ⌜ r ≡ bare (chip .setup) (coreOf chip) ⌝ }
+{
+    let bus = chip.bus;
+    let line = bus.line;
+    let registers = chip.registers;
+    let settings = registers.settings;
+    let ship = chip::in_ship(chip.setup);
+    let numbered = ship.bus;
+    let reset = ship.registers;
+    let bus = Bus { line, ..numbered };
+    let registers = Registers { settings, ..reset };
+    Chip {
+        normal: chip.normal,
+        bus,
+        registers,
+        ..ship
+    }
+}
+
+fn scanned(walk: Walk, counts: Counts) -> Walk
+    requires { ⌜ Small (walk .said) ⌝ }
+    ensures { λ r. ⌜ r ≡ scannedBy counts walk ⌝ }
+{
+    let chip = walk.chip;
+    let of = counts.of;
+    let said = scan_said(chip, of, walk.said);
+    Walk { chip, said }
+}
+
+fn ticked(walk: Walk, value: i32, more: u32) -> Walk
+    requires { ⌜ Small (walk .said) ⌝ }
+    ensures { λ r. ⌜ r ≡ tickedBy value more walk ⌝ }
+{
+    let chip = walk.chip;
+    let said = ticks_said(chip, value, more, walk.said);
+    Walk { chip, said }
+}
+
+// Any other event moves the mode, the line and the settings, and says nothing; one that leaves the chip in SHIP ends the spell.
+fn moved(walk: Walk, event: Event, counts: Counts) -> Walk
+    ensures { λ r. ⌜ r ≡ movedBy event counts walk ⌝ }
+{
+    let chip = walk.chip;
+    let step = chip.step(event, counts);
+    let chip = bared(step.chip);
+    if chip.normal {
+        let said = walk.said;
+        return Walk { chip, said };
+    }
+    let said = none_said();
+    Walk { chip, said }
+}
+
+// A record that was read. A second SETUP is never read, and a wiring record moves none of this.
+fn walked(walk: Walk, event: Event, counts: Counts) -> Walk
+    requires { ⌜ Small (walk .said) ⌝ }
+    ensures { λ r. ⌜ r ≡ walkedBy event counts walk ⌝ }
+{
+    match event {
+        Event::Scan => scanned(walk, counts),
+        Event::Sense(value) => ticked(walk, value, 1),
+        Event::Ticks(value, repeat) => ticked(walk, value, repeat as u32),
+        Event::Soak(value, repeat) => ticked(walk, value, repeat),
+        Event::Setup(_) | Event::Wires(_) => walk,
+        Event::Por
+        | Event::Boot
+        | Event::Temp
+        | Event::Count(_)
+        | Event::Pin
+        | Event::Load(_)
+        | Event::Xready
+        | Event::OnBus(_)
+        | Event::Level(_) => moved(walk, event, counts),
+    }
+}
+
+// The record that the rest begins with; a refused one says nothing.
+fn pass(walk: Walk, rest: &[u8]) -> Passed
+    requires { ⌜ Small (walk .said) ⌝ }
+    ensures { λ r. ⌜ r ≡ passedOn (now (rest .entry)) walk ⌝ }
+{
+    let chip = walk.chip;
+    let setup = chip.setup;
+    match records::read_rest(rest, setup.part) {
+        Read::Cut => Passed { walk, next: 0 },
+        Read::Refused { number: _, next } => Passed { walk, next },
+        Read::Record { event, next } => {
+            let counts = records::counts_in(event, &rest[4..next]);
+            let walk = walked(walk, event, counts);
+            Passed { walk, next }
+        }
+    }
+}
+
+// The first record makes the chip, and the others are passed one by one.
+fn walk_over(s: &[u8]) -> Streaks
+    requires { ⌜ length (now s) ≤ 65536 ⌝ }
+    ensures { λ r. ⌜ r ≡ streaksIn (now (s .entry)) ⌝ }
+{
+    let first = records::read_rest(s, 0);
+    let Read::Record { event, next } = first else {
+        return none_said();
+    };
+    let Event::Setup(setup) = event else {
+        return none_said();
+    };
+    let chip = chip::in_ship(setup);
+    let said = none_said();
+    let mut walk = Walk { chip, said };
+    let mut at = next;
+    while at < s.len() {
+        let passed = pass(walk, &s[at..]);
+        if passed.next == 0 {
+            return walk.said;
+        }
+        walk = passed.walk;
+        at = at + passed.next;
+    }
+    walk.said
+}
+
+// What the records of these bytes say, at most 65,536 of them.
+pub fn look(s: &[u8]) -> Back
+    ensures { λ r. ⌜ saidBack r ≡ backSaid (now (s .entry)) ⌝ }
+{
+    if 65536 < s.len() {
+        return Back::TooLong;
+    }
+    Back::Is(walk_over(s))
+}

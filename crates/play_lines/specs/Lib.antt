@@ -1,0 +1,5 @@
+pub mod Line
+pub mod Text
+pub mod Decimal
+pub mod FewLaws
+pub mod WholeLaws

@@ -1,0 +1,88 @@
+-- What each look shows: SENSE's range by the sign, the loop over counts, and the number from the answers of the looks.
+-- Assumes nothing.
+use mathlib.Core.Path.{_≡_, refl, ap, sym, _∙_, subst}
+use Prim.Native.Nat.{ℕ, zero, suc, _+_, _<_, _≤_}
+use mathlib.Core.List.{List}
+use mathlib.Core.Bool.{Bool, true, false, not, cond, _&&_}
+use native.Mathlib.Omega.{arith}
+use native.Mathlib.Numerals.{add-one}
+use lib.Dec.{leb, ltb}
+use lib.IntN.{ℤ, pos, negsuc}
+use lib.Signed.{leZ}
+use lib.ListN.{length, getD, take, drop, length-take, drop-of-length-le}
+use lib.Seq.{drop-cons, getD-take}
+use mir.Syntax.{w32}
+use mir.Val.{toZ, ofZ, SFits}
+use mir.Facts.{toZ-ofZ}
+use borrow.Author.Tests.{le-leb, lt-leb, le-ltb, lt-ltb, leb-true, leb-false}
+use Rattle.events.specs.Event.{within, senseFits, countsWanted, countsFit, unfit, eventOf, meantOf}
+use Rattle.events.specs.declared.Setup.{Setup}
+use Rattle.events.specs.declared.Counts.{Counts}
+use Rattle.events.specs.declared.Event.{Event}
+use Rattle.ranges.specs.Refusal.{refusalOf}
+
+-- a test of order and the other's denial
+not-above : (a n : ℕ) (t : Bool) → leb n a ≡ t → t ≡ not (ltb a n)
+not-above a n true e = sym (ap not (le-ltb a n (leb-true n a e)))
+not-above a n false e = sym (ap not (lt-ltb a n (leb-false n a e)))
+
+and-true : (b : Bool) → b && true ≡ b
+and-true true = refl
+and-true false = refl
+
+below : (n : ℕ) (t : Bool) → leb n 499999 ≡ t → t ≡ not (ltb 500000 (suc n))
+below n true e = sym (ap not (le-ltb 500000 (suc n) (omega (arith, leb-true n 499999 e))))
+below n false e = sym (ap not (lt-ltb 500000 (suc n) (omega (arith, leb-false n 499999 e))))
+
+in-range : (v : ℤ) → leZ (negsuc 499999) v && leZ v (pos 500000) ≡ senseFits v
+in-range (pos zero) = refl
+in-range (pos (suc n)) = not-above 500000 (suc n) (leb (suc n) 500000) refl ∙ sym (and-true (not (ltb 500000 (suc n))))
+in-range (negsuc n) = and-true (leb n 499999) ∙ below n (leb n 499999) refl
+
+pub range-is : (v : ℤ) → SFits w32 v → leZ (negsuc 499999) (toZ w32 (ofZ w32 v)) && leZ (toZ w32 (ofZ w32 v)) (pos 500000) ≡ senseFits v
+range-is v f = ap (λ (z : ℤ). leZ (negsuc 499999) z && leZ z (pos 500000)) (toZ-ofZ f) ∙ in-range v
+
+-- a turn of the loop over counts: one above the most ends it, and another is passed
+pub fit-not : (most : ℕ) (cs : List ℕ) (i : ℕ) → i < length cs → most < getD cs i 0 → within most (drop i cs) ≡ false
+fit-not most cs i h g = rw (drop-cons cs i 0 h) (simp (lt-leb (getD cs i 0) most g))
+
+pub fit-next : (most : ℕ) (cs : List ℕ) (i : ℕ) → i < length cs → getD cs i 0 ≤ most → within most (drop (i + 1) cs) ≡ within most (drop i cs)
+fit-next most cs i h g = rw (add-one i, drop-cons cs i 0 h) (simp (le-leb (getD cs i 0) most g))
+
+-- and among the first n
+first-there : (n : ℕ) (cs : List ℕ) (i : ℕ) → i < n → i < length cs → i < length (take n cs)
+first-there n cs i k h = omega (arith, length-take n cs)
+
+pub first-not : (most n : ℕ) (cs : List ℕ) (i : ℕ) → i < n → i < length cs → most < getD cs i 0 → within most (drop i (take n cs)) ≡ false
+first-not most n cs i k h g = fit-not most (take n cs) i (first-there n cs i k h) (subst (λ (x : ℕ). most < x) (sym (getD-take n cs i 0 k)) g)
+
+pub first-next : (most n : ℕ) (cs : List ℕ) (i : ℕ) → i < n → i < length cs → getD cs i 0 ≤ most → within most (drop (i + 1) (take n cs)) ≡ within most (drop i (take n cs))
+first-next most n cs i k h g = fit-next most (take n cs) i (first-there n cs i k h) (subst (λ (x : ℕ). x ≤ most) (sym (getD-take n cs i 0 k)) g)
+
+pub first-all : (most n : ℕ) (cs : List ℕ) (i : ℕ) → n ≤ i → within most (drop i (take n cs)) ≡ true
+first-all most n cs i h = ap (within most) (drop-of-length-le (take n cs) {i = i} (omega (arith, length-take n cs)))
+
+pub first-end : (most n : ℕ) (cs : List ℕ) (i : ℕ) → length cs ≤ i → within most (drop i (take n cs)) ≡ true
+first-end most n cs i h = ap (within most) (drop-of-length-le (take n cs) {i = i} (omega (arith, length-take n cs)))
+
+-- what follows for an event from what follows for the one it was found to be
+pub at-event : (u : Setup) (xs : List ℕ) {r : ℕ} {e e′ : Event} → e ≡ e′ → r ≡ refusalOf (eventOf u e′ xs) → r ≡ refusalOf (eventOf u e xs)
+at-event u xs q p = p ∙ ap (λ (e : Event). refusalOf (eventOf u e xs)) (sym q)
+
+-- a test that is known, as the definition picks by it
+pub pick-true : {t u : Bool} → t ≡ u → t ≡ true → _≡_ {A = ℕ} 0 (cond u 0 3)
+pick-true e h = ap (λ (t : Bool). cond t 0 3) (sym h ∙ e)
+
+pub pick-false : {t u : Bool} → t ≡ u → t ≡ false → _≡_ {A = ℕ} 3 (cond u 0 3)
+pick-false e h = ap (λ (t : Bool). cond t 0 3) (sym h ∙ e)
+
+-- the number, by whether the counts fit
+meant-by : (u : Setup) (e : Event) (k : Counts) (t : Bool) → countsFit (countsWanted u e) k ≡ t → refusalOf (cond t (eventOf u e (k .of)) unfit) ≡ refusalOf (meantOf u e k)
+unfolding meantOf
+meant-by u e k t f = ap (λ (t : Bool). refusalOf (cond t (eventOf u e (k .of)) unfit)) (sym f)
+
+pub counts-good : {r : ℕ} (u : Setup) (e : Event) (k : Counts) → countsFit (countsWanted u e) k ≡ true → r ≡ refusalOf (eventOf u e (k .of)) → r ≡ refusalOf (meantOf u e k)
+counts-good u e k f h = h ∙ meant-by u e k true f
+
+pub counts-bad : (u : Setup) (e : Event) (k : Counts) → countsFit (countsWanted u e) k ≡ false → 2 ≡ refusalOf (meantOf u e k)
+counts-bad u e k f = meant-by u e k false f

@@ -1,0 +1,130 @@
+// The checks of an event made by hand, for the writer and the chip: counts that fit the part, and values in range.
+ghost use mathlib.Core.Path.{_≡_};
+ghost use lib.ListN.{take, drop};
+ghost use Rattle.events.specs.Event.{within, countMost, senseFits, ticksFit, countsWanted, countsFit, eventOf, meantOf};
+ghost use Rattle.ranges.specs.Refusal.{refusalOf};
+use events::Counts;
+use events::Event;
+use events::Setup;
+
+// Whether a SENSE value is in range.
+pub fn sense_fits(v: i32) -> bool
+    ensures { λ r. ⌜ r ≡ senseFits v ⌝ }
+{
+    (-500000 <= v) & (v <= 500000)
+}
+
+// Whether a tick's value is in range, and how often it is repeated, up to the most that its kind allows.
+pub fn ticks_fit(most: u32, value: i32, repeat: u32) -> bool
+    ensures { λ r. ⌜ r ≡ ticksFit most value repeat ⌝ }
+{
+    sense_fits(value) & (1 <= repeat) & (repeat <= most)
+}
+
+// Whether each count from a place on is at most a number.
+pub fn within_from(of: [u16; 15], from: usize, most: u16) -> bool
+    ensures { λ r. ⌜ r ≡ within most (drop from of) ⌝ }
+{
+    let mut i = from;
+    while i < 15 {
+        if most < of[i] {
+            return false;
+        }
+        i += 1;
+    }
+    true
+}
+
+// Whether each of the first `many` counts is in range.
+pub fn counts_in_range(of: [u16; 15], many: u8) -> bool
+    ensures { λ r. ⌜ r ≡ within countMost (take many of) ⌝ }
+{
+    let mut i = 0;
+    while i < 15 {
+        if many as usize <= i {
+            return true;
+        }
+        if 16383 < of[i] {
+            return false;
+        }
+        i += 1;
+    }
+    true
+}
+
+// How many counts stand beside an event.
+pub fn counts_wanted(setup: Setup, event: Event) -> u8
+    ensures { λ r. ⌜ r ≡ countsWanted setup event ⌝ }
+{
+    match event {
+        Event::Setup(_) => 0,
+        Event::Por => 0,
+        Event::Boot => 0,
+        Event::Scan => setup.inputs(),
+        Event::Temp => setup.groups(),
+        Event::Count(_) => 0,
+        Event::Sense(_) => 0,
+        Event::Pin => 0,
+        Event::Load(_) => 0,
+        Event::Xready => 0,
+        Event::OnBus(_) => 0,
+        Event::Level(_) => 0,
+        Event::Ticks(_, _) => 0,
+        Event::Soak(_, _) => 0,
+        Event::Wires(_) => 0,
+    }
+}
+
+// Whether there are as many counts as wanted, and 0 after them.
+pub fn counts_fit(wanted: u8, counts: Counts) -> bool
+    ensures { λ r. ⌜ r ≡ countsFit wanted counts ⌝ }
+{
+    let of = counts.of;
+    if counts.many != wanted {
+        return false;
+    }
+    within_from(of, wanted as usize, 0)
+}
+
+// The number of an event whose counts fit: 2 for SETUP and a wiring record, 3 for a value out of range, or 0.
+fn value_refusal(setup: Setup, event: Event, of: [u16; 15]) -> u8
+    ensures { λ r. ⌜ r ≡ refusalOf (eventOf setup event of) ⌝ }
+{
+    match event {
+        Event::Setup(_) => 2,
+        Event::Por => 0,
+        Event::Boot => 0,
+        Event::Scan => if counts_in_range(of, setup.inputs()) {
+            0
+        } else {
+            3
+        },
+        Event::Temp => if counts_in_range(of, setup.groups()) {
+            0
+        } else {
+            3
+        },
+        Event::Count(_) => 0,
+        Event::Sense(v) => if sense_fits(v) { 0 } else { 3 },
+        Event::Pin => 0,
+        Event::Load(_) => 0,
+        Event::Xready => 0,
+        Event::OnBus(_) => 0,
+        Event::Level(_) => 0,
+        Event::Ticks(v, n) => if ticks_fit(4096, v, n as u32) { 0 } else { 3 },
+        Event::Soak(v, n) => if ticks_fit(16777216, v, n) { 0 } else { 3 },
+        Event::Wires(_) => 2,
+    }
+}
+
+// The number that an event is refused with where a part stands, or 0: 2 before 3.
+pub fn refusal(setup: Setup, event: Event, counts: Counts) -> u8
+    ensures { λ r. ⌜ r ≡ refusalOf (meantOf setup event counts) ⌝ }
+{
+    let wanted = counts_wanted(setup, event);
+    if counts_fit(wanted, counts) {
+        let of = counts.of;
+        return value_refusal(setup, event, of);
+    }
+    2
+}

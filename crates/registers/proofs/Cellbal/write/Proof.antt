@@ -1,0 +1,31 @@
+-- `Balance::write` meets its contract: each test is the definition's.
+use Rattle.registers.specs.Write.{cellbalWith}
+use borrow.Author.Needs.{needs}
+use Rattle.registers.proofs.Cellbal.write.Statement.{statement}
+use Rattle.registers.proofs.Cellbal.write.Tie as tie
+
+returns : tie.Need-returns
+unfolding cellbalWith
+returns c = simp (rw (c .before .groups .ensures) at (c .if1 .taken))
+
+returns-2 : tie.Need-returns-2
+unfolding cellbalWith
+returns-2 c = simp (rw (c .before .before .groups .ensures) at (c .before .if1 .left), rw (c .before .before .groups .ensures) at (c .if2 .taken))
+
+returns-3 : tie.Need-returns-3
+unfolding cellbalWith
+returns-3 c = let g = c .before .before .before .groups .ensures in simp (rw g at (c .before .before .if1 .left), rw g at (c .before .if2 .left), rw g at (c .if3 .taken))
+
+returns-4 : tie.Need-returns-4
+unfolding cellbalWith
+returns-4 c = let g = c .before .before .before .groups .ensures in simp (rw g at (c .before .before .if1 .left), rw g at (c .before .if2 .left), rw g at (c .if3 .left))
+
+pub write-spec : {M : Type 1} → statement M
+write-spec =
+    tie.close
+    (tie.spec
+    (λ c κs. search needs)
+    returns
+    returns-2
+    returns-3
+    returns-4)

@@ -1,0 +1,4 @@
+pub mod Stored
+pub mod AskedLaws
+pub mod HeardLaws
+pub mod CodedLaws

@@ -1,0 +1,4 @@
+pub mod Scans
+pub mod SettledLaws
+pub mod Rows
+pub mod DoneLaws

@@ -1,0 +1,15 @@
+-- Field by field.
+use mathlib.Core.Path.{ap}
+use mathlib.Core.Bool.{not}
+use Prim.Native.Nat.{ℕ}
+use lib.Dec.{eqb}
+use lib.ListN.{getD}
+use borrow.Author.Needs.{needs}
+use Rattle.services_chip.proofs.pack_of.Statement.{statement}
+use Rattle.services_chip.proofs.pack_of.Tie as tie
+
+returns : tie.Need-returns
+returns c = simp (c .linked .ensures)
+
+pub pack-of-spec : {M : Type 1} → statement M
+pack-of-spec = tie.close (tie.spec (λ c κs. search needs) (λ c. search needs) returns)

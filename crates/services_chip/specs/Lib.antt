@@ -1,0 +1,4 @@
+pub mod Care
+pub mod TotalLaws
+pub mod SameLaws
+pub mod ConnectedLaws

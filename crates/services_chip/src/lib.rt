@@ -1,0 +1,74 @@
+// What workshops and chargers ask of a chip: which cells to bleed, and the Smart Battery words.
+ghost use mathlib.Core.Path.{_≡_};
+ghost use Rattle.smart_battery.specs.Words.{wordFor};
+ghost use Rattle.smart_battery.specs.Reply.{Replied};
+ghost use Rattle.services_chip.specs.Care.{saidProposal, proposalSaid, packOf as packSpec, linkedTotal};
+use bleed::Choice;
+use chip::Chip;
+use smart_battery::Pack;
+
+// The CELLBAL bytes, or the number that refuses them: 3, 4 or 10.
+pub enum Proposal {
+    Is(Choice),
+    No(u8),
+}
+
+// Which cells to bleed, by the counts now in the cell registers and a margin.
+pub fn bleeding(chip: Chip, margin: u32) -> Proposal
+    ensures { λ r. ⌜ saidProposal r ≡ proposalSaid margin chip ⌝ }
+{
+    if (1 <= margin) & (margin <= 16383) {
+        if chip.normal {
+            let registers = chip.registers;
+            let measured = registers.measured;
+            let cells = measured.cells;
+            let linked = chip.linked();
+            if linked == 0 {
+                return Proposal::No(10);
+            }
+            return Proposal::Is(bleed::propose(cells, linked, margin as u16));
+        }
+        return Proposal::No(4);
+    }
+    Proposal::No(3)
+}
+
+// What a reply is made of, but for the total.
+fn pack_of(chip: Chip) -> Pack
+    ensures { λ r. ⌜ r ≡ packSpec chip ⌝ }
+{
+    let registers = chip.registers;
+    let settings = registers.settings;
+    let measured = registers.measured;
+    let ts = measured.ts;
+    let linked = chip.linked();
+    Pack {
+        normal: chip.normal,
+        external: settings.temp_sel,
+        warmth: ts[0],
+        connected: linked != 0,
+        cc: measured.cc,
+    }
+}
+
+// The total of the connected cells in microvolts.
+fn total(chip: Chip) -> i64
+    ensures { λ r. ⌜ r ≡ linkedTotal chip ⌝ }
+{
+    let setup = chip.setup;
+    let registers = chip.registers;
+    let measured = registers.measured;
+    let cells = measured.cells;
+    let held = wiring::link(setup, cells);
+    let of = held.of;
+    let looked = cell_counts::look(of, held.many, 0, 0, 0);
+    season::microvolts(setup.gain_code, setup.offset, held.many as u32, looked.sum)
+}
+
+// The reply to a Smart Battery command, with the sense resistor in milliohms: low byte, high byte and the PEC. Answers 0, or with nothing written the number that refuses it.
+pub fn reply(chip: Chip, command: u8, milliohms: u32, out: &mut [u8]) -> u8
+    ensures { λ r. ⌜ Replied (wordFor (packSpec chip) (linkedTotal chip) command milliohms) command (now (out .entry)) r (now (out .exit)) ⌝ }
+{
+    let sum = total(chip);
+    smart_battery::reply(pack_of(chip), sum, command, milliohms, out)
+}

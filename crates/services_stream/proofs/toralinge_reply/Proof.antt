@@ -1,0 +1,26 @@
+-- By whether a chip stands, then as it replies.
+use borrow.Author.Needs.{needs}
+use Rattle.chip.specs.declared.Chip.{Chip}
+use Rattle.smart_battery.specs.Words.{wordFor}
+use Rattle.services_chip.specs.Care.{packOf, linkedTotal}
+use Rattle.services_stream.proofs.Standing.{none-said, some-said, replied-as, replied-refused}
+use Rattle.services_stream.proofs.toralinge_reply.Statement.{statement}
+use Rattle.services_stream.proofs.toralinge_reply.Tie as tie
+
+returns : tie.Need-returns
+returns c =
+    let k = c .before .before .before .before in
+    let a = k .before .before .before .args in
+    replied-refused (a .command) (a .reply .now) _ (none-said (a .stream .now) (k .last-chip .result) (k .last-chip .ensures) _ _ (c .before .if1 .taken) (c .first-number .ensures))
+
+returns-2 : tie.Need-returns-2
+returns-2 c =
+    let i = c .before .before .before .before in
+    let k = i .before .before .before in
+    let a = k .before .before .before .args in
+    replied-as (a .command) (a .reply .now) _ _
+    (some-said (a .stream .now) (k .last-chip .result) (k .last-chip .ensures) (λ (d : Chip). wordFor (packOf d) (linkedTotal d) (a .command) (a .milliohms)) (i .if1 .left)) (c .before .before .reply .ensures)
+
+pub toralinge-reply-spec : {M : Type 1} → statement M
+toralinge-reply-spec =
+    tie.close (tie.spec (λ c κs. search needs) (λ c κs. search needs) returns (λ c κs. search needs) (λ c. search needs) returns-2)

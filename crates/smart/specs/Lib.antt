@@ -1,4 +1,0 @@
-pub mod Words
-pub mod Reply
-pub mod Laws
-pub mod Worked

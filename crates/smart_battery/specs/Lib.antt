@@ -1,0 +1,4 @@
+pub mod Words
+pub mod Reply
+pub mod Laws
+pub mod WorkedLaws

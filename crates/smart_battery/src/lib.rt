@@ -1,0 +1,138 @@
+// Smart Battery words: the replies that a charger is given to Temperature(), Voltage() and Current().
+ghost use mathlib.Core.Path.{_≡_};
+ghost use Prim.Native.Nat.{_<_, _≤_};
+ghost use Rattle.values.specs.Values.{gives};
+ghost use Rattle.smart_battery.specs.Words.{saidWord, unsignedSaid, signedSaid, kelvins, millivolts, milliamps, askedFor, wordFor};
+ghost use Rattle.smart_battery.specs.Reply.{pecOf, Replied};
+
+// A word, or the number that refuses it.
+pub enum Word {
+    Is(u16),
+    No(u8),
+}
+
+// What a reply is made of: TEMP_SEL and the count of TS1, whether a cell is connected, and the coulomb counter's reading.
+pub struct Pack {
+    pub normal: bool,
+    pub external: bool,
+    pub warmth: u16,
+    pub connected: bool,
+    pub cc: u16,
+}
+
+// Temperature() in tenths of a kelvin: a die value that comes to less than 0 has none.
+fn temperature(count: u16) -> Word
+    ensures { λ r. ⌜ saidWord r ≡ unsignedSaid (kelvins count) ⌝ }
+{
+    let down = 177 * (count as u32);
+    if 1226300 < down {
+        return Word::No(11);
+    }
+    Word::Is(((1226300 - down) / 200) as u16)
+}
+
+// Voltage() in mV.
+fn voltage(total: i64) -> Word
+    ensures { λ r. ⌜ saidWord r ≡ unsignedSaid (millivolts total) ⌝ }
+{
+    if total < 0 {
+        return Word::No(11);
+    }
+    let mv = (total as u64) / 1000;
+    if 65535 < mv {
+        return Word::No(11);
+    }
+    Word::Is(mv as u16)
+}
+
+// Current() in mA, the word of a signed number.
+fn current(cc: u16, milliohms: u32) -> Word
+    requires { ⌜ (0 < milliohms) × (milliohms ≤ 100) ⌝ }
+    ensures { λ r. ⌜ saidWord r ≡ signedSaid (milliamps cc milliohms) ⌝ }
+{
+    if cc < 32768 {
+        let ma = 844 * (cc as u32) / (100 * milliohms);
+        if 32767 < ma {
+            return Word::No(11);
+        }
+        return Word::Is(ma as u16);
+    }
+    let ma = 844 * (65536 - (cc as u32)) / (100 * milliohms);
+    if 32768 < ma {
+        return Word::No(11);
+    }
+    Word::Is(((65536 - ma) % 65536) as u16)
+}
+
+// The word of a command that is known, of a pack that is awake.
+fn asked(pack: Pack, total: i64, command: u8, milliohms: u32) -> Word
+    requires { ⌜ (0 < milliohms) × (milliohms ≤ 100) ⌝ }
+    ensures { λ r. ⌜ saidWord r ≡ askedFor pack total command milliohms ⌝ }
+{
+    if command == 0x08 {
+        if pack.external {
+            return Word::No(12);
+        }
+        return temperature(pack.warmth);
+    }
+    if command == 0x09 {
+        if pack.connected {
+            return voltage(total);
+        }
+        return Word::No(10);
+    }
+    current(pack.cc, milliohms)
+}
+
+// The word of a command, or the number that refuses it.
+pub fn word_for(pack: Pack, total: i64, command: u8, milliohms: u32) -> Word
+    ensures { λ r. ⌜ saidWord r ≡ wordFor pack total command milliohms ⌝ }
+{
+    if (command == 0x08) | (command == 0x09) | (command == 0x0A) {
+        if (1 <= milliohms) & (milliohms <= 100) {
+            if pack.normal {
+                return asked(pack, total, command, milliohms);
+            }
+            return Word::No(4);
+        }
+        return Word::No(3);
+    }
+    Word::No(23)
+}
+
+// The packet error code of a reply: over the address written, the command, the address read and both data bytes.
+fn pec_of(command: u8, low: u8, high: u8) -> u8
+    ensures { λ r. ⌜ r ≡ pecOf command low high ⌝ }
+{
+    let to = crc8::crc_byte(0, 0x16);
+    let asked = crc8::crc_byte(to, command);
+    let from = crc8::crc_byte(asked, 0x17);
+    let first = crc8::crc_byte(from, low);
+    crc8::crc_byte(first, high)
+}
+
+// The reply written, where it fits: low byte, high byte and the packet error code.
+fn put_reply(out: &mut [u8], command: u8, word: u16) -> u8
+    ensures { λ r. ⌜ Replied (gives word) command (now (out .entry)) r (now (out .exit)) ⌝ }
+{
+    if out.len() < 3 {
+        return 5;
+    }
+    let low = (word % 256) as u8;
+    let high = (word / 256) as u8;
+    out[0] = low;
+    out[1] = high;
+    out[2] = pec_of(command, low, high);
+    0
+}
+
+// The reply to a command. Answers 0, or with nothing written the number that refuses it.
+pub fn reply(pack: Pack, total: i64, command: u8, milliohms: u32, out: &mut [u8]) -> u8
+    ensures { λ r. ⌜ Replied (wordFor pack total command milliohms) command (now (out .entry)) r (now (out .exit)) ⌝ }
+{
+    let said = word_for(pack, total, command, milliohms);
+    match said {
+        Word::No(number) => number,
+        Word::Is(word) => put_reply(out, command, word),
+    }
+}

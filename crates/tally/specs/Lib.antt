@@ -1,4 +1,0 @@
-pub mod Scans
-pub mod Settled
-pub mod Rows
-pub mod Done

@@ -1,0 +1,105 @@
+// A record on a chip, as one call: plain on purpose, where `stream` is quick.
+ghost use mathlib.Core.Path.{_≡_};
+ghost use Rattle.stream.specs.Stream.{entryOf, acted, turn as turnSpec, turnOf, noted};
+ghost use Rattle.turn.specs.TurnedLaws.{asTurn};
+use chip::Chip;
+use chip::Stepped;
+use events::Counts;
+use events::Event;
+use records::Read;
+use stream::Entry;
+
+// What a record made of a chip: the next chip, whether a wiring record may follow, the entry, the place after the record, and whether it is the last.
+pub struct Turned {
+    pub chip: Chip,
+    pub fresh: bool,
+    pub entry: Entry,
+    pub next: usize,
+    pub last: bool,
+}
+
+fn entry_of(s: Stepped) -> Entry
+    ensures { λ r. ⌜ r ≡ entryOf s ⌝ }
+{
+    let chip = s.chip;
+    let flag = bits::weigh(s.flag, 1);
+    let stat = chip.status();
+    let pins = chip.pins();
+    Entry {
+        number: s.number,
+        flag,
+        byte: s.byte,
+        stat,
+        pins,
+    }
+}
+
+// A record that was read, done: SETUP makes the chip, a wiring record makes it anew, every other event happens to it.
+fn act(chip: Chip, fresh: bool, event: Event, counts: Counts) -> Stepped
+    ensures { λ r. ⌜ r ≡ acted fresh event counts chip ⌝ }
+{
+    match event {
+        Event::Setup(setup) => stream::born(setup),
+        Event::Wires(cells) => stream::rewired(chip, fresh, cells),
+        Event::Por
+        | Event::Boot
+        | Event::Scan
+        | Event::Temp
+        | Event::Count(_)
+        | Event::Sense(_)
+        | Event::Pin
+        | Event::Load(_)
+        | Event::Xready
+        | Event::OnBus(_)
+        | Event::Level(_)
+        | Event::Ticks(_, _)
+        | Event::Soak(_, _) => chip.step(event, counts),
+    }
+}
+
+fn told(step: Stepped, fresh: bool, next: usize, last: bool) -> Turned
+    ensures { λ r. ⌜ asTurn r ≡ turnSpec step fresh next last ⌝ }
+{
+    let chip = step.chip;
+    let entry = entry_of(step);
+    Turned {
+        chip,
+        fresh,
+        entry,
+        next,
+        last,
+    }
+}
+
+// The record that the rest of a stream begins with, done to the chip that stands: part 0 where none does yet. `fresh`: a wiring record is taken.
+pub fn turn(chip: Chip, fresh: bool, rest: &[u8]) -> Turned
+    ensures { λ r. ⌜ asTurn r ≡ turnOf fresh chip (now (rest .entry)) ⌝ }
+{
+    let setup = chip.setup;
+    match records::read_rest(rest, setup.part) {
+        Read::Cut => told(stream::numbered(9, chip), fresh, 0, true),
+        Read::Refused { number, next } => {
+            told(stream::numbered(number, chip), fresh, next, setup.part == 0)
+        }
+        Read::Record { event, next } => {
+            let counts = records::counts_in(event, &rest[4..next]);
+            let step = act(chip, fresh, event, counts);
+            let stays = (setup.part == 0) | (fresh & (step.number != 0));
+            told(step, stays, next, false)
+        }
+    }
+}
+
+// An entry put at its place in a buffer, where it fits.
+pub fn put(out: &mut [u8], n: usize, e: Entry)
+    ensures { λ _. ⌜ now (out .exit) ≡ noted (now (out .entry)) n e ⌝ }
+{
+    if n < out.len() / 5 {
+        let at = 5 * n;
+        out[at] = e.number;
+        out[at + 1] = e.flag;
+        out[at + 2] = e.byte;
+        out[at + 3] = e.stat;
+        out[at + 4] = e.pins;
+    }
+}
