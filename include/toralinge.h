@@ -3,8 +3,9 @@
  *
  * Link with target/libtoralinge.a, for x86-64 Linux; `./library` proves every call and writes it. A
  * program that wants less links with single ones, in any number: `rt staticlib NAME` writes
- * target/staticlib/libNAME.a, where NAME is lists for toralinge_list, asks for toralinge_bleed and
- * toralinge_reply, tally for toralinge_season, plain for toralinge_plain, and stream for all other calls.
+ * target/staticlib/libNAME.a, where NAME is i2c_lists for toralinge_list, services_stream for
+ * toralinge_bleed and toralinge_reply, season_stream for toralinge_season, plain for toralinge_plain, and
+ * stream for all other calls.
  *
  * "Document 01" is the paper that gives the rules; requests of document 02 have added to it and changed
  * some (docs/landings). Every call here answers for every value of its arguments, and is proved to

@@ -1,8 +1,9 @@
--- Document 01, "Bus". It knows no register: OUT gives the acknowledgement and at most one accepted store, IN asks for a register and is told it.
--- `Line` moves by the host's bytes alone. What depends on what a register held stands apart, in `Owed`. Assumes nothing.
+-- Document 01, "Bus". It knows no register: OUT gives the acknowledgement and at most one accepted store, IN asks for a register and is
+-- told it. `Line` moves by the host's bytes alone. What depends on what a register held stands apart, in `Owed`. Assumes nothing.
 use mathlib.Core.Bool.{Bool, true, false, not, _&&_, cond}
 use Prim.Native.Nat.{ℕ, _+_, _*_, _/_, _%_}
 use lib.Dec.{eqb, leb}
+use Rattle.constants.specs.Address.{VC1, CC}
 use Rattle.crc8.specs.Crc.{byteOn}
 use Rattle.events.specs.declared.Setup.{Setup}
 use Rattle.bus.specs.declared.Phase.{Phase}
@@ -78,7 +79,7 @@ outed u l b = outIn u (l .phase) (l .pointer) b
 
 -- ── IN: data, then (CRC on) its CRC, alternately; `nack`: the host does not acknowledge ──
 abbrev pub isHigh : ℕ → Bool
-isHigh a = eqb (a % 2) 0 && leb 0x0C a && leb a 0x32
+isHigh a = eqb (a % 2) 0 && leb VC1 a && leb a CC
 
 unfoldable pub afterData : Bool → ℕ → Bool → Phase
 afterData crc a nack = cond nack Idle (cond crc (Summing (isHigh a)) (Reading 0 (isHigh a)))

@@ -1,8 +1,16 @@
 // The bus as a value: what START, OUT, IN and STOP do to it. It knows no register.
 ghost use mathlib.Core.Path.{_≡_};
 ghost use Rattle.bus.specs.Bus.{lineOf, idleBus, grown as grownSpec, goes as goesSpec, refuses as refusesSpec, stores as storesSpec, isHigh, started, stopped, addressed, fed, checked, outed, afterData, afterSum, nextByte, keeps, wanted, takes, gives as givesSpec};
+use constants::address;
 use crc8::crc_byte;
 use events::Setup;
+
+// What OUT gives back, and what IN gives where nothing is read.
+pub const ACKNOWLEDGED: u8 = 0;
+
+pub const NOT_ACKNOWLEDGED: u8 = 1;
+
+pub const NOTHING_READ: u8 = 0xFF;
 
 pub enum Phase {
     Idle,
@@ -43,7 +51,7 @@ pub enum Store {
     At(u8, u8),
 }
 
-// What OUT does: the line after it, the acknowledgement and the byte that says it (0, or 1 for none), and at most one accepted store.
+// What OUT does: the line after it, the acknowledgement and the byte that says it, and at most one accepted store.
 pub struct Outed {
     pub line: Line,
     pub acked: bool,
@@ -78,7 +86,7 @@ fn goes(phase: Phase, pointer: u8) -> Outed
     Outed {
         line,
         acked: true,
-        byte: 0,
+        byte: ACKNOWLEDGED,
         store,
     }
 }
@@ -92,7 +100,7 @@ fn refuses(pointer: u8) -> Outed
     Outed {
         line,
         acked: false,
-        byte: 1,
+        byte: NOT_ACKNOWLEDGED,
         store,
     }
 }
@@ -110,7 +118,7 @@ fn stores(pointer: u8, value: u8) -> Outed
     Outed {
         line,
         acked: true,
-        byte: 0,
+        byte: ACKNOWLEDGED,
         store,
     }
 }
@@ -184,7 +192,7 @@ impl Line {
 fn is_high(at: u8) -> bool
     ensures { λ r. ⌜ r ≡ isHigh at ⌝ }
 {
-    (at % 2 == 0) & (0x0C <= at) & (at <= 0x32)
+    (at % 2 == 0) & (address::VC1 <= at) & (at <= address::CC)
 }
 
 // After a data byte given.
@@ -271,11 +279,11 @@ impl Bus {
                 next_byte(kept, owed.low, here),
             ),
             Phase::Summing(kept) => gives(line_of(after_sum(kept, nack), at), owed, owed.sum),
-            Phase::Idle => gives(line, owed, 0xFF),
-            Phase::Address => gives(line, owed, 0xFF),
-            Phase::Pointing(_) => gives(line, owed, 0xFF),
-            Phase::Writing(_) => gives(line, owed, 0xFF),
-            Phase::Checking(_, _) => gives(line, owed, 0xFF),
+            Phase::Idle => gives(line, owed, NOTHING_READ),
+            Phase::Address => gives(line, owed, NOTHING_READ),
+            Phase::Pointing(_) => gives(line, owed, NOTHING_READ),
+            Phase::Writing(_) => gives(line, owed, NOTHING_READ),
+            Phase::Checking(_, _) => gives(line, owed, NOTHING_READ),
         }
     }
 }

@@ -12,7 +12,7 @@ use Rattle.bus.specs.declared.Phase.{Phase}
 use Rattle.bus.specs.declared.Phase.the-variants.{Idle, Address, Pointing, Writing, Checking, Reading, Summing}
 use Rattle.bus.specs.declared.Taken.{Taken}
 use Rattle.bus.specs.declared.Want.the-variants.{Register, Nothing as NoRegister}
-use Rattle.bus.specs.Bus.{isHigh, grown, keeps, inOwed, owing, taken, takenBy as givenOf, gives, wanted, takes}
+use Rattle.bus.specs.Bus.{isHigh, grown, keeps, inOwed, owing, taken, byteGiven as givenOf, gives, wanted, takes}
 use Rattle.bus.specs.Laws.{wants-nothing, wants-at}
 use Rattle.registers.specs.declared.Pair.{Pair}
 use Rattle.registers.specs.Read.{readAt, pairAt}

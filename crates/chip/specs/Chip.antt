@@ -4,12 +4,14 @@ use mathlib.Core.Bool.{Bool, true, false, cond}
 use mathlib.Core.List.{List, [], _∷_}
 use Prim.Native.Nat.{ℕ, zero, suc}
 use lib.IntN.{ℤ}
+use Rattle.constants.specs.Number.{DONE, «BAD_KIND», «BAD_VALUE», ASLEEP}
 use Rattle.events.specs.declared.Setup.{Setup}
 use Rattle.events.specs.declared.Counts.{Counts}
 use Rattle.events.specs.declared.BusEvent.{BusEvent}
 use Rattle.events.specs.declared.BusEvent.the-variants.{Start, Stop, Out, In}
 use Rattle.events.specs.declared.Event.{Event as Coded}
-use Rattle.events.specs.Event.{Event, Por, Boot, Pin, Xready, Scan, Temp, Count, Sense, Load, OnBus, Level, fits, ticksFit, Meant, means, ticks, unfit, eventOf, meantOf}
+use Rattle.events.specs.Event.{Event, Por, Boot, Pin, Xready, Scan, Temp, Count, Sense, Load, OnBus, Level, fits, ticksFit, Meant}
+use Rattle.events.specs.Event.{means, ticks, unfit, eventOf, meantOf}
 use Rattle.events.specs.Fault.{Fault}
 use Rattle.bus.specs.declared.Line.{Line}
 use Rattle.bus.specs.declared.Bus.{Bus}
@@ -60,7 +62,8 @@ inShip u = record { setup = u; normal = false; bus = idleBus; registers = reset;
 abbrev pub judged : Event → Chip → Chip
 judged e c =
     withRuns (counted (c .setup .floor) (c .registers .settings) (c .runs) e)
-    (withRegisters (withShown (raised (risen (c .setup .floor) (c .registers .settings) (c .runs) e) (c .registers .shown)) (c .registers)) c)
+    (withRegisters
+    (withShown (raised (risen (c .setup .floor) (c .registers .settings) (c .runs) e) (c .registers .shown)) (c .registers)) c)
 
 -- ── Bus: an accepted store; the byte that ships is acknowledged, then the bus is idle and the pointer 0 ──
 abbrev pub lineMoved : Line → Chip → Chip
@@ -93,12 +96,13 @@ abbrev pub fetched : Bool → Chip → Stepped
 fetched nack c = handed (takenBy nack c) c
 
 abbrev pub onBus : BusEvent → Chip → Stepped
-onBus Start c = numbered 0 (lineMoved (started (c .bus .line)) c)
-onBus Stop c = numbered 0 (lineMoved (stopped (c .bus .line)) c)
+onBus Start c = numbered DONE (lineMoved (started (c .bus .line)) c)
+onBus Stop c = numbered DONE (lineMoved (stopped (c .bus .line)) c)
 onBus (Out b) c = sent (outed (c .setup) (c .bus .line) b) c
 onBus (In nack) c = fetched nack c
 
--- ── document 02, M-103: after any event that leaves the chip in NORMAL and is not refused, if the outside level is 1 and SYS_STAT is 0, OVRD_ALERT
+-- ── document 02, M-103: after any event that leaves the chip in NORMAL and is not refused, if the outside level is 1 and SYS_STAT is 0,
+-- OVRD_ALERT
 -- rises and both drives go off. In SHIP the level is 0, so an event that enters SHIP is left as it is ──
 abbrev pub watched : Chip → Chip
 watched c = withRegisters (pulledByLevel (c .registers)) c
@@ -108,38 +112,38 @@ settled s = record { chip = watched (s .chip); number = s .number; flag = s .fla
 
 -- ── each event in NORMAL, before the level is looked at, and in SHIP ──
 abbrev pub normally : Event → Chip → Stepped
-normally Por c = numbered 0 (inShip (c .setup))
-normally Boot c = numbered 0 c
-normally Pin c = numbered 0 (withRegisters (pulled (c .registers)) c)
-normally Xready c = numbered 0 (withRegisters (unready (c .registers)) c)
-normally (Scan xs) c = numbered 0 (judged (Scan xs) (withRegisters (scanned xs (c .registers)) c))
-normally (Temp xs) c = numbered 0 (withRegisters (warmed xs (c .registers)) c)
-normally (Count n) c = numbered 0 (withRegisters (coulombs n (c .registers)) c)
-normally (Sense v) c = numbered 0 (judged (Sense v) c)
-normally (Load l) c = numbered 0 (withRegisters (withLoadLevel l (c .registers)) c)
+normally Por c = numbered DONE (inShip (c .setup))
+normally Boot c = numbered DONE c
+normally Pin c = numbered DONE (withRegisters (pulled (c .registers)) c)
+normally Xready c = numbered DONE (withRegisters (unready (c .registers)) c)
+normally (Scan xs) c = numbered DONE (judged (Scan xs) (withRegisters (scanned xs (c .registers)) c))
+normally (Temp xs) c = numbered DONE (withRegisters (warmed xs (c .registers)) c)
+normally (Count n) c = numbered DONE (withRegisters (coulombs n (c .registers)) c)
+normally (Sense v) c = numbered DONE (judged (Sense v) c)
+normally (Load l) c = numbered DONE (withRegisters (withLoadLevel l (c .registers)) c)
 normally (OnBus b) c = onBus b c
-normally (Level l) c = numbered 0 (withRegisters (withOutsideLevel l (c .registers)) c)
+normally (Level l) c = numbered DONE (withRegisters (withOutsideLevel l (c .registers)) c)
 
 -- bus events are no refusals: the bus stays idle, OUT is not acknowledged and IN gives 0xFF
 abbrev pub busAsleep : BusEvent → Chip → Stepped
-busAsleep Start c = numbered 0 c
-busAsleep Stop c = numbered 0 c
+busAsleep Start c = numbered DONE c
+busAsleep Stop c = numbered DONE c
 busAsleep (Out b) c = answered 1 c
 busAsleep (In nack) c = answered 0xFF c
 
 -- number 4: SCAN to XREADY, and the outside level
 abbrev pub asleep : Event → Chip → Stepped
-asleep Por c = numbered 0 (inShip (c .setup))
-asleep Boot c = numbered 0 (watched (withNormal true c))
-asleep Pin c = numbered 4 c
-asleep Xready c = numbered 4 c
-asleep (Scan xs) c = numbered 4 c
-asleep (Temp xs) c = numbered 4 c
-asleep (Count n) c = numbered 4 c
-asleep (Sense v) c = numbered 4 c
-asleep (Load l) c = numbered 4 c
+asleep Por c = numbered DONE (inShip (c .setup))
+asleep Boot c = numbered DONE (watched (withNormal true c))
+asleep Pin c = numbered ASLEEP c
+asleep Xready c = numbered ASLEEP c
+asleep (Scan xs) c = numbered ASLEEP c
+asleep (Temp xs) c = numbered ASLEEP c
+asleep (Count n) c = numbered ASLEEP c
+asleep (Sense v) c = numbered ASLEEP c
+asleep (Load l) c = numbered ASLEEP c
 asleep (OnBus b) c = busAsleep b c
-asleep (Level l) c = numbered 4 c
+asleep (Level l) c = numbered ASLEEP c
 
 -- an event whose values are in range
 unfoldable pub happened : Event → Chip → Stepped
@@ -147,7 +151,7 @@ happened e c = cond (c .normal) (settled (normally e c)) (asleep e c)
 
 -- 3 before 4
 unfoldable pub stepped : Event → Chip → Stepped
-stepped e c = cond (fits e) (happened e c) (numbered 3 c)
+stepped e c = cond (fits e) (happened e c) (numbered «BAD_VALUE» c)
 
 abbrev pub next : Event → Chip → Chip
 next e c = stepped e c .chip
@@ -158,13 +162,13 @@ ticking zero v c = c
 ticking (suc n) v c = happened (Sense v) (ticking n v c) .chip
 
 abbrev pub ticked : ℕ → ℤ → Chip → Stepped
-ticked n v c = cond (c .normal) (numbered 0 (ticking n v c)) (numbered 4 c)
+ticked n v c = cond (c .normal) (numbered DONE (ticking n v c)) (numbered ASLEEP c)
 
 -- ── the code's event and the counts beside it: 2 before 3 ──
 abbrev pub steppedAs : Meant → Chip → Stepped
 steppedAs (means e) c = stepped e c
-steppedAs (ticks most v n) c = cond (ticksFit most v n) (ticked n v c) (numbered 3 c)
-steppedAs unfit c = numbered 2 c
+steppedAs (ticks most v n) c = cond (ticksFit most v n) (ticked n v c) (numbered «BAD_VALUE» c)
+steppedAs unfit c = numbered «BAD_KIND» c
 
 abbrev pub steppedBy : Coded → Counts → Chip → Stepped
 steppedBy e k c = steppedAs (meantOf (c .setup) e k) c
@@ -172,7 +176,7 @@ steppedBy e k c = steppedAs (meantOf (c .setup) e k) c
 abbrev pub happenedAs : Meant → Chip → Stepped
 happenedAs (means e) c = happened e c
 happenedAs (ticks most v n) c = ticked n v c
-happenedAs unfit c = numbered 2 c
+happenedAs unfit c = numbered «BAD_KIND» c
 
 abbrev pub happenedBy : Coded → List ℕ → Chip → Stepped
 happenedBy e xs c = happenedAs (eventOf (c .setup) e xs) c

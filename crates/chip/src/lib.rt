@@ -16,6 +16,8 @@ use bus::Outed;
 use bus::Store;
 use bus::Taken;
 use bus::Want;
+use constants::number;
+use constants::range;
 use events::BusEvent;
 use events::Counts;
 use events::Event;
@@ -79,7 +81,7 @@ fn watched(mut chip: Chip) -> Chip
 fn done(chip: Chip) -> Stepped
     ensures { λ r. ⌜ r ≡ settled (numberedSpec 0 chip) ⌝ }
 {
-    numbered(0, watched(chip))
+    numbered(number::DONE, watched(chip))
 }
 
 // The answer of an OUT or IN that is done.
@@ -157,7 +159,7 @@ impl Chip {
     pub fn por(self) -> Stepped
         ensures { λ r. ⌜ r ≡ happened Por self ⌝ }
     {
-        numbered(0, in_ship(self.setup))
+        numbered(number::DONE, in_ship(self.setup))
     }
 
     pub fn boot(self) -> Stepped
@@ -198,10 +200,10 @@ impl Chip {
     {
         let setup = self.setup;
         if !ranges::counts_in_range(counts, setup.inputs()) {
-            return numbered(3, self);
+            return numbered(number::BAD_VALUE, self);
         }
         if !self.normal {
-            return numbered(4, self);
+            return numbered(number::ASLEEP, self);
         }
         done(self.scanned(counts))
     }
@@ -229,10 +231,10 @@ impl Chip {
         ensures { λ r. ⌜ r ≡ stepped (Sense value) self ⌝ }
     {
         if !ranges::sense_fits(value) {
-            return numbered(3, self);
+            return numbered(number::BAD_VALUE, self);
         }
         if !self.normal {
-            return numbered(4, self);
+            return numbered(number::ASLEEP, self);
         }
         let judged = self.sensed(value);
         let runs = judged.runs;
@@ -259,21 +261,21 @@ impl Chip {
         ensures { λ r. ⌜ r ≡ tickedSpec repeat value self ⌝ }
     {
         if !self.normal {
-            return numbered(4, self);
+            return numbered(number::ASLEEP, self);
         }
         if repeat == 0 {
-            return numbered(0, self);
+            return numbered(number::DONE, self);
         }
         let first = watched(self.judged_by(value, 1));
-        numbered(0, first.judged_by(value, repeat - 1))
+        numbered(number::DONE, first.judged_by(value, repeat - 1))
     }
 
     // 1 to 4,096 ticks of one value.
     pub fn ticks(self, value: i32, repeat: u16) -> Stepped
         ensures { λ r. ⌜ r ≡ steppedAs (ticksSpec ticksMost value repeat) self ⌝ }
     {
-        if !ranges::ticks_fit(4096, value, repeat as u32) {
-            return numbered(3, self);
+        if !ranges::ticks_fit(range::TICKS_MOST, value, repeat as u32) {
+            return numbered(number::BAD_VALUE, self);
         }
         self.ticked(value, repeat as u32)
     }
@@ -282,8 +284,8 @@ impl Chip {
     pub fn soak(self, value: i32, repeat: u32) -> Stepped
         ensures { λ r. ⌜ r ≡ steppedAs (ticksSpec soakMost value repeat) self ⌝ }
     {
-        if !ranges::ticks_fit(16777216, value, repeat) {
-            return numbered(3, self);
+        if !ranges::ticks_fit(range::SOAK_MOST, value, repeat) {
+            return numbered(number::BAD_VALUE, self);
         }
         self.ticked(value, repeat)
     }
@@ -304,10 +306,10 @@ impl Chip {
     {
         let setup = self.setup;
         if !ranges::counts_in_range(counts, setup.groups()) {
-            return numbered(3, self);
+            return numbered(number::BAD_VALUE, self);
         }
         if !self.normal {
-            return numbered(4, self);
+            return numbered(number::ASLEEP, self);
         }
         done(self.warmed(counts))
     }
@@ -316,7 +318,7 @@ impl Chip {
         ensures { λ r. ⌜ r ≡ happened (Count cc) self ⌝ }
     {
         if !self.normal {
-            return numbered(4, self);
+            return numbered(number::ASLEEP, self);
         }
         let registers = self.registers;
         let registers = registers.coulombs(cc);
@@ -327,7 +329,7 @@ impl Chip {
         ensures { λ r. ⌜ r ≡ happened Pin self ⌝ }
     {
         if !self.normal {
-            return numbered(4, self);
+            return numbered(number::ASLEEP, self);
         }
         let registers = self.registers;
         let registers = registers.pulled();
@@ -338,7 +340,7 @@ impl Chip {
         ensures { λ r. ⌜ r ≡ happened (Load level) self ⌝ }
     {
         if !self.normal {
-            return numbered(4, self);
+            return numbered(number::ASLEEP, self);
         }
         let registers = self.registers;
         let registers = registers.loaded(level);
@@ -349,7 +351,7 @@ impl Chip {
         ensures { λ r. ⌜ r ≡ happened (Level level) self ⌝ }
     {
         if !self.normal {
-            return numbered(4, self);
+            return numbered(number::ASLEEP, self);
         }
         let registers = self.registers;
         let registers = registers.leveled(level);
@@ -360,7 +362,7 @@ impl Chip {
         ensures { λ r. ⌜ r ≡ happened Xready self ⌝ }
     {
         if !self.normal {
-            return numbered(4, self);
+            return numbered(number::ASLEEP, self);
         }
         let registers = self.registers;
         let registers = registers.unready();
@@ -413,10 +415,10 @@ impl Chip {
         ensures { λ r. ⌜ r ≡ busAsleep event self ⌝ }
     {
         match event {
-            BusEvent::Start => numbered(0, self),
-            BusEvent::Out(_) => answered(1, self),
-            BusEvent::In(_) => answered(0xFF, self),
-            BusEvent::Stop => numbered(0, self),
+            BusEvent::Start => numbered(number::DONE, self),
+            BusEvent::Out(_) => answered(bus::NOT_ACKNOWLEDGED, self),
+            BusEvent::In(_) => answered(bus::NOTHING_READ, self),
+            BusEvent::Stop => numbered(number::DONE, self),
         }
     }
 
@@ -489,7 +491,7 @@ impl Chip {
         ensures { λ r. ⌜ r ≡ steppedAs (eventOf (self .setup) event counts) self ⌝ }
     {
         match event {
-            Event::Setup(_) => numbered(2, self),
+            Event::Setup(_) => numbered(number::BAD_KIND, self),
             Event::Por => self.por(),
             Event::Boot => self.boot(),
             Event::Scan => self.scan(counts),
@@ -503,7 +505,7 @@ impl Chip {
             Event::Level(level) => self.level(level),
             Event::Ticks(value, repeat) => self.ticks(value, repeat),
             Event::Soak(value, repeat) => self.soak(value, repeat),
-            Event::Wires(_) => numbered(2, self),
+            Event::Wires(_) => numbered(number::BAD_KIND, self),
         }
     }
 
@@ -513,7 +515,7 @@ impl Chip {
     {
         let wanted = ranges::counts_wanted(self.setup, event);
         if !ranges::counts_fit(wanted, counts) {
-            return numbered(2, self);
+            return numbered(number::BAD_KIND, self);
         }
         let of = counts.of;
         self.happen(event, of)

@@ -4,6 +4,7 @@ ghost use Rattle.registers.specs.Read.{statusByte};
 ghost use Rattle.wiring.specs.Rows.{linkedBits};
 ghost use Rattle.chip.specs.Outward.{pinsOf, saidCell, voltageSaid, Forecasts};
 use crate::Chip;
+use constants::weight;
 use values::Microvolts;
 use values::RawCount;
 use values::Reading;
@@ -44,9 +45,9 @@ impl Chip {
         let registers = self.registers;
         let shown = registers.shown;
         let status = shown.status;
-        bits::weigh(status.alert(), 4)
-            + bits::weigh(shown.chg_on, 2)
-            + bits::weigh(shown.dsg_on, 1)
+        bits::weigh(status.alert(), weight::PIN_ALERT)
+            + bits::weigh(shown.chg_on, weight::PIN_CHG)
+            + bits::weigh(shown.dsg_on, weight::PIN_DSG)
     }
 
     // The voltage of a cell of the pack, 1 to as many as it has: as the part has inputs where there is no wiring record.

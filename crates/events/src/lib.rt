@@ -1,6 +1,7 @@
 // What the chip is set up with, and what can happen to it.
 ghost use mathlib.Core.Path.{_≡_};
 ghost use Rattle.events.specs.Setup.{setupOf, checkedOf, inputs as inputsSpec, groups as groupsSpec};
+use constants::range;
 
 pub struct Setup {
     pub part: u8,
@@ -69,12 +70,12 @@ pub fn setup_of(part: u8, crc: u8, address: u8, gain: u8, offset: u8, floor: u16
     ensures { λ r. ⌜ r ≡ checkedOf part crc address gain offset floor ⌝ }
 {
     let good = (1 <= part)
-        & (part <= 3)
+        & (part <= range::PART_MOST)
         & (crc <= 1)
-        & (0x08 <= address)
-        & (address <= 0x77)
-        & (gain <= 31)
-        & (floor <= 4095);
+        & (range::ADDRESS_LEAST <= address)
+        & (address <= range::ADDRESS_MOST)
+        & (gain <= range::GAIN_CODE_MOST)
+        & (floor <= range::FLOOR_MOST);
     if good {
         return Checked::Good(Setup {
             part,

@@ -10,6 +10,8 @@ ghost use Rattle.i2c_lists.specs.Judging.{fresh, begun, followed, judged
 ghost use Rattle.i2c_lists.specs.Records.{near, taken, recordsOf, numberFor, Taken};
 ghost use Rattle.i2c_lists.specs.WordingLaws.{onWord, onWords, nearWord};
 ghost use Rattle.i2c_lists.specs.Putting.{Puts};
+use constants::number;
+use constants::range;
 use events::BusEvent;
 use events::Event;
 use i2c_words::Word;
@@ -28,7 +30,7 @@ struct Judged {
 fn away(address: u8) -> bool
     ensures { λ r. ⌜ r ≡ not (near address) ⌝ }
 {
-    !((0x08 <= address) & (address <= 0x77))
+    !((range::ADDRESS_LEAST <= address) & (address <= range::ADDRESS_MOST))
 }
 
 // What is left of room, or 0.
@@ -98,16 +100,16 @@ fn number(j: Judged) -> u8
     ensures { λ r. ⌜ r ≡ numberIn j ⌝ }
 {
     if j.wrong {
-        return 20;
+        return number::NO_LIST;
     }
     if j.owed != 0 {
-        return 20;
+        return number::NO_LIST;
     }
     if j.far {
-        return 21;
+        return number::BAD_ADDRESS;
     }
     if j.left <= 4 {
-        return 5;
+        return number::NO_ROOM;
     }
     0
 }

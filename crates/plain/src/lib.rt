@@ -7,10 +7,11 @@ ghost use Rattle.protection.specs.Fault.{noRuns};
 ghost use Rattle.chip.specs.Chip.{withRuns};
 ghost use Rattle.turn.specs.TurnedLaws.{asTurn};
 ghost use Rattle.plain.specs.Plain.{isJudging, asks, runsFrom, lent, plainTurn, Noted, PlainPlayed};
+use chip::Chip;
+use constants::range;
+use events::Event;
 use plain_back::Back;
 use plain_back::Streaks;
-use chip::Chip;
-use events::Event;
 use protection::Runs;
 use records::Read;
 use turn::Turned;
@@ -62,10 +63,10 @@ fn cut(longest: u16, streak: u64) -> u16
 fn runs_of(said: Streaks) -> Runs
     ensures { λ r. ⌜ r ≡ runsFrom said ⌝ }
 {
-    let ov = cut(32, said.ov);
-    let uv = cut(64, said.uv);
-    let scd = cut(13, said.scd);
-    let ocd = cut(40960, said.ocd);
+    let ov = cut(range::OV_LONGEST, said.ov);
+    let uv = cut(range::UV_LONGEST, said.uv);
+    let scd = cut(range::SCD_LONGEST, said.scd);
+    let ocd = cut(range::OCD_LONGEST, said.ocd);
     Runs { ov, uv, scd, ocd }
 }
 
@@ -134,7 +135,7 @@ fn run(s: &[u8], out: &mut [u8])
 pub extern "C" fn toralinge_plain(bytes: &[u8], entries: &mut [u8]) -> i64
     ensures { λ r. ⌜ PlainPlayed (now (bytes .entry)) (now (entries .entry)) r (now (entries .exit)) ⌝ }
 {
-    if 65536 < bytes.len() {
+    if range::STREAM_MOST < bytes.len() {
         return -24;
     }
     let n = stream::count(bytes);

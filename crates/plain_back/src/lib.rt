@@ -8,6 +8,7 @@ ghost use Rattle.plain_back.specs.Said.{noStreaks, streaksIn, saidBack, 
 ghost use Rattle.plain_back.specs.Walk.{Small, goesOn, scanSaid, ticksSaid, scannedBy, tickedBy, movedBy, walkedBy, passedOn};
 use bus::Bus;
 use chip::Chip;
+use constants::range;
 use events::Counts;
 use events::Event;
 use records::Read;
@@ -219,7 +220,7 @@ fn walk_over(s: &[u8]) -> Streaks
 pub fn look(s: &[u8]) -> Back
     ensures { λ r. ⌜ saidBack r ≡ backSaid (now (s .entry)) ⌝ }
 {
-    if 65536 < s.len() {
+    if range::STREAM_MOST < s.len() {
         return Back::TooLong;
     }
     Back::Is(walk_over(s))

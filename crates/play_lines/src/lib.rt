@@ -6,6 +6,7 @@ ghost use lib.ListN.{length};
 ghost use Rattle.stream.specs.Stream.{entries};
 ghost use Rattle.play_lines.specs.Line.{leading, decimal, hexGlyph, hexByte, kindText, busText, pinsText, recordText, answerText, stateText, lineOf, dash};
 ghost use Rattle.play_lines.specs.Text.{tooLong, linesFrom, textOf, mostText, Holds, entryIn, Puts, Written};
+use constants::range;
 use stream::Entry;
 
 // A byte at a place, where the buffer reaches it. Each `put_..` answers the place after what it put: a variable is named for what comes there.
@@ -215,7 +216,7 @@ fn write_lines(out: &mut [u8], input: &[u8], held: &[u8], n: usize) -> i64
 pub fn text(input: &[u8], out: &mut [u8]) -> i64
     ensures { λ r. ⌜ Written (textOf (now (input .entry))) (now (out .entry)) r (now (out .exit)) ⌝ }
 {
-    if 65536 < input.len() {
+    if range::STREAM_MOST < input.len() {
         return write_too_long(out);
     }
     let mut held = [0u8; 81920];

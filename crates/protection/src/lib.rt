@@ -10,6 +10,8 @@ ghost use Rattle.protection.specs.Rule.{ocdTicks, scdLimit, ocdLimit, ru
 ghost use Rattle.protection.specs.Judged.{scanJudged, tickJudged};
 ghost use Rattle.protection.specs.Repeat.{ticksJudged};
 ghost use Rattle.protection.specs.Sag.{sag};
+use constants::range;
+use constants::weight;
 use events::Faults;
 use settings::Settings;
 
@@ -56,6 +58,21 @@ const OCD_HIGH: [u32; 16] = [
     94000,
 ];
 
+// In counts: the lines of OV_TRIP and UV_TRIP at code 0, and what a code adds.
+const OV_START: u16 = 8200;
+
+const UV_START: u16 = 4096;
+
+const TRIP_STEP: u16 = 16;
+
+// The over-current ticks of codes 0 and 1.
+const OCD_TICKS_FIRST: u16 = 256;
+
+const OCD_TICKS_SECOND: u16 = 640;
+
+// With DELAY_DIS every delay is this long.
+const NO_DELAY: u16 = 1;
+
 // In scans, then in ticks.
 const OV_SCANS: [u16; 4] = [4, 8, 16, 32];
 
@@ -93,14 +110,14 @@ pub fn no_runs() -> Runs
 pub fn over_line(s: Settings) -> u16
     ensures { λ r. ⌜ r ≡ rule Ov s .limit ⌝ }
 {
-    8200 + 16 * s.ov_trip as u16
+    OV_START + TRIP_STEP * s.ov_trip as u16
 }
 
 // A count below this, and not below the floor, is under.
 pub fn under_line(s: Settings) -> u16
     ensures { λ r. ⌜ r ≡ rule Uv s .limit ⌝ }
 {
-    4096 + 16 * s.uv_trip as u16
+    UV_START + TRIP_STEP * s.uv_trip as u16
 }
 
 fn scd_limit(protect1: u8) -> u32
@@ -109,7 +126,7 @@ fn scd_limit(protect1: u8) -> u32
     let code = (protect1 % 8) as usize;
     let low = SCD_LOW[code];
     let high = SCD_HIGH[code];
-    if bits::bit(protect1, 128) {
+    if bits::bit(protect1, weight::RSNS) {
         high
     } else {
         low
@@ -122,7 +139,7 @@ fn ocd_limit(protect1: u8, protect2: u8) -> u32
     let code = (protect2 % 16) as usize;
     let low = OCD_LOW[code];
     let high = OCD_HIGH[code];
-    if bits::bit(protect1, 128) {
+    if bits::bit(protect1, weight::RSNS) {
         high
     } else {
         low
@@ -133,7 +150,7 @@ fn ov_scans(s: Settings) -> u16
     ensures { λ r. ⌜ r ≡ rule Ov s .need ⌝ }
 {
     if s.delay_dis {
-        return 1;
+        return NO_DELAY;
     }
     OV_SCANS[(s.protect3 / 16 % 4) as usize]
 }
@@ -142,7 +159,7 @@ fn uv_scans(s: Settings) -> u16
     ensures { λ r. ⌜ r ≡ rule Uv s .need ⌝ }
 {
     if s.delay_dis {
-        return 1;
+        return NO_DELAY;
     }
     UV_SCANS[(s.protect3 / 64 % 4) as usize]
 }
@@ -151,7 +168,7 @@ fn scd_ticks(s: Settings) -> u16
     ensures { λ r. ⌜ r ≡ rule Scd s .need ⌝ }
 {
     if s.delay_dis {
-        return 1;
+        return NO_DELAY;
     }
     SCD_TICKS[(s.protect1 / 8 % 4) as usize]
 }
@@ -162,16 +179,16 @@ fn ticks_at(code: u8) -> u16
     ensures { λ r. ⌜ r ≡ ocdTicks code ⌝ }
 {
     if code == 0 {
-        return 256;
+        return OCD_TICKS_FIRST;
     }
-    640 << (code - 1)
+    OCD_TICKS_SECOND << (code - 1)
 }
 
 fn ocd_ticks(s: Settings) -> u16
     ensures { λ r. ⌜ r ≡ rule Ocd s .need ⌝ }
 {
     if s.delay_dis {
-        return 1;
+        return NO_DELAY;
     }
     ticks_at(s.protect2 / 16 % 8)
 }
@@ -233,8 +250,8 @@ impl Runs {
     pub fn scanned(self, s: Settings, above: bool, between: bool) -> Judged
         ensures { λ r. ⌜ r ≡ scanJudged s above between self ⌝ }
     {
-        let ov = bumped(32, s.adc_en & above, self.ov);
-        let uv = bumped(64, s.adc_en & between, self.uv);
+        let ov = bumped(range::OV_LONGEST, s.adc_en & above, self.ov);
+        let uv = bumped(range::UV_LONGEST, s.adc_en & between, self.uv);
         let risen = Faults {
             ov: ov_scans(s) <= ov,
             uv: uv_scans(s) <= uv,
@@ -249,8 +266,8 @@ impl Runs {
     pub fn sensed(self, s: Settings, value: i32) -> Judged
         ensures { λ r. ⌜ r ≡ tickJudged s value self ⌝ }
     {
-        let scd = bumped(13, beyond_scd(s, value), self.scd);
-        let ocd = bumped(40960, beyond_ocd(s, value), self.ocd);
+        let scd = bumped(range::SCD_LONGEST, beyond_scd(s, value), self.scd);
+        let ocd = bumped(range::OCD_LONGEST, beyond_ocd(s, value), self.ocd);
         let risen = Faults {
             ov: false,
             uv: false,
@@ -264,8 +281,8 @@ impl Runs {
     pub fn ticked(self, s: Settings, value: i32, repeat: u32) -> Judged
         ensures { λ r. ⌜ r ≡ ticksJudged repeat s value self ⌝ }
     {
-        let scd = bumped_by(13, beyond_scd(s, value), self.scd, repeat);
-        let ocd = bumped_by(40960, beyond_ocd(s, value), self.ocd, repeat);
+        let scd = bumped_by(range::SCD_LONGEST, beyond_scd(s, value), self.scd, repeat);
+        let ocd = bumped_by(range::OCD_LONGEST, beyond_ocd(s, value), self.ocd, repeat);
         let some = 0 < repeat;
         let risen = Faults {
             ov: false,

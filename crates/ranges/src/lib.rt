@@ -3,6 +3,7 @@ ghost use mathlib.Core.Path.{_≡_};
 ghost use lib.ListN.{take, drop};
 ghost use Rattle.events.specs.Event.{within, countMost, senseFits, ticksFit, countsWanted, countsFit, eventOf, meantOf};
 ghost use Rattle.ranges.specs.Refusal.{refusalOf};
+use constants::range;
 use events::Counts;
 use events::Event;
 use events::Setup;
@@ -11,7 +12,7 @@ use events::Setup;
 pub fn sense_fits(v: i32) -> bool
     ensures { λ r. ⌜ r ≡ senseFits v ⌝ }
 {
-    (-500000 <= v) & (v <= 500000)
+    (range::SENSE_LEAST <= v) & (v <= range::SENSE_MOST)
 }
 
 // Whether a tick's value is in range, and how often it is repeated, up to the most that its kind allows.
@@ -44,7 +45,7 @@ pub fn counts_in_range(of: [u16; 15], many: u8) -> bool
         if many as usize <= i {
             return true;
         }
-        if 16383 < of[i] {
+        if range::COUNT_MOST < of[i] {
             return false;
         }
         i += 1;
@@ -111,8 +112,16 @@ fn value_refusal(setup: Setup, event: Event, of: [u16; 15]) -> u8
         Event::Xready => 0,
         Event::OnBus(_) => 0,
         Event::Level(_) => 0,
-        Event::Ticks(v, n) => if ticks_fit(4096, v, n as u32) { 0 } else { 3 },
-        Event::Soak(v, n) => if ticks_fit(16777216, v, n) { 0 } else { 3 },
+        Event::Ticks(v, n) => if ticks_fit(range::TICKS_MOST, v, n as u32) {
+            0
+        } else {
+            3
+        },
+        Event::Soak(v, n) => if ticks_fit(range::SOAK_MOST, v, n) {
+            0
+        } else {
+            3
+        },
         Event::Wires(_) => 2,
     }
 }

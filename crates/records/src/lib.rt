@@ -7,11 +7,19 @@ ghost use Rattle.events.specs.Event.{countMost, senseFits, ticksMost, soakMost,
 ghost use Rattle.records.specs.Numbers.{le16, le32, signed32, words, wordOr, filled};
 ghost use Rattle.records.specs.Frame.{frameOf, headerOf};
 ghost use Rattle.records.specs.Record.{senseOf, repeatOf, ticksOf, ticksIn, soakOf, soakIn, setupIn, bareIn, countedIn, countIn, senseIn, switchIn, loadOf, levelOf, inOf, outIn, wiresIn, groupsAt, inputsAt, laterOf, payloadOf, readOf, numberOf, noCounts, countsOf, countsIn, takenAt};
+use constants::kind;
+use constants::number;
+use constants::range;
 use events::BusEvent;
 use events::Checked;
 use events::Counts;
 use events::Event;
 use events::setup_of;
+
+// The values of SENSE as numbers of 32 bits without a sign: up to the most, and from the least on.
+const SENSE_MOST: u32 = range::SENSE_MOST as u32;
+
+const SENSE_LEAST: u32 = 4294967295 - SENSE_MOST + 1;
 
 // A payload's event, or the number it is refused with.
 pub enum Payload {
@@ -58,7 +66,7 @@ fn get32(b: &[u8], at: usize) -> u32
 fn near(u: u32) -> bool
     ensures { λ r. ⌜ r ≡ senseFits (signed32 u) ⌝ }
 {
-    (u <= 500000) | (4294467296 <= u)
+    (u <= SENSE_MOST) | (SENSE_LEAST <= u)
 }
 
 // Such a number, read with its sign.
@@ -66,7 +74,7 @@ fn signed(u: u32) -> i32
     requires { ⌜ senseFits (signed32 u) ≡ true ⌝ }
     ensures { λ r. ⌜ r ≡ signed32 u ⌝ }
 {
-    if u <= 500000 {
+    if u <= SENSE_MOST {
         return u as i32;
     }
     -((4294967295 - u + 1) as i32)
@@ -78,27 +86,27 @@ fn sense(u: u32) -> Payload
     if near(u) {
         return Payload::Whole(Event::Sense(signed(u)));
     }
-    Payload::Unfit(3)
+    Payload::Unfit(number::BAD_VALUE)
 }
 
 // The same, to be repeated 1 to 4,096 times.
 fn ticks(u: u32, n: u16) -> Payload
     ensures { λ r. ⌜ r ≡ repeatOf ticksOf ticksMost u n ⌝ }
 {
-    if near(u) & (1 <= n) & (n <= 4096) {
+    if near(u) & (1 <= n) & (n as u32 <= range::TICKS_MOST) {
         return Payload::Whole(Event::Ticks(signed(u), n));
     }
-    Payload::Unfit(3)
+    Payload::Unfit(number::BAD_VALUE)
 }
 
 // Or 1 to 16,777,216 times.
 fn soak(u: u32, n: u32) -> Payload
     ensures { λ r. ⌜ r ≡ repeatOf soakOf soakMost u n ⌝ }
 {
-    if near(u) & (1 <= n) & (n <= 16777216) {
+    if near(u) & (1 <= n) & (n <= range::SOAK_MOST) {
         return Payload::Whole(Event::Soak(signed(u), n));
     }
-    Payload::Unfit(3)
+    Payload::Unfit(number::BAD_VALUE)
 }
 
 // Whether each of a payload's numbers is a count.
@@ -108,7 +116,7 @@ fn all_counts(b: &[u8]) -> bool
     let n = b.len() / 2;
     let mut i = 0;
     while i < n {
-        if 16383 < get16(b, 2 * i) {
+        if range::COUNT_MOST < get16(b, 2 * i) {
             return false;
         }
         i += 1;
@@ -120,11 +128,11 @@ fn setup_in(b: &[u8]) -> Payload
     ensures { λ r. ⌜ r ≡ setupIn (now (b .entry)) ⌝ }
 {
     if b.len() != 7 {
-        return Payload::Unfit(2);
+        return Payload::Unfit(number::BAD_KIND);
     }
     match setup_of(b[0], b[1], b[2], b[3], b[4], get16(b, 5)) {
         Checked::Good(setup) => Payload::Whole(Event::Setup(setup)),
-        Checked::Bad => Payload::Unfit(1),
+        Checked::Bad => Payload::Unfit(number::BAD_SETUP),
     }
 }
 
@@ -135,7 +143,7 @@ fn bare_in(event: Event, b: &[u8]) -> Payload
     if b.len() == 0 {
         Payload::Whole(event)
     } else {
-        Payload::Unfit(2)
+        Payload::Unfit(number::BAD_KIND)
     }
 }
 
@@ -144,12 +152,12 @@ fn counted_in(event: Event, wanted: u8, b: &[u8]) -> Payload
     ensures { λ r. ⌜ r ≡ countedIn event wanted (now (b .entry)) ⌝ }
 {
     if b.len() != 2 * (wanted as usize) {
-        return Payload::Unfit(2);
+        return Payload::Unfit(number::BAD_KIND);
     }
     if all_counts(b) {
         Payload::Whole(event)
     } else {
-        Payload::Unfit(3)
+        Payload::Unfit(number::BAD_VALUE)
     }
 }
 
@@ -157,7 +165,7 @@ fn count_in(b: &[u8]) -> Payload
     ensures { λ r. ⌜ r ≡ countIn (now (b .entry)) ⌝ }
 {
     if b.len() != 2 {
-        return Payload::Unfit(2);
+        return Payload::Unfit(number::BAD_KIND);
     }
     Payload::Whole(Event::Count(get16(b, 0)))
 }
@@ -166,7 +174,7 @@ fn sense_in(b: &[u8]) -> Payload
     ensures { λ r. ⌜ r ≡ senseIn (now (b .entry)) ⌝ }
 {
     if b.len() != 4 {
-        return Payload::Unfit(2);
+        return Payload::Unfit(number::BAD_KIND);
     }
     sense(get32(b, 0))
 }
@@ -175,7 +183,7 @@ fn ticks_in(b: &[u8]) -> Payload
     ensures { λ r. ⌜ r ≡ ticksIn (now (b .entry)) ⌝ }
 {
     if b.len() != 6 {
-        return Payload::Unfit(2);
+        return Payload::Unfit(number::BAD_KIND);
     }
     ticks(get32(b, 0), get16(b, 4))
 }
@@ -184,7 +192,7 @@ fn soak_in(b: &[u8]) -> Payload
     ensures { λ r. ⌜ r ≡ soakIn (now (b .entry)) ⌝ }
 {
     if b.len() != 8 {
-        return Payload::Unfit(2);
+        return Payload::Unfit(number::BAD_KIND);
     }
     soak(get32(b, 0), get32(b, 4))
 }
@@ -193,12 +201,12 @@ fn load_in(b: &[u8]) -> Payload
     ensures { λ r. ⌜ r ≡ switchIn loadOf (now (b .entry)) ⌝ }
 {
     if b.len() != 1 {
-        return Payload::Unfit(2);
+        return Payload::Unfit(number::BAD_KIND);
     }
     if b[0] <= 1 {
         Payload::Whole(Event::Load(b[0] == 1))
     } else {
-        Payload::Unfit(3)
+        Payload::Unfit(number::BAD_VALUE)
     }
 }
 
@@ -206,12 +214,12 @@ fn level_in(b: &[u8]) -> Payload
     ensures { λ r. ⌜ r ≡ switchIn levelOf (now (b .entry)) ⌝ }
 {
     if b.len() != 1 {
-        return Payload::Unfit(2);
+        return Payload::Unfit(number::BAD_KIND);
     }
     if b[0] <= 1 {
         Payload::Whole(Event::Level(b[0] == 1))
     } else {
-        Payload::Unfit(3)
+        Payload::Unfit(number::BAD_VALUE)
     }
 }
 
@@ -219,12 +227,12 @@ fn host_in(b: &[u8]) -> Payload
     ensures { λ r. ⌜ r ≡ switchIn inOf (now (b .entry)) ⌝ }
 {
     if b.len() != 1 {
-        return Payload::Unfit(2);
+        return Payload::Unfit(number::BAD_KIND);
     }
     if b[0] <= 1 {
         Payload::Whole(Event::OnBus(BusEvent::In(b[0] == 1)))
     } else {
-        Payload::Unfit(3)
+        Payload::Unfit(number::BAD_VALUE)
     }
 }
 
@@ -232,7 +240,7 @@ fn host_out(b: &[u8]) -> Payload
     ensures { λ r. ⌜ r ≡ outIn (now (b .entry)) ⌝ }
 {
     if b.len() != 1 {
-        return Payload::Unfit(2);
+        return Payload::Unfit(number::BAD_KIND);
     }
     Payload::Whole(Event::OnBus(BusEvent::Out(b[0])))
 }
@@ -242,7 +250,7 @@ fn wires_in(b: &[u8]) -> Payload
     ensures { λ r. ⌜ r ≡ wiresIn (now (b .entry)) ⌝ }
 {
     if b.len() != 1 {
-        return Payload::Unfit(2);
+        return Payload::Unfit(number::BAD_KIND);
     }
     Payload::Whole(Event::Wires(b[0]))
 }
@@ -265,24 +273,24 @@ fn later_of(kind: u16, part: u8, b: &[u8]) -> Payload
     ensures { λ r. ⌜ r ≡ laterOf kind part (now (b .entry)) ⌝ }
 {
     match kind {
-        0x0001 => bare_in(Event::Por, b),
-        0x0002 => bare_in(Event::Boot, b),
-        0x0003 => counted_in(Event::Scan, inputs_at(part), b),
-        0x0004 => counted_in(Event::Temp, groups_at(part), b),
-        0x0005 => count_in(b),
-        0x0006 => sense_in(b),
-        0x0007 => bare_in(Event::Pin, b),
-        0x0008 => load_in(b),
-        0x0009 => bare_in(Event::Xready, b),
-        0x0010 => bare_in(Event::OnBus(BusEvent::Start), b),
-        0x0011 => host_out(b),
-        0x0012 => host_in(b),
-        0x0013 => bare_in(Event::OnBus(BusEvent::Stop), b),
-        0x0015 => level_in(b),
-        0x0014 => ticks_in(b),
-        0x0017 => soak_in(b),
-        0x0016 => wires_in(b),
-        _ => Payload::Unfit(2),
+        kind::POR => bare_in(Event::Por, b),
+        kind::BOOT => bare_in(Event::Boot, b),
+        kind::SCAN => counted_in(Event::Scan, inputs_at(part), b),
+        kind::TEMP => counted_in(Event::Temp, groups_at(part), b),
+        kind::COUNT => count_in(b),
+        kind::SENSE => sense_in(b),
+        kind::PIN => bare_in(Event::Pin, b),
+        kind::LOAD => load_in(b),
+        kind::XREADY => bare_in(Event::Xready, b),
+        kind::START => bare_in(Event::OnBus(BusEvent::Start), b),
+        kind::OUT => host_out(b),
+        kind::IN => host_in(b),
+        kind::STOP => bare_in(Event::OnBus(BusEvent::Stop), b),
+        kind::LEVEL => level_in(b),
+        kind::TICKS => ticks_in(b),
+        kind::SOAK => soak_in(b),
+        kind::WIRING => wires_in(b),
+        _ => Payload::Unfit(number::BAD_KIND),
     }
 }
 
@@ -293,10 +301,10 @@ pub fn payload_of(kind: u16, part: u8, b: &[u8]) -> Payload
     if part != 0 {
         return later_of(kind, part, b);
     }
-    if kind == 0 {
+    if kind == kind::SETUP {
         setup_in(b)
     } else {
-        Payload::Unfit(2)
+        Payload::Unfit(number::BAD_KIND)
     }
 }
 
@@ -450,10 +458,10 @@ pub fn first_number(s: &[u8]) -> u8
 {
     let framed = header_of(s);
     let Framed::Header { kind, next } = framed else {
-        return 9;
+        return number::CUT;
     };
-    if kind != 0 {
-        return 2;
+    if kind != kind::SETUP {
+        return number::BAD_KIND;
     }
     match setup_in(&s[4..next]) {
         Payload::Whole(_) => 0,

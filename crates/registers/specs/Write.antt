@@ -3,6 +3,8 @@
 use mathlib.Core.Bool.{Bool, not, _&&_, _||_, cond}
 use Prim.Native.Nat.{ℕ, _%_}
 use lib.Dec.{eqb, leb}
+use Rattle.constants.specs.Address.{«SYS_STAT», CELLBAL1, CELLBAL2, CELLBAL3, «SYS_CTRL2»}
+use Rattle.constants.specs.Weight.{«CC_READY», XREADY, «OVRD_ALERT», UV, OV, SCD, OCD, «CC_EN», «CC_ONESHOT», «DSG_ON», «CHG_ON»}
 use Rattle.events.specs.declared.Setup.{Setup}
 use Rattle.events.specs.Setup.{groups}
 use Rattle.bits.specs.Bit.{bit}
@@ -15,7 +17,16 @@ use Rattle.registers.specs.State.{withStatus}
 
 -- ── SYS_STAT: writing ones clears those bits ──
 abbrev pub statusOf : ℕ → Status
-statusOf v = record { «cc_ready» = bit v 128; xready = bit v 32; «ovrd_alert» = bit v 16; uv = bit v 8; ov = bit v 4; scd = bit v 2; ocd = bit v 1 }
+statusOf v =
+    record {
+      «cc_ready» = bit v «CC_READY»;
+      xready = bit v XREADY;
+      «ovrd_alert» = bit v «OVRD_ALERT»;
+      uv = bit v UV;
+      ov = bit v OV;
+      scd = bit v SCD;
+      ocd = bit v OCD;
+    }
 
 abbrev pub without : Status → Status → Status
 without ones t =
@@ -41,13 +52,13 @@ abbrev pub driven : ℕ → Shown → Shown
 driven v s =
     record {
       status = s .status;
-      «cc_oneshot» = bit v 32 && not (bit v 64) && not (s .status .«cc_ready»);
-      «dsg_on» = bit v 2 && not (holdsDsg (s .status));
-      «chg_on» = bit v 1 && not (holdsChg (s .status));
+      «cc_oneshot» = bit v «CC_ONESHOT» && not (bit v «CC_EN») && not (s .status .«cc_ready»);
+      «dsg_on» = bit v «DSG_ON» && not (holdsDsg (s .status));
+      «chg_on» = bit v «CHG_ON» && not (holdsChg (s .status));
     }
 
 unfoldable pub shownWith : ℕ → ℕ → Shown → Shown
-shownWith a v s = cond (eqb a 0x00) (withStatus (without (statusOf v) (s .status)) s) (cond (eqb a 0x05) (driven v s) s)
+shownWith a v s = cond (eqb a «SYS_STAT») (withStatus (without (statusOf v) (s .status)) s) (cond (eqb a «SYS_CTRL2») (driven v s) s)
 
 -- ── CELLBAL: bits 4 to 0, for the inputs that the part has ──
 abbrev pub fiveOf : ℕ → ℕ
@@ -55,12 +66,19 @@ fiveOf v = v % 32
 
 unfoldable pub cellbalWith : Setup → ℕ → ℕ → Cellbal → Cellbal
 cellbalWith u a v b =
-    cond (eqb a 0x01 && leb 1 (groups u)) (record { cellbal1 = fiveOf v; cellbal2 = b .cellbal2; cellbal3 = b .cellbal3 })
-    (cond (eqb a 0x02 && leb 2 (groups u)) (record { cellbal1 = b .cellbal1; cellbal2 = fiveOf v; cellbal3 = b .cellbal3 })
-    (cond (eqb a 0x03 && leb 3 (groups u)) (record { cellbal1 = b .cellbal1; cellbal2 = b .cellbal2; cellbal3 = fiveOf v })
+    cond (eqb a CELLBAL1 && leb 1 (groups u)) (record { cellbal1 = fiveOf v; cellbal2 = b .cellbal2; cellbal3 = b .cellbal3 })
+    (cond (eqb a CELLBAL2 && leb 2 (groups u)) (record { cellbal1 = b .cellbal1; cellbal2 = fiveOf v; cellbal3 = b .cellbal3 })
+    (cond (eqb a CELLBAL3 && leb 3 (groups u)) (record { cellbal1 = b .cellbal1; cellbal2 = b .cellbal2; cellbal3 = fiveOf v })
     b))
 
 -- ── the whole: what is measured, and the load level and the outside level, no write moves ──
 abbrev pub written : Setup → ℕ → ℕ → Registers → Registers
 written u a v r =
-    record { settings = settingsWith a v (r .settings); shown = shownWith a v (r .shown); cellbal = cellbalWith u a v (r .cellbal); measured = r .measured; «load_level» = r .«load_level»; «outside_level» = r .«outside_level» }
+    record {
+      settings = settingsWith a v (r .settings);
+      shown = shownWith a v (r .shown);
+      cellbal = cellbalWith u a v (r .cellbal);
+      measured = r .measured;
+      «load_level» = r .«load_level»;
+      «outside_level» = r .«outside_level»;
+    }

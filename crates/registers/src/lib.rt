@@ -5,6 +5,8 @@ ghost use Rattle.registers.specs.State.{withStatus, withShown, withLoadL
 ghost use Rattle.registers.specs.Write.{statusOf, without, driven, shownWith, cellbalWith, written};
 ghost use Rattle.registers.specs.Fault.{raised as raisedSpec, overridden as overriddenSpec, readied as readiedSpec, counting as countingSpec};
 ghost use Rattle.registers.specs.Judging.{scanKept, tempKept, pulledAt, coulombs as coulombsSpec, pulled as pulledSpec, pulledByLevel as pulledByLevelSpec, unready as unreadySpec};
+use constants::address;
+use constants::weight;
 use events::Faults;
 use events::Setup;
 use settings::Settings;
@@ -71,13 +73,13 @@ impl Status {
         ensures { λ r. ⌜ r ≡ without (statusOf v) self ⌝ }
     {
         Status {
-            cc_ready: self.cc_ready & !bits::bit(v, 128),
-            xready: self.xready & !bits::bit(v, 32),
-            ovrd_alert: self.ovrd_alert & !bits::bit(v, 16),
-            uv: self.uv & !bits::bit(v, 8),
-            ov: self.ov & !bits::bit(v, 4),
-            scd: self.scd & !bits::bit(v, 2),
-            ocd: self.ocd & !bits::bit(v, 1),
+            cc_ready: self.cc_ready & !bits::bit(v, weight::CC_READY),
+            xready: self.xready & !bits::bit(v, weight::XREADY),
+            ovrd_alert: self.ovrd_alert & !bits::bit(v, weight::OVRD_ALERT),
+            uv: self.uv & !bits::bit(v, weight::UV),
+            ov: self.ov & !bits::bit(v, weight::OV),
+            scd: self.scd & !bits::bit(v, weight::SCD),
+            ocd: self.ocd & !bits::bit(v, weight::OCD),
         }
     }
 }
@@ -95,9 +97,12 @@ impl Shown {
         ensures { λ r. ⌜ r ≡ driven v self ⌝ }
     {
         let s = self.status;
-        let dsg_on = bits::bit(v, 2) & !(s.uv | s.ocd | s.scd | s.ovrd_alert | s.xready);
-        let chg_on = bits::bit(v, 1) & !(s.ov | s.ovrd_alert | s.xready);
-        let cc_oneshot = bits::bit(v, 32) & !bits::bit(v, 64) & !s.cc_ready;
+        let dsg_on = bits::bit(v, weight::DSG_ON)
+            & !(s.uv | s.ocd | s.scd | s.ovrd_alert | s.xready);
+        let chg_on = bits::bit(v, weight::CHG_ON) & !(s.ov | s.ovrd_alert | s.xready);
+        let cc_oneshot = bits::bit(v, weight::CC_ONESHOT)
+            & !bits::bit(v, weight::CC_EN)
+            & !s.cc_ready;
         Shown {
             cc_oneshot,
             dsg_on,
@@ -109,10 +114,10 @@ impl Shown {
     pub fn write(self, a: u8, v: u8) -> Self
         ensures { λ r. ⌜ r ≡ shownWith a v self ⌝ }
     {
-        if a == 0x00 {
+        if a == address::SYS_STAT {
             return self.cleared(v);
         }
-        if a == 0x05 {
+        if a == address::SYS_CTRL2 {
             return self.driven(v);
         }
         self
@@ -144,7 +149,10 @@ impl Shown {
         ensures { λ r. ⌜ r ≡ overriddenSpec self ⌝ }
     {
         let s = self.status;
-        let status = Status { ovrd_alert: true, ..s };
+        let status = Status {
+            ovrd_alert: true,
+            ..s
+        };
         Shown {
             status,
             dsg_on: false,
@@ -184,7 +192,10 @@ impl Shown {
         ensures { λ r. ⌜ r ≡ countingSpec self ⌝ }
     {
         let s = self.status;
-        let status = Status { cc_ready: true, ..s };
+        let status = Status {
+            cc_ready: true,
+            ..s
+        };
         Shown {
             status,
             cc_oneshot: false,
@@ -198,19 +209,19 @@ impl Cellbal {
         ensures { λ r. ⌜ r ≡ cellbalWith setup a v self ⌝ }
     {
         let groups = setup.groups();
-        if (a == 0x01) & (1 <= groups) {
+        if (a == address::CELLBAL1) & (1 <= groups) {
             return Cellbal {
                 cellbal1: v % 32,
                 ..self
             };
         }
-        if (a == 0x02) & (2 <= groups) {
+        if (a == address::CELLBAL2) & (2 <= groups) {
             return Cellbal {
                 cellbal2: v % 32,
                 ..self
             };
         }
-        if (a == 0x03) & (3 <= groups) {
+        if (a == address::CELLBAL3) & (3 <= groups) {
             return Cellbal {
                 cellbal3: v % 32,
                 ..self
@@ -358,14 +369,20 @@ impl Registers {
     pub fn loaded(self, load: bool) -> Self
         ensures { λ r. ⌜ r ≡ withLoadLevel load self ⌝ }
     {
-        Registers { load_level: load, ..self }
+        Registers {
+            load_level: load,
+            ..self
+        }
     }
 
     // The outside level.
     pub fn leveled(self, outside: bool) -> Self
         ensures { λ r. ⌜ r ≡ withOutsideLevel outside self ⌝ }
     {
-        Registers { outside_level: outside, ..self }
+        Registers {
+            outside_level: outside,
+            ..self
+        }
     }
 
     // What the outside level does after an event.

@@ -7,19 +7,21 @@ use crate::Measured;
 use crate::Pair;
 use crate::Registers;
 use crate::Status;
+use constants::address;
+use constants::weight;
 use events::Setup;
 
 impl Status {
     pub fn byte(self) -> u8
         ensures { λ r. ⌜ r ≡ statusByte self ⌝ }
     {
-        bits::weigh(self.cc_ready, 128)
-            + bits::weigh(self.xready, 32)
-            + bits::weigh(self.ovrd_alert, 16)
-            + bits::weigh(self.uv, 8)
-            + bits::weigh(self.ov, 4)
-            + bits::weigh(self.scd, 2)
-            + bits::weigh(self.ocd, 1)
+        bits::weigh(self.cc_ready, weight::CC_READY)
+            + bits::weigh(self.xready, weight::XREADY)
+            + bits::weigh(self.ovrd_alert, weight::OVRD_ALERT)
+            + bits::weigh(self.uv, weight::UV)
+            + bits::weigh(self.ov, weight::OV)
+            + bits::weigh(self.scd, weight::SCD)
+            + bits::weigh(self.ocd, weight::OCD)
     }
 }
 
@@ -28,13 +30,13 @@ impl Cellbal {
         ensures { λ r. ⌜ r ≡ cellbalByte setup self a ⌝ }
     {
         let groups = setup.groups();
-        if (a == 0x01) & (1 <= groups) {
+        if (a == address::CELLBAL1) & (1 <= groups) {
             return self.cellbal1 % 32;
         }
-        if (a == 0x02) & (2 <= groups) {
+        if (a == address::CELLBAL2) & (2 <= groups) {
             return self.cellbal2 % 32;
         }
-        if (a == 0x03) & (3 <= groups) {
+        if (a == address::CELLBAL3) & (3 <= groups) {
             return self.cellbal3 % 32;
         }
         0
@@ -78,14 +80,14 @@ impl Measured {
         requires { ⌜ 12 ≤ a ⌝ }
         ensures { λ r. ⌜ r ≡ wordAt setup self a ⌝ }
     {
-        if a < 0x2A {
-            return self.cell(setup, (a - 0x0C) / 2);
+        if a < address::BAT {
+            return self.cell(setup, (a - address::VC1) / 2);
         }
-        if a < 0x2C {
+        if a < address::TS1 {
             return self.bat;
         }
-        if a < 0x32 {
-            return self.thermistor(setup, (a - 0x2C) / 2);
+        if a < address::CC {
+            return self.thermistor(setup, (a - address::TS1) / 2);
         }
         self.cc
     }
@@ -95,9 +97,9 @@ fn fixed_byte(setup: Setup, a: u8) -> u8
     ensures { λ r. ⌜ r ≡ fixedByte setup a ⌝ }
 {
     match a {
-        0x50 => setup.gain_code / 8 % 4 * 4,
-        0x51 => setup.offset,
-        0x59 => setup.gain_code % 8 * 32,
+        address::ADCGAIN1 => setup.gain_code / 8 % 4 * 4,
+        address::ADCOFFSET => setup.offset,
+        address::ADCGAIN2 => setup.gain_code % 8 * 32,
         _ => 0,
     }
 }
@@ -107,10 +109,10 @@ impl Registers {
         ensures { λ r. ⌜ r ≡ ctrl1Byte self ⌝ }
     {
         let s = self.settings;
-        bits::weigh(self.load_level & !self.shown.chg_on, 128)
-            + bits::weigh(s.adc_en, 16)
-            + bits::weigh(s.temp_sel, 8)
-            + bits::weigh(s.shut_b, 1)
+        bits::weigh(self.load_level & !self.shown.chg_on, weight::LOAD_PRESENT)
+            + bits::weigh(s.adc_en, weight::ADC_EN)
+            + bits::weigh(s.temp_sel, weight::TEMP_SEL)
+            + bits::weigh(s.shut_b, weight::SHUT_B)
     }
 
     fn ctrl2(self) -> u8
@@ -118,28 +120,28 @@ impl Registers {
     {
         let s = self.settings;
         let shown = self.shown;
-        bits::weigh(s.delay_dis, 128)
-            + bits::weigh(s.cc_en, 64)
-            + bits::weigh(shown.cc_oneshot, 32)
-            + bits::weigh(shown.dsg_on, 2)
-            + bits::weigh(shown.chg_on, 1)
+        bits::weigh(s.delay_dis, weight::DELAY_DIS)
+            + bits::weigh(s.cc_en, weight::CC_EN)
+            + bits::weigh(shown.cc_oneshot, weight::CC_ONESHOT)
+            + bits::weigh(shown.dsg_on, weight::DSG_ON)
+            + bits::weigh(shown.chg_on, weight::CHG_ON)
     }
 
     fn control_byte(self, setup: Setup, a: u8) -> u8
         ensures { λ r. ⌜ r ≡ controlByte setup self a ⌝ }
     {
-        if a == 0x00 {
+        if a == address::SYS_STAT {
             let shown = self.shown;
             let status = shown.status;
             return status.byte();
         }
-        if a == 0x04 {
+        if a == address::SYS_CTRL1 {
             return self.ctrl1();
         }
-        if a == 0x05 {
+        if a == address::SYS_CTRL2 {
             return self.ctrl2();
         }
-        if a < 0x04 {
+        if a < address::SYS_CTRL1 {
             let cellbal = self.cellbal;
             return cellbal.byte(setup, a);
         }
@@ -151,11 +153,11 @@ impl Registers {
     pub fn pair(self, setup: Setup, a: u8) -> Pair
         ensures { λ r. ⌜ r ≡ pairAt setup self a ⌝ }
     {
-        if a < 0x0C {
+        if a < address::VC1 {
             let here = self.control_byte(setup, a);
             return Pair { here, low: 0 };
         }
-        if a < 0x34 {
+        if a < address::AFTER_CC {
             let measured = self.measured;
             let word = measured.word(setup, a);
             let here = half_of(a, word);

@@ -5,7 +5,12 @@ ghost use Rattle.smart_battery.specs.Reply.{Replied};
 ghost use Rattle.services_chip.specs.Care.{saidProposal, proposalSaid, packOf as packSpec, linkedTotal};
 use bleed::Choice;
 use chip::Chip;
+use constants::number;
+use constants::range;
 use smart_battery::Pack;
+
+// A margin is a difference of counts.
+const MARGIN_MOST: u32 = range::COUNT_MOST as u32;
 
 // The CELLBAL bytes, or the number that refuses them: 3, 4 or 10.
 pub enum Proposal {
@@ -17,20 +22,20 @@ pub enum Proposal {
 pub fn bleeding(chip: Chip, margin: u32) -> Proposal
     ensures { λ r. ⌜ saidProposal r ≡ proposalSaid margin chip ⌝ }
 {
-    if (1 <= margin) & (margin <= 16383) {
+    if (1 <= margin) & (margin <= MARGIN_MOST) {
         if chip.normal {
             let registers = chip.registers;
             let measured = registers.measured;
             let cells = measured.cells;
             let linked = chip.linked();
             if linked == 0 {
-                return Proposal::No(10);
+                return Proposal::No(number::NOT_CONNECTED);
             }
             return Proposal::Is(bleed::propose(cells, linked, margin as u16));
         }
-        return Proposal::No(4);
+        return Proposal::No(number::ASLEEP);
     }
-    Proposal::No(3)
+    Proposal::No(number::BAD_VALUE)
 }
 
 // What a reply is made of, but for the total.

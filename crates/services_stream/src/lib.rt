@@ -3,6 +3,7 @@ ghost use Rattle.values.specs.Values.{gives};
 ghost use Rattle.smart_battery.specs.Reply.{Replied};
 ghost use Rattle.services_stream.specs.Asks.{proposalAt, wordAt, Bled};
 use bleed::Choice;
+use constants::number;
 use services_chip::Proposal;
 
 // A proposal written, where it fits.
@@ -10,7 +11,7 @@ fn put_choice(out: &mut [u8], choice: Choice) -> u8
     ensures { λ r. ⌜ Bled (gives choice) (now (out .entry)) r (now (out .exit)) ⌝ }
 {
     if out.len() < 3 {
-        return 5;
+        return number::NO_ROOM;
     }
     out[0] = choice.one;
     out[1] = choice.two;

@@ -2,16 +2,18 @@
 use mathlib.Core.Bool.{Bool, not, _&&_, cond}
 use Prim.Native.Nat.{ℕ, _+_, _*_, _/_, _%_}
 use lib.Dec.{eqb}
+use Rattle.constants.specs.Address.{«SYS_CTRL1», «SYS_CTRL2», PROTECT1, PROTECT2, PROTECT3, «OV_TRIP», «UV_TRIP», «CC_CFG»}
+use Rattle.constants.specs.Weight.{«SHUT_A», «SHUT_B», «ADC_EN», «TEMP_SEL», «DELAY_DIS», «CC_EN»}
 use Rattle.settings.specs.declared.Settings.{Settings}
 use Rattle.bits.specs.Bit.{bit}
 use Rattle.settings.specs.State.{withCtrl1, withCtrl2, withProtect1, withProtect2, withProtect3, withOvTrip, withUvTrip, withCcCfg}
 
 -- ── the pair of SYS_CTRL1: SHUT_A bit 1, SHUT_B bit 0 ──
 abbrev pub shutA : ℕ → Bool
-shutA v = bit v 2
+shutA v = bit v «SHUT_A»
 
 abbrev pub shutB : ℕ → Bool
-shutB v = bit v 1
+shutB v = bit v «SHUT_B»
 
 -- pair (0,1) while (0,0) is held is kept, every other pair leaves (0,0)
 abbrev pub keepsPair : ℕ → Settings → Bool
@@ -19,7 +21,7 @@ keepsPair v s = not (s .«shut_b») && not (shutA v) && shutB v
 
 -- pair (1,0) while (0,1) is held enters SHIP
 abbrev pub ships : ℕ → ℕ → Settings → Bool
-ships a v s = eqb a 0x04 && s .«shut_b» && shutA v && not (shutB v)
+ships a v s = eqb a «SYS_CTRL1» && s .«shut_b» && shutA v && not (shutB v)
 
 -- ── the bits that a register has ──
 -- 0x06: RSNS 7, SCD delay 4:3, SCD threshold 2:0
@@ -41,12 +43,12 @@ ccCfgOf v = v % 64
 -- ── the write: every other address leaves them ──
 unfoldable pub settingsWith : ℕ → ℕ → Settings → Settings
 settingsWith a v s =
-    cond (eqb a 0x04) (withCtrl1 (bit v 16) (bit v 8) (keepsPair v s) s)
-    (cond (eqb a 0x05) (withCtrl2 (bit v 128) (bit v 64) s)
-    (cond (eqb a 0x06) (withProtect1 (protect1Of v) s)
-    (cond (eqb a 0x07) (withProtect2 (protect2Of v) s)
-    (cond (eqb a 0x08) (withProtect3 (protect3Of v) s)
-    (cond (eqb a 0x09) (withOvTrip v s)
-    (cond (eqb a 0x0A) (withUvTrip v s)
-    (cond (eqb a 0x0B) (withCcCfg (ccCfgOf v) s)
+    cond (eqb a «SYS_CTRL1») (withCtrl1 (bit v «ADC_EN») (bit v «TEMP_SEL») (keepsPair v s) s)
+    (cond (eqb a «SYS_CTRL2») (withCtrl2 (bit v «DELAY_DIS») (bit v «CC_EN») s)
+    (cond (eqb a PROTECT1) (withProtect1 (protect1Of v) s)
+    (cond (eqb a PROTECT2) (withProtect2 (protect2Of v) s)
+    (cond (eqb a PROTECT3) (withProtect3 (protect3Of v) s)
+    (cond (eqb a «OV_TRIP») (withOvTrip v s)
+    (cond (eqb a «UV_TRIP») (withUvTrip v s)
+    (cond (eqb a «CC_CFG») (withCcCfg (ccCfgOf v) s)
     s)))))))

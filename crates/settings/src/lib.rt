@@ -1,10 +1,10 @@
 // The settings as a value: what accepted writes alone move.
 ghost use mathlib.Core.Path.{_≡_};
-ghost use Prim.Native.Nat.{_≤_};
-ghost use Rattle.bits.specs.Bit.{bit as bitSpec, weighed};
 ghost use Rattle.settings.specs.State.{resetSettings};
 ghost use Rattle.settings.specs.Write.{ships as shipsSpec, protect1Of, protect2Of, protect3Of, ccCfgOf, settingsWith};
 ghost use Rattle.settings.specs.Read.{settingsByte};
+use constants::address;
+use constants::weight;
 
 pub struct Settings {
     // ADC_EN, TEMP_SEL and whether the pair (0,1) is held.
@@ -21,23 +21,6 @@ pub struct Settings {
     pub ov_trip: u8,
     pub uv_trip: u8,
     pub cc_cfg: u8,
-}
-
-// The bit of weight 1, 2, 4, .. of a byte; no byte has a bit of weight 0.
-pub fn bit(v: u8, w: u8) -> bool
-    ensures { λ r. ⌜ r ≡ bitSpec v w ⌝ }
-{
-    if w == 0 {
-        return false;
-    }
-    v / w % 2 == 1
-}
-
-// What a bit of weight `w` adds to its byte.
-pub fn weigh(up: bool, w: u8) -> u8
-    ensures { λ r. ⌜ (r ≡ weighed up w) × (r ≤ w) ⌝ }
-{
-    if up { w } else { 0 }
 }
 
 // The bits that 0x06, 0x07, 0x08 and 0x0B have: the others are neither kept nor read.
@@ -59,7 +42,7 @@ fn protect3_of(v: u8) -> u8
     v / 16 * 16
 }
 
-fn cfg_of(v: u8) -> u8
+fn cc_cfg_of(v: u8) -> u8
     ensures { λ r. ⌜ r ≡ ccCfgOf v ⌝ }
 {
     v % 64
@@ -89,47 +72,46 @@ impl Settings {
     pub fn ships(self, a: u8, v: u8) -> bool
         ensures { λ r. ⌜ r ≡ shipsSpec a v self ⌝ }
     {
-        (a == 0x04) & self.shut_b & bit(v, 2) & !bit(v, 1)
+        (a == address::SYS_CTRL1)
+            & self.shut_b
+            & bits::bit(v, weight::SHUT_A)
+            & !bits::bit(v, weight::SHUT_B)
     }
 
     pub fn write(mut self, a: u8, v: u8) -> Self
         ensures { λ r. ⌜ r ≡ settingsWith a v self ⌝ }
     {
         match a {
-            0x04 => {
-                let shut_b = !self.shut_b & !bit(v, 2) & bit(v, 1);
-                self.adc_en = bit(v, 16);
-                self.temp_sel = bit(v, 8);
+            address::SYS_CTRL1 => {
+                let shut_b = !self.shut_b
+                    & !bits::bit(v, weight::SHUT_A)
+                    & bits::bit(v, weight::SHUT_B);
+                self.adc_en = bits::bit(v, weight::ADC_EN);
+                self.temp_sel = bits::bit(v, weight::TEMP_SEL);
                 self.shut_b = shut_b;
                 self
             }
-            0x05 => {
-                self.delay_dis = bit(v, 128);
-                self.cc_en = bit(v, 64);
+            address::SYS_CTRL2 => {
+                self.delay_dis = bits::bit(v, weight::DELAY_DIS);
+                self.cc_en = bits::bit(v, weight::CC_EN);
                 self
             }
-            0x06 => Settings {
+            address::PROTECT1 => Settings {
                 protect1: protect1_of(v),
                 ..self
             },
-            0x07 => Settings {
+            address::PROTECT2 => Settings {
                 protect2: protect2_of(v),
                 ..self
             },
-            0x08 => Settings {
+            address::PROTECT3 => Settings {
                 protect3: protect3_of(v),
                 ..self
             },
-            0x09 => Settings {
-                ov_trip: v,
-                ..self
-            },
-            0x0A => Settings {
-                uv_trip: v,
-                ..self
-            },
-            0x0B => Settings {
-                cc_cfg: cfg_of(v),
+            address::OV_TRIP => Settings { ov_trip: v, ..self },
+            address::UV_TRIP => Settings { uv_trip: v, ..self },
+            address::CC_CFG => Settings {
+                cc_cfg: cc_cfg_of(v),
                 ..self
             },
             _ => self,
@@ -141,12 +123,12 @@ impl Settings {
         ensures { λ r. ⌜ r ≡ settingsByte self a ⌝ }
     {
         match a {
-            0x06 => protect1_of(self.protect1),
-            0x07 => protect2_of(self.protect2),
-            0x08 => protect3_of(self.protect3),
-            0x09 => self.ov_trip,
-            0x0A => self.uv_trip,
-            0x0B => cfg_of(self.cc_cfg),
+            address::PROTECT1 => protect1_of(self.protect1),
+            address::PROTECT2 => protect2_of(self.protect2),
+            address::PROTECT3 => protect3_of(self.protect3),
+            address::OV_TRIP => self.ov_trip,
+            address::UV_TRIP => self.uv_trip,
+            address::CC_CFG => cc_cfg_of(self.cc_cfg),
             _ => 0,
         }
     }

@@ -4,6 +4,17 @@ ghost use Prim.Native.Nat.{_<_, _≤_};
 ghost use Rattle.values.specs.Values.{gives};
 ghost use Rattle.smart_battery.specs.Words.{saidWord, unsignedSaid, signedSaid, kelvins, millivolts, milliamps, askedFor, wordFor};
 ghost use Rattle.smart_battery.specs.Reply.{pecOf, Replied};
+use constants::number;
+
+// The Smart Battery commands that are answered.
+pub const TEMPERATURE: u8 = 0x08;
+
+pub const VOLTAGE: u8 = 0x09;
+
+pub const CURRENT: u8 = 0x0A;
+
+// A step of the coulomb counter in hundredths of a microvolt.
+const CC_STEP: u32 = 844;
 
 // A word, or the number that refuses it.
 pub enum Word {
@@ -26,7 +37,7 @@ fn temperature(count: u16) -> Word
 {
     let down = 177 * (count as u32);
     if 1226300 < down {
-        return Word::No(11);
+        return Word::No(number::NO_FIT);
     }
     Word::Is(((1226300 - down) / 200) as u16)
 }
@@ -36,11 +47,11 @@ fn voltage(total: i64) -> Word
     ensures { λ r. ⌜ saidWord r ≡ unsignedSaid (millivolts total) ⌝ }
 {
     if total < 0 {
-        return Word::No(11);
+        return Word::No(number::NO_FIT);
     }
     let mv = (total as u64) / 1000;
     if 65535 < mv {
-        return Word::No(11);
+        return Word::No(number::NO_FIT);
     }
     Word::Is(mv as u16)
 }
@@ -51,15 +62,15 @@ fn current(cc: u16, milliohms: u32) -> Word
     ensures { λ r. ⌜ saidWord r ≡ signedSaid (milliamps cc milliohms) ⌝ }
 {
     if cc < 32768 {
-        let ma = 844 * (cc as u32) / (100 * milliohms);
+        let ma = CC_STEP * (cc as u32) / (100 * milliohms);
         if 32767 < ma {
-            return Word::No(11);
+            return Word::No(number::NO_FIT);
         }
         return Word::Is(ma as u16);
     }
-    let ma = 844 * (65536 - (cc as u32)) / (100 * milliohms);
+    let ma = CC_STEP * (65536 - (cc as u32)) / (100 * milliohms);
     if 32768 < ma {
-        return Word::No(11);
+        return Word::No(number::NO_FIT);
     }
     Word::Is(((65536 - ma) % 65536) as u16)
 }
@@ -69,17 +80,17 @@ fn asked(pack: Pack, total: i64, command: u8, milliohms: u32) -> Word
     requires { ⌜ (0 < milliohms) × (milliohms ≤ 100) ⌝ }
     ensures { λ r. ⌜ saidWord r ≡ askedFor pack total command milliohms ⌝ }
 {
-    if command == 0x08 {
+    if command == TEMPERATURE {
         if pack.external {
-            return Word::No(12);
+            return Word::No(number::EXTERNAL);
         }
         return temperature(pack.warmth);
     }
-    if command == 0x09 {
+    if command == VOLTAGE {
         if pack.connected {
             return voltage(total);
         }
-        return Word::No(10);
+        return Word::No(number::NOT_CONNECTED);
     }
     current(pack.cc, milliohms)
 }
@@ -88,16 +99,16 @@ fn asked(pack: Pack, total: i64, command: u8, milliohms: u32) -> Word
 pub fn word_for(pack: Pack, total: i64, command: u8, milliohms: u32) -> Word
     ensures { λ r. ⌜ saidWord r ≡ wordFor pack total command milliohms ⌝ }
 {
-    if (command == 0x08) | (command == 0x09) | (command == 0x0A) {
+    if (command == TEMPERATURE) | (command == VOLTAGE) | (command == CURRENT) {
         if (1 <= milliohms) & (milliohms <= 100) {
             if pack.normal {
                 return asked(pack, total, command, milliohms);
             }
-            return Word::No(4);
+            return Word::No(number::ASLEEP);
         }
-        return Word::No(3);
+        return Word::No(number::BAD_VALUE);
     }
-    Word::No(23)
+    Word::No(number::BAD_COMMAND)
 }
 
 // The packet error code of a reply: over the address written, the command, the address read and both data bytes.
@@ -116,7 +127,7 @@ fn put_reply(out: &mut [u8], command: u8, word: u16) -> u8
     ensures { λ r. ⌜ Replied (gives word) command (now (out .entry)) r (now (out .exit)) ⌝ }
 {
     if out.len() < 3 {
-        return 5;
+        return number::NO_ROOM;
     }
     let low = (word % 256) as u8;
     let high = (word / 256) as u8;

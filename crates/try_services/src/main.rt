@@ -1,9 +1,9 @@
 // What a chip tells workshops and chargers: cells to bleed, and Smart Battery words. Each line is held against crates/services/stdout, which
 // tests/vectors/services writes from another source.
-use services_chip::Proposal;
 use chip::Chip;
 use events::Setup;
 use libc::STDOUT_FILENO;
+use services_chip::Proposal;
 
 fn text(b: &[u8]) {
     io::write_all(STDOUT_FILENO, b);

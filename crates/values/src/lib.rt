@@ -6,6 +6,47 @@ ghost use Rattle.values.specs.Values.{signed8, signed16, cellMicrovolts,
 ghost use Rattle.values.specs.Double.{IsDouble};
 ghost use Rattle.values.specs.Forecast.{lesser, greater, IsReading};
 ghost use Rattle.values.specs.Said.{numberOf, saidVoltage, saidOhms, saidDie, saidCode};
+use constants::number;
+use constants::range;
+
+// In microvolts: the gain of code 0, a step of the offset; in hundredths of a microvolt a step of the coulomb counter.
+const GAIN_LEAST: u64 = 344;
+
+const GAIN_LEAST_SIGNED: i64 = GAIN_LEAST as i64;
+
+const OFFSET_STEP: i64 = 1000;
+
+const CC_STEP: i64 = 844;
+
+// The thermistor's divider: its gain, its pull-up, and the first count at which it is open.
+const THERMISTOR_GAIN: u64 = 354;
+
+const PULL_UP_OHMS: u64 = 10000;
+
+const PULL_UP_MICROVOLTS: u64 = 3300000;
+
+const THERMISTOR_END: u16 = 9323;
+
+// The die, in half thousandths of a degree: at count 0, and what a count takes off.
+const DIE_ZERO: i64 = 680000;
+
+const DIE_STEP: i64 = 177;
+
+// The windows of the two thresholds, in counts, and what a code adds.
+const OV_WINDOW: u64 = 8192;
+
+const OV_WINDOW_LAST: u64 = 12287;
+
+const UV_WINDOW: u64 = 4096;
+
+const UV_WINDOW_LAST: u64 = 8191;
+
+const TRIP_STEP: u64 = 16;
+
+// No gain and offset take a voltage outside these to either window.
+const WANTED_LEAST: i64 = 1000000;
+
+const WANTED_MOST: i64 = 5000000;
 
 // Two units: what the chip counts, and what the formula makes of a count.
 pub struct RawCount(pub u16);
@@ -45,10 +86,10 @@ pub fn number_of(why: Refusal) -> u8
     ensures { λ r. ⌜ r ≡ numberOf why ⌝ }
 {
     match why {
-        Refusal::GainCode => 1,
-        Refusal::Count => 3,
-        Refusal::Thermistor => 7,
-        Refusal::Window => 8,
+        Refusal::GainCode => number::BAD_SETUP,
+        Refusal::Count => number::BAD_VALUE,
+        Refusal::Thermistor => number::OPEN_SENSOR,
+        Refusal::Window => number::NO_CODE,
     }
 }
 
@@ -63,7 +104,7 @@ fn signed_byte(b: u8) -> i64
 fn cell(code: u8, offset: u8, count: u16) -> i64
     ensures { λ r. ⌜ r ≡ cellMicrovolts code offset count ⌝ }
 {
-    (344 + code as i64) * (count as i64) + 1000 * signed_byte(offset)
+    (GAIN_LEAST_SIGNED + code as i64) * (count as i64) + OFFSET_STEP * signed_byte(offset)
 }
 
 // The same in its unit, for a chip whose setup and counts were judged before.
@@ -77,11 +118,11 @@ pub fn cell_microvolts(code: u8, offset: u8, count: RawCount) -> Microvolts
 pub fn cell_voltage(code: u8, offset: u8, count: RawCount) -> CellVoltage
     ensures { λ r. ⌜ saidVoltage r ≡ cellSaid code offset (count .0) ⌝ }
 {
-    if code > 31 {
+    if code > range::GAIN_CODE_MOST {
         return CellVoltage::No(Refusal::GainCode);
     }
     let n = count.0;
-    if n > 16383 {
+    if n > range::COUNT_MOST {
         return CellVoltage::No(Refusal::Count);
     }
     CellVoltage::Is(Microvolts(cell(code, offset, n)))
@@ -102,7 +143,7 @@ fn signed_word(x: u16) -> i64
 pub fn cc_hundredths(reading: u16) -> i64
     ensures { λ r. ⌜ r ≡ ccHundredths reading ⌝ }
 {
-    signed_word(reading) * 844
+    signed_word(reading) * CC_STEP
 }
 
 // A thermistor's resistance, rounded down: from 9,323 counts up there is none.
@@ -110,11 +151,11 @@ pub fn thermistor_ohms(count: RawCount) -> Resistance
     ensures { λ r. ⌜ saidOhms r ≡ ohmsSaid (count .0) ⌝ }
 {
     let n = count.0;
-    if n >= 9323 {
+    if n >= THERMISTOR_END {
         return Resistance::No(Refusal::Thermistor);
     }
-    let v = 354 * n as u64;
-    Resistance::Is(10000 * v / (3300000 - v))
+    let v = THERMISTOR_GAIN * n as u64;
+    Resistance::Is(PULL_UP_OHMS * v / (PULL_UP_MICROVOLTS - v))
 }
 
 // The die's temperature in half thousandths of a degree C.
@@ -122,10 +163,10 @@ pub fn die_temperature(count: RawCount) -> DieTemperature
     ensures { λ r. ⌜ saidDie r ≡ dieSaid (count .0) ⌝ }
 {
     let n = count.0;
-    if n > 16383 {
+    if n > range::COUNT_MOST {
         return DieTemperature::No(Refusal::Count);
     }
-    DieTemperature::Is(680000 - 177 * n as i64)
+    DieTemperature::Is(DIE_ZERO - DIE_STEP * n as i64)
 }
 
 // What forecasting gets: each double is the whole number.
@@ -194,7 +235,7 @@ fn full_count(code: u8, offset: u8, wanted: i64) -> u64
     requires { ⌜ (1000000 ≤ up wanted) × (up wanted ≤ 5000000) ⌝ }
     ensures { λ r. ⌜ pos r ≡ full code offset wanted ⌝ }
 {
-    (wanted - 1000 * signed_byte(offset)) as u64 / (344 + code as u64)
+    (wanted - OFFSET_STEP * signed_byte(offset)) as u64 / (GAIN_LEAST + code as u64)
 }
 
 // The threshold's code for a wanted voltage, in the window from start to last. No gain and offset take a voltage below 1,000,000 or above 5,000,000 to either window.
@@ -203,13 +244,13 @@ fn threshold(start: u64, last: u64, code: u8, offset: u8, wanted: i64) -> Thresh
     requires { ⌜ (last ≤ start + 4095) × (last ≤ 12287) ⌝ }
     ensures { λ r. ⌜ saidCode r ≡ thresholdSaid start last code offset wanted ⌝ }
 {
-    if code > 31 {
+    if code > range::GAIN_CODE_MOST {
         return ThresholdCode::No(Refusal::GainCode);
     }
-    if wanted < 1000000 {
+    if wanted < WANTED_LEAST {
         return ThresholdCode::No(Refusal::Window);
     }
-    if wanted > 5000000 {
+    if wanted > WANTED_MOST {
         return ThresholdCode::No(Refusal::Window);
     }
     let full = full_count(code, offset, wanted);
@@ -219,19 +260,19 @@ fn threshold(start: u64, last: u64, code: u8, offset: u8, wanted: i64) -> Thresh
     if full > last {
         return ThresholdCode::No(Refusal::Window);
     }
-    ThresholdCode::Is(((full - start) / 16) as u8)
+    ThresholdCode::Is(((full - start) / TRIP_STEP) as u8)
 }
 
 // The OV_TRIP code for a wanted over-voltage.
 pub fn over_voltage_code(code: u8, offset: u8, wanted: Microvolts) -> ThresholdCode
     ensures { λ r. ⌜ saidCode r ≡ overSaid code offset (wanted .0) ⌝ }
 {
-    threshold(8192, 12287, code, offset, wanted.0)
+    threshold(OV_WINDOW, OV_WINDOW_LAST, code, offset, wanted.0)
 }
 
 // The UV_TRIP code for a wanted under-voltage.
 pub fn under_voltage_code(code: u8, offset: u8, wanted: Microvolts) -> ThresholdCode
     ensures { λ r. ⌜ saidCode r ≡ underSaid code offset (wanted .0) ⌝ }
 {
-    threshold(4096, 8191, code, offset, wanted.0)
+    threshold(UV_WINDOW, UV_WINDOW_LAST, code, offset, wanted.0)
 }

@@ -98,7 +98,7 @@ fn packed(mask: u16, of: [u16; 15]) -> Counts
 
 // Of what each input holds what the cells of the pack hold, cell 1's first.
 pub fn pack(setup: Setup, cells: [u16; 15]) -> Counts
-    ensures { λ r. ⌜ r ≡ countsOf (picked held (wiredInputs setup)) ⌝ }
+    ensures { λ r. ⌜ r ≡ countsOf (picked cells (wiredInputs setup)) ⌝ }
 {
     packed(wired(setup), cells)
 }
@@ -127,7 +127,7 @@ fn bit_of(t: bool) -> u16
 // The first inputs whose counts are not below the floor, input 1 the lowest bit.
 fn above(floor: u16, cells: [u16; 15], inputs: u8) -> u16
     requires { ⌜ inputs ≤ 15 ⌝ }
-    ensures { λ r. ⌜ r ≡ bits (aboveFloor floor held) 1 inputs ⌝ }
+    ensures { λ r. ⌜ r ≡ bits (aboveFloor floor cells) 1 inputs ⌝ }
 {
     let mut mask = 0u16;
     let mut i = inputs as usize;
@@ -140,7 +140,7 @@ fn above(floor: u16, cells: [u16; 15], inputs: u8) -> u16
 
 // Request M-108: the connected inputs, of what each input holds, input 1 the lowest bit.
 pub fn linked(setup: Setup, cells: [u16; 15]) -> u16
-    ensures { λ r. ⌜ r ≡ linkedBits setup held ⌝ }
+    ensures { λ r. ⌜ r ≡ linkedBits setup cells ⌝ }
 {
     if has_row(setup.part, setup.cells) {
         return wired(setup);
@@ -150,7 +150,7 @@ pub fn linked(setup: Setup, cells: [u16; 15]) -> u16
 
 // What the connected inputs hold, the lowest first.
 pub fn link(setup: Setup, cells: [u16; 15]) -> Counts
-    ensures { λ r. ⌜ r ≡ countsOf (picked held (linkedInputs setup held)) ⌝ }
+    ensures { λ r. ⌜ r ≡ countsOf (picked cells (linkedInputs setup cells)) ⌝ }
 {
     packed(linked(setup, cells), cells)
 }

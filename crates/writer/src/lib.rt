@@ -8,6 +8,9 @@ ghost use Rattle.records.specs.Numbers.{bitOf};
 ghost use Rattle.records.specs.Record.{setupGood, standing, noCounts};
 ghost use Rattle.writer.specs.Write.{bits32, bytes16, bytes32, wordBytes, writtenOf, recordOf, recordFor, refusalFor, setupBytes, Writes, Puts};
 ghost use Rattle.writer.specs.CheckedLaws.{refusalAt};
+use constants::kind;
+use constants::number;
+use constants::range;
 use events::BusEvent;
 use events::Counts;
 use events::Event;
@@ -37,11 +40,11 @@ fn setup_good(v: Setup) -> bool
     ensures { λ r. ⌜ r ≡ setupGood v ⌝ }
 {
     (1 <= v.part)
-        & (v.part <= 3)
-        & (0x08 <= v.address)
-        & (v.address <= 0x77)
-        & (v.gain_code <= 31)
-        & (v.floor <= 4095)
+        & (v.part <= range::PART_MOST)
+        & (range::ADDRESS_LEAST <= v.address)
+        & (v.address <= range::ADDRESS_MOST)
+        & (v.gain_code <= range::GAIN_CODE_MOST)
+        & (v.floor <= range::FLOOR_MOST)
         & (v.cells == 0)
 }
 
@@ -50,7 +53,7 @@ fn write_bare(out: &mut [u8], kind: u16) -> Wrote
     ensures { λ r. ⌜ Writes (recordOf kind []) (now (out .entry)) r (now (out .exit)) ⌝ }
 {
     if out.len() < 4 {
-        return Wrote::Refused(5);
+        return Wrote::Refused(number::NO_ROOM);
     }
     out[0] = 0;
     out[1] = 0;
@@ -64,7 +67,7 @@ fn write_byte(out: &mut [u8], kind: u16, b: u8) -> Wrote
     ensures { λ r. ⌜ Writes (recordOf kind (b ∷ [])) (now (out .entry)) r (now (out .exit)) ⌝ }
 {
     if out.len() < 5 {
-        return Wrote::Refused(5);
+        return Wrote::Refused(number::NO_ROOM);
     }
     out[0] = 1;
     out[1] = 0;
@@ -79,7 +82,7 @@ fn write_word(out: &mut [u8], kind: u16, n: u16) -> Wrote
     ensures { λ r. ⌜ Writes (recordOf kind (bytes16 n)) (now (out .entry)) r (now (out .exit)) ⌝ }
 {
     if out.len() < 6 {
-        return Wrote::Refused(5);
+        return Wrote::Refused(number::NO_ROOM);
     }
     out[0] = 2;
     out[1] = 0;
@@ -95,7 +98,7 @@ fn write_long(out: &mut [u8], kind: u16, u: u32) -> Wrote
     ensures { λ r. ⌜ Writes (recordOf kind (bytes32 u)) (now (out .entry)) r (now (out .exit)) ⌝ }
 {
     if out.len() < 8 {
-        return Wrote::Refused(5);
+        return Wrote::Refused(number::NO_ROOM);
     }
     out[0] = 4;
     out[1] = 0;
@@ -113,7 +116,7 @@ fn write_ticks(out: &mut [u8], kind: u16, u: u32, n: u16) -> Wrote
     ensures { λ r. ⌜ Writes (recordOf kind (bytes32 u ++ bytes16 n)) (now (out .entry)) r (now (out .exit)) ⌝ }
 {
     if out.len() < 10 {
-        return Wrote::Refused(5);
+        return Wrote::Refused(number::NO_ROOM);
     }
     out[0] = 6;
     out[1] = 0;
@@ -133,7 +136,7 @@ fn write_soak(out: &mut [u8], kind: u16, u: u32, n: u32) -> Wrote
     ensures { λ r. ⌜ Writes (recordOf kind (bytes32 u ++ bytes32 n)) (now (out .entry)) r (now (out .exit)) ⌝ }
 {
     if out.len() < 12 {
-        return Wrote::Refused(5);
+        return Wrote::Refused(number::NO_ROOM);
     }
     out[0] = 8;
     out[1] = 0;
@@ -155,7 +158,7 @@ fn write_setup(out: &mut [u8], v: Setup) -> Wrote
     ensures { λ r. ⌜ Writes (recordOf 0 (setupBytes v)) (now (out .entry)) r (now (out .exit)) ⌝ }
 {
     if out.len() < 11 {
-        return Wrote::Refused(5);
+        return Wrote::Refused(number::NO_ROOM);
     }
     out[0] = 7;
     out[1] = 0;
@@ -191,7 +194,7 @@ fn write_counts(out: &mut [u8], kind: u16, counts: Counts) -> Wrote
 {
     let n = counts.many as usize;
     if out.len() < 4 + 2 * n {
-        return Wrote::Refused(5);
+        return Wrote::Refused(number::NO_ROOM);
     }
     let of = counts.of;
     out[0] = (2 * n) as u8;
@@ -221,42 +224,42 @@ fn standing_at(part: u8) -> Setup
 fn setup_refusal(v: Setup, counts: Counts) -> u8
     ensures { λ r. ⌜ r ≡ refusalFor (SetupEvent v) counts 0 ⌝ }
 {
-    if (1 <= v.part) & (v.part <= 3) {
+    if (1 <= v.part) & (v.part <= range::PART_MOST) {
         if ranges::counts_fit(0, counts) {
             if setup_good(v) {
-                return 0;
+                return number::DONE;
             }
-            return 1;
+            return number::BAD_SETUP;
         }
-        return 2;
+        return number::BAD_KIND;
     }
-    1
+    number::BAD_SETUP
 }
 
 // The part, the counts and the row of a wiring record, in this order.
 fn wires_refusal(cells: u8, counts: Counts, part: u8) -> u8
     ensures { λ r. ⌜ r ≡ refusalFor (Wires cells) counts part ⌝ }
 {
-    if (1 <= part) & (part <= 3) {
+    if (1 <= part) & (part <= range::PART_MOST) {
         if ranges::counts_fit(0, counts) {
             if wiring::has_row(part, cells) {
-                return 0;
+                return number::DONE;
             }
-            return 13;
+            return number::NO_ROW;
         }
-        return 2;
+        return number::BAD_KIND;
     }
-    1
+    number::BAD_SETUP
 }
 
 // The part, and what another event is refused with where it stands.
 fn refusal_at(event: Event, counts: Counts, part: u8) -> u8
     ensures { λ r. ⌜ r ≡ refusalAt event counts part ⌝ }
 {
-    if (1 <= part) & (part <= 3) {
+    if (1 <= part) & (part <= range::PART_MOST) {
         return ranges::refusal(standing_at(part), event, counts);
     }
-    1
+    number::BAD_SETUP
 }
 
 // The number that an event is refused with at a part, or 0.
@@ -286,10 +289,10 @@ fn put_bus(event: BusEvent, out: &mut [u8]) -> Wrote
     ensures { λ r. ⌜ Writes (recordFor (OnBus event) noCounts) (now (out .entry)) r (now (out .exit)) ⌝ }
 {
     match event {
-        BusEvent::Start => write_bare(out, 0x0010),
-        BusEvent::Out(b) => write_byte(out, 0x0011, b),
-        BusEvent::In(refused) => write_byte(out, 0x0012, bit_of(refused)),
-        BusEvent::Stop => write_bare(out, 0x0013),
+        BusEvent::Start => write_bare(out, kind::START),
+        BusEvent::Out(b) => write_byte(out, kind::OUT, b),
+        BusEvent::In(refused) => write_byte(out, kind::IN, bit_of(refused)),
+        BusEvent::Stop => write_bare(out, kind::STOP),
     }
 }
 
@@ -300,20 +303,20 @@ fn put_event(event: Event, counts: Counts, out: &mut [u8]) -> Wrote
 {
     match event {
         Event::Setup(setup) => write_setup(out, setup),
-        Event::Por => write_bare(out, 0x0001),
-        Event::Boot => write_bare(out, 0x0002),
-        Event::Scan => write_counts(out, 0x0003, counts),
-        Event::Temp => write_counts(out, 0x0004, counts),
-        Event::Count(n) => write_word(out, 0x0005, n),
-        Event::Sense(v) => write_long(out, 0x0006, bits_of(v)),
-        Event::Pin => write_bare(out, 0x0007),
-        Event::Load(level) => write_byte(out, 0x0008, bit_of(level)),
-        Event::Xready => write_bare(out, 0x0009),
+        Event::Por => write_bare(out, kind::POR),
+        Event::Boot => write_bare(out, kind::BOOT),
+        Event::Scan => write_counts(out, kind::SCAN, counts),
+        Event::Temp => write_counts(out, kind::TEMP, counts),
+        Event::Count(n) => write_word(out, kind::COUNT, n),
+        Event::Sense(v) => write_long(out, kind::SENSE, bits_of(v)),
+        Event::Pin => write_bare(out, kind::PIN),
+        Event::Load(level) => write_byte(out, kind::LOAD, bit_of(level)),
+        Event::Xready => write_bare(out, kind::XREADY),
         Event::OnBus(bus) => put_bus(bus, out),
-        Event::Level(level) => write_byte(out, 0x0015, bit_of(level)),
-        Event::Ticks(v, n) => write_ticks(out, 0x0014, bits_of(v), n),
-        Event::Soak(v, n) => write_soak(out, 0x0017, bits_of(v), n),
-        Event::Wires(cells) => write_byte(out, 0x0016, cells),
+        Event::Level(level) => write_byte(out, kind::LEVEL, bit_of(level)),
+        Event::Ticks(v, n) => write_ticks(out, kind::TICKS, bits_of(v), n),
+        Event::Soak(v, n) => write_soak(out, kind::SOAK, bits_of(v), n),
+        Event::Wires(cells) => write_byte(out, kind::WIRING, cells),
     }
 }
 

@@ -19,7 +19,7 @@ returns-2 : tie.Need-returns-2
 returns-2 c =
     let a = c .before .before .before .before in
     let e = Temp (take (groups (a .args .chip .setup)) (a .args .counts)) in
-    in-normal e (a .args .chip) (not-false _ (c .before .before .if1 .left)) (c .quiet2 .ensures ∙ ap (numbered 0) (c .before .warmed .ensures) ∙ sym (settles (normally e (a .args .chip)) (a .pre)))
+    in-normal e (a .args .chip) (not-false _ (c .before .before .if1 .left)) (c .numbered2 .ensures ∙ ap (numbered 0) (c .before .warmed .ensures) ∙ sym (settles (normally e (a .args .chip)) (a .pre)))
 
 pub heated-spec : {M : Type 1} → statement M
 heated-spec = tie.close (tie.spec (λ c κs. search needs) returns (λ c κs. search needs) (λ c κs. search needs) returns-2)

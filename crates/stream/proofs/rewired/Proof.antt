@@ -19,7 +19,7 @@ returns-3 : tie.Need-returns-3
 returns-3 c =
     let w = c .before .before .before in
     let a = w .before .before .args in
-    wires-fresh (a .cells) (a .chip) {op = a .fresh} (not-false _ (w .before .if1 .left)) (w .wire .ensures) (c .before .enum-told .given .1) (c .quiet2 .ensures)
+    wires-fresh (a .cells) (a .chip) {op = a .fresh} (not-false _ (w .before .if1 .left)) (w .wire .ensures) (c .before .enum-told .given .1) (c .numbered2 .ensures)
 
 pub rewired-spec : {M : Type 1} → statement M
 rewired-spec =

@@ -39,7 +39,7 @@ returns-2 : tie.Need-returns-2
 returns-2 c =
     let r = c .before .before .before .before .before .before in
     let a = start r .args in
-    refused (a .fresh) (a .chip) (a .rest .now) (r .read-rest .result) (r .read-rest .ensures) _ _ (c .before .before .before .before .number .given .1) (c .before .before .quiet2 .ensures) (c .told2 .ensures)
+    refused (a .fresh) (a .chip) (a .rest .now) (r .read-rest .result) (r .read-rest .ensures) _ _ (c .before .before .before .before .number .given .1) (c .before .before .numbered2 .ensures) (c .told2 .ensures)
 
 returns-3 : tie.Need-returns-3
 returns-3 c =

@@ -5,31 +5,31 @@ use Rattle.bus.proofs.Bus.wants.Tie as tie
 
 returns : tie.Need-returns
 unfolding wanted
-returns c = simp (c .enum-told .byteGiven .1)
+returns c = simp (c .enum-told .given .1)
 
 returns-2 : tie.Need-returns-2
 unfolding wanted
-returns-2 c = simp (c .enum-told2 .byteGiven .1)
+returns-2 c = simp (c .enum-told2 .given .1)
 
 returns-3 : tie.Need-returns-3
 unfolding wanted
-returns-3 c = simp (c .enum-told3 .byteGiven .1)
+returns-3 c = simp (c .enum-told3 .given .1)
 
 returns-4 : tie.Need-returns-4
 unfolding wanted
-returns-4 c = simp (c .enum-told4 .byteGiven .1)
+returns-4 c = simp (c .enum-told4 .given .1)
 
 returns-5 : tie.Need-returns-5
 unfolding wanted
-returns-5 c = simp (c .enum-told5 .byteGiven .1)
+returns-5 c = simp (c .enum-told5 .given .1)
 
 returns-6 : tie.Need-returns-6
 unfolding wanted
-returns-6 c = simp (c .enum-told6 .byteGiven .1)
+returns-6 c = simp (c .enum-told6 .given .1)
 
 returns-7 : tie.Need-returns-7
 unfolding wanted
-returns-7 c = simp (c .enum-told7 .byteGiven .1)
+returns-7 c = simp (c .enum-told7 .given .1)
 
 pub wants-spec : {M : Type 1} → statement M
 wants-spec =

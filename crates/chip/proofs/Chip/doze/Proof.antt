@@ -4,16 +4,16 @@ use Rattle.chip.proofs.Chip.doze.Statement.{statement}
 use Rattle.chip.proofs.Chip.doze.Tie as tie
 
 returns : tie.Need-returns
-returns c = rw (c .before .enum-told .takenBy .1) (c .numbered .ensures)
+returns c = rw (c .before .enum-told .given .1) (c .numbered .ensures)
 
 returns-2 : tie.Need-returns-2
-returns-2 c = rw (c .before .enum-told2 .takenBy .1) (c .answered .ensures)
+returns-2 c = rw (c .before .enum-told2 .given .1) (c .answered .ensures)
 
 returns-3 : tie.Need-returns-3
-returns-3 c = rw (c .before .enum-told3 .takenBy .1) (c .answered2 .ensures)
+returns-3 c = rw (c .before .enum-told3 .given .1) (c .answered2 .ensures)
 
 returns-4 : tie.Need-returns-4
-returns-4 c = rw (c .before .enum-told4 .takenBy .1) (c .quiet2 .ensures)
+returns-4 c = rw (c .before .enum-told4 .given .1) (c .numbered2 .ensures)
 
 pub doze-spec : {M : Type 1} → statement M
 doze-spec =

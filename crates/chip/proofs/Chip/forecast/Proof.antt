@@ -11,21 +11,21 @@ use Rattle.chip.proofs.Chip.forecast.Tie as tie
 returns : tie.Need-returns
 returns c = asleep-number (c .before .before .args .self) (not-true _ (c .if1 .taken))
 
--- the chip, which is awake, and what its connected cells hold
+-- the chip, which is normal, and what its connected cells hold
 module _ (l : tie.After-link) where
   abbrev chip : Chip
   chip = l .before .before .before .before .before .before .before .args .self
 
-  awake : chip .normal ≡ true
+  normal : chip .normal ≡ true
   normal = not-false _ (l .before .before .before .before .before .if1 .left)
 
 returns-2 : tie.Need-returns-2
-returns-2 c = let l = c .before .before in none-number (chip l) (l .link .result) (l .link .ensures) (awake l) (c .if2 .taken)
+returns-2 c = let l = c .before .before in none-number (chip l) (l .link .result) (l .link .ensures) (normal l) (c .if2 .taken)
 
 returns-3 : tie.Need-returns-3
 returns-3 c =
     let l = c .before .before .before .before in
-    (given-number (chip l) (l .link .result) (l .link .ensures) (awake l) (c .before .before .if2 .left), pack-reads (chip l) (l .link .result) (c .forecast .result) (l .link .ensures) (c .forecast .ensures))
+    (given-number (chip l) (l .link .result) (l .link .ensures) (normal l) (c .before .before .if2 .left), pack-reads (chip l) (l .link .result) (c .forecast .result) (l .link .ensures) (c .forecast .ensures))
 
 pub forecast-spec : {M : Type 1} → statement M
 forecast-spec =

@@ -24,7 +24,7 @@ returns-2 c =
     let i = c .before .before .before in
     let l = i .before in
     let a = l .before in
-    in-range (Sense _) (a .args .self) (ap senseFits (sym (toZ-ofZ {w = w32} (a .fits .value))) ∙ sym (l .sense-fits .ensures) ∙ not-false _ (i .if1 .left)) (in-sleep (Sense _) (a .args .self) (not-true _ (c .before .if2 .taken)) (c .quiet2 .ensures))
+    in-range (Sense _) (a .args .self) (ap senseFits (sym (toZ-ofZ {w = w32} (a .fits .value))) ∙ sym (l .sense-fits .ensures) ∙ not-false _ (i .if1 .left)) (in-sleep (Sense _) (a .args .self) (not-true _ (c .before .if2 .taken)) (c .numbered2 .ensures))
 
 returns-3 : tie.Need-returns-3
 unfolding fits

@@ -18,7 +18,7 @@ returns-2 : tie.Need-returns-2
 returns-2 c =
     let i = c .before .before in
     let a = i .before .before in
-    ticked-none (a .args .repeat) _ (a .args .self) (not-false _ (i .if1 .left)) (c .before .if2 .taken) (c .quiet2 .ensures)
+    ticked-none (a .args .repeat) _ (a .args .self) (not-false _ (i .if1 .left)) (c .before .if2 .taken) (c .numbered2 .ensures)
 
 returns-3 : tie.Need-returns-3
 returns-3 c =
@@ -32,7 +32,7 @@ returns-3 c =
     (o .judged-by .ensures ∙ ap (λ v. tickedBy (ticksJudged 1 (a .args .self .registers .settings) v (a .args .self .runs)) (a .args .self)) e)
     (w .watched .ensures)
     (r .judged-by2 .ensures ∙ ap (λ v. tickedBy (ticksJudged (a .args .repeat - 1) (w .watched .result .registers .settings) v (w .watched .result .runs)) (w .watched .result)) e)
-    (c .quiet3 .ensures)
+    (c .numbered3 .ensures)
 
 pub ticked-spec : {M : Type 1} → statement M
 ticked-spec =

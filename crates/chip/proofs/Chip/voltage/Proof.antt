@@ -43,7 +43,7 @@ module _ (c : tie.After-input-of) where
   most : n ≤ packCells (chip .setup)
   most = rw (tested .cells .ensures) at (c .before .before .before .if3 .left)
 
-  awake : chip .normal ≡ true
+  normal : chip .normal ≡ true
   normal = not-false _ (tested .before .before .if1 .left)
 
   -- what the register of its input holds
@@ -57,16 +57,16 @@ sub-cell c = omega (arith, c .input-of .ensures, numbers (chip c .setup) .wired 
 asked : (c : tie.After-converts) → c .converts .result ≡ connected (chip (c .before .before) .setup) (chip (c .before .before) .registers .measured .cells) (inputOf (chip (c .before .before) .setup) (n (c .before .before)))
 asked c =
     let p = c .before .before in
-    c .converts .ensures ∙ ap (converts (chip p .setup)) (held p (c .before .cell .ensures)) ∙ holds-linked (n p) (chip p) (awake p) (one p) (most p)
+    c .converts .ensures ∙ ap (converts (chip p .setup)) (held p (c .before .cell .ensures)) ∙ holds-linked (n p) (chip p) (normal p) (one p) (most p)
 
 returns-4 : tie.Need-returns-4
-returns-4 c = let p = c .before .before .before in apart-said (n p) (chip p) (awake p) (one p) (most p) (sym (asked (c .before)) ∙ not-true _ (c .if4 .taken))
+returns-4 c = let p = c .before .before .before in apart-said (n p) (chip p) (normal p) (one p) (most p) (sym (asked (c .before)) ∙ not-true _ (c .if4 .taken))
 
 returns-5 : tie.Need-returns-5
 returns-5 c =
     let p = c .before .before .before .before in
     ap (λ (z : ℤ). gives z) (c .cell-microvolts .ensures ∙ ap (cellMicrovolts (chip p .setup .«gain_code») (chip p .setup .offset)) (held p (c .before .before .before .cell .ensures)))
-    ∙ cell-said (n p) (chip p) (awake p) (one p) (most p) (sym (asked (c .before .before)) ∙ not-false _ (c .before .if4 .left))
+    ∙ cell-said (n p) (chip p) (normal p) (one p) (most p) (sym (asked (c .before .before)) ∙ not-false _ (c .before .if4 .left))
 
 pub voltage-spec : {M : Type 1} → statement M
 voltage-spec =

@@ -1,7 +1,7 @@
 -- `Registers::held` meets its contract, by what is shown.
 use borrow.Author.Needs.{needs}
-use Rattle.registers.proofs.Registers.pulledByLevel.Statement.{statement}
-use Rattle.registers.proofs.Registers.pulledByLevel.Tie as tie
+use Rattle.registers.proofs.Registers.pulled_by_level.Statement.{statement}
+use Rattle.registers.proofs.Registers.pulled_by_level.Tie as tie
 
 returns : tie.Need-returns
 returns c = cc

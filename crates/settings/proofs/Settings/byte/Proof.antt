@@ -27,7 +27,7 @@ returns-5 c = simp (c .match .keys5)
 
 returns-6 : tie.Need-returns-6
 unfolding settingsByte
-returns-6 c = simp (c .before .match .keys6, c .cfg-of .ensures)
+returns-6 c = simp (c .before .match .keys6, c .cc-cfg-of .ensures)
 
 returns-7 : tie.Need-returns-7
 unfolding settingsByte

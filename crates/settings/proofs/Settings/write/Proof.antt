@@ -35,7 +35,7 @@ returns-7 c = simp (c .match .keys7)
 
 returns-8 : tie.Need-returns-8
 unfolding settingsWith
-returns-8 c = simp (c .before .match .keys8, c .cfg-of .ensures)
+returns-8 c = simp (c .before .match .keys8, c .cc-cfg-of .ensures)
 
 returns-9 : tie.Need-returns-9
 unfolding settingsWith

@@ -1,8 +1,8 @@
 -- `bit` meets its contract: a quotient by 0 is 0.
 use native.Mathlib.Nat.{div-zero}
 use borrow.Author.Needs.{needs}
-use Rattle.settings.proofs.bit.Statement.{statement}
-use Rattle.settings.proofs.bit.Tie as tie
+use Rattle.bits.proofs.bit.Statement.{statement}
+use Rattle.bits.proofs.bit.Tie as tie
 
 returns : tie.Need-returns
 returns c = simp (c .if1 .taken, div-zero)
