@@ -1,4 +1,4 @@
--- Request M-112: the plain engine. The chip that it keeps has no runs; at a scan or tick it is lent, for that one record, what the
+-- CHIP P11: the plain engine. The chip that it keeps has no runs; at a scan or tick it is lent, for that one record, what the
 -- records before it say by themselves. Assumes nothing.
 use mathlib.Core.Path.{_≡_}
 use mathlib.Core.Bool.{Bool, true, false, cond, _&&_}

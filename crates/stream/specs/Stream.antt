@@ -1,4 +1,4 @@
--- Document 01, "Values on the way out" and "Numbers given back": a whole stream, and the five bytes that each record gives. Assumes
+-- CHIP P1 to P7: a whole stream, and the five bytes that each record gives. Assumes
 -- nothing.
 use mathlib.Core.Path.{_≡_}
 use Prim.Native.Nat.{ℕ, zero, suc, _+_, _-_, _*_, _/_}
@@ -61,7 +61,7 @@ entryOf s = entryWith (answerOf s) (faceOf (s .chip))
 abbrev pub bornOf : SetupValues → Stepped
 bornOf v = numbered 0 (inShip v)
 
--- request M-107: a wiring record makes the chip anew, with its cells; it is taken straight after SETUP, and elsewhere it is 2
+-- a wiring record makes the chip anew, with its cells, where it is taken (CHIP W1)
 abbrev pub wiredAs : Wiring → Chip → Stepped
 wiredAs (With u) c = bornOf u
 wiredAs NoRow c = numbered (wiredNumber NoRow) c
