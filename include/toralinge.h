@@ -7,9 +7,8 @@
  * toralinge_bleed and toralinge_reply, season_stream for toralinge_season, plain for toralinge_plain, and
  * stream for all other calls.
  *
- * "Document 01" is the paper that gives the rules; requests of document 02 have added to it and changed
- * some (docs/landings). Every call here answers for every value of its arguments, and is proved to
- * answer exactly as these papers say.
+ * The rules stand in docs/CHIP.md, each with a number. Every call here answers for every value of its
+ * arguments, and is proved to answer exactly as these rules say.
  *
  * What every call asks of its caller:
  *   - no pointer is NULL, also where its length or room is 0;
@@ -104,7 +103,7 @@ enum toralinge_season_place {
  * Plays a whole stream of records on a new chip and writes one entry of five bytes for each record.
  *
  * stream, length   the records: payload length (2 bytes), kind (2 bytes), payload, little-endian.
- *                  Kinds 0000 to 0013 are document 01's. Kinds of later requests:
+ *                  Kinds 0000 to 0013 are in the table of docs/CHIP.md, with these:
  *                    0014  ticks of one value: 4 bytes signed, as SENSE has them, and a repeat number of
  *                          2 bytes, 1 to 4,096; one entry for the whole
  *                    0015  the outside level, one byte: while it is 1 a second protector holds ALERT
@@ -280,7 +279,8 @@ uint8_t toralinge_crc8(uint8_t start, const uint8_t *bytes, size_t length);
  *
  * Returns how many bytes the records are, from records[0] on; every later byte keeps its value. Each
  * message is START, OUT of its address byte, and an OUT or IN for each of its bytes; in a read every
- * byte is acknowledged but the last. STOP comes after the last message. No SETUP is written.
+ * byte is acknowledged but the last. STOP comes after the last message. No SETUP is written. Playing goes
+ * on after a byte that is not acknowledged, where an adapter of Linux stops.
  *
  * Otherwise writes nothing and returns, looked at in this order: -20 (not a list of this grammar),
  * -21 (an address outside 0x08 to 0x77), -5 (the records do not fit into room). A message takes 9 bytes

@@ -1,5 +1,5 @@
 # shellcheck shell=bash
-# Sourced by ./play, ./forecast, ./listing, ./library, .ci/run and the scripts of tests/. What the proved crates are built into is for x86-64 Linux:
+# Sourced by ./play, ./forecast, ./listing, ./library, ./bench, ./bench-event, .ci/run and the scripts of tests/. What the proved crates are built into is for x86-64 Linux:
 # elsewhere it is compiled for with Debian's cross compiler and run under qemu-user.
 # shellcheck disable=SC2034,SC2154  # me, root and usage are set, runner, compiler, program and library read by the script that sources this
 
@@ -13,6 +13,9 @@ native() {
     [[ $(uname -s) = Linux && $(uname -m) = x86_64 ]]
 }
 
+# The status where a package is missing and cannot be installed.
+lacking=1
+
 # want COMMAND-OR-FILE PACKAGE..: installs the packages where the command or the file is missing.
 want() {
     local thing=$1
@@ -21,19 +24,19 @@ want() {
         return
     fi
     if ! command -v apt-get >/dev/null; then
-        give_up 1 "$thing is missing and there is no apt-get: install $* by hand"
+        give_up "$lacking" "$thing is missing and there is no apt-get: install $* by hand"
     fi
     if [[ $(id -u) != 0 ]]; then
-        give_up 1 "$thing is missing: run 'apt-get install $*' as root"
+        give_up "$lacking" "$thing is missing: run 'apt-get install $*' as root"
     fi
     printf '%s: installs %s\n' "$me" "$*" >&2
     export DEBIAN_FRONTEND=noninteractive
     if ! { apt-get install -y --no-install-recommends "$@" || { apt-get update && apt-get install -y --no-install-recommends "$@"; }; } \
         >&2 </dev/null; then
-        give_up 1 "apt-get cannot install $*"
+        give_up "$lacking" "apt-get cannot install $*"
     fi
     if ! command -v -- "$thing" >/dev/null && [[ ! -e $thing ]]; then
-        give_up 1 "$thing is still missing after installing $*"
+        give_up "$lacking" "$thing is still missing after installing $*"
     fi
 }
 
@@ -73,7 +76,7 @@ want_library() {
 }
 
 # The crates whose calls include/toralinge.h declares.
-calls=(stream i2c_lists services_stream season_stream plain)
+calls=(stream values_c i2c_lists services_stream season_stream plain)
 
 # want_calls: all of them in one library; sets `library`.
 want_calls() {
@@ -97,6 +100,28 @@ want_calls() {
     rm -rf "$room"
 }
 
+# want_shared: the same as a shared library; sets `shared`.
+want_shared() {
+    want_calls
+    want_compiler
+    shared=$root/target/libtoralinge.so
+    if [[ ! -e $shared || $library -nt $shared ]]; then
+        "${compiler[@]}" -shared -Wl,--whole-archive "$library" -Wl,--no-whole-archive -Wl,-soname,libtoralinge.so -o "$shared"
+    fi
+}
+
+# want_bus: umockdev with its binding for Python, and i2c-tools where they can be installed.
+want_bus() {
+    local triplet
+    triplet=$(/usr/bin/python3 -c 'import sysconfig; print(sysconfig.get_config_var("MULTIARCH"))')
+    want umockdev-run umockdev
+    want /usr/lib/python3/dist-packages/gi python3-gi
+    want "/usr/lib/$triplet/girepository-1.0/UMockdev-1.0.typelib" gir1.2-umockdev-1.0
+    if [[ $(id -u) = 0 ]]; then
+        want /usr/sbin/i2cget i2c-tools
+    fi
+}
+
 # want_built NAME FILE VERB: has rt make FILE unless it is newer than every source.
 want_built() {
     local built=$root/target/$1.built since name=${1#lib}
@@ -107,8 +132,38 @@ want_built() {
         fi
     done
     command -v rt >/dev/null || give_up 1 "${2#"$root"/} is to be built, and there is no rt to prove and build it"
-    (cd "$root" && rt "$3" "$name") >&2 || give_up 1 "rt $3 $name does not pass"
+    proved "$3" "$name" || give_up 1 "rt $3 $name does not pass: target/log/$name.log has what it said"
     touch "$built"
+}
+
+# standing_on NAME: the crates of the repository that NAME stands on, and NAME itself.
+standing_on() {
+    awk -v name="$1" '
+        /^[^#]*:/ { sub(/#.*/, ""); crate = $1; sub(/:.*/, "", crate); sub(/^[^:]*:/, ""); below[crate] = $0 }
+        function take(crate,    words, n, i) {
+            if (!(crate in below) || crate in taken) return
+            taken[crate] = 1
+            n = split(below[crate], words, " ")
+            for (i = 1; i <= n; i++) take(words[i])
+        }
+        END { take(name); for (crate in taken) print crate }
+    ' "$root/crates.txt"
+}
+
+# proved VERB NAME: rt VERB NAME, with a line for each crate that is proved anew and how many are left; all else that rt says goes to a log.
+proved() {
+    local log=$root/target/log/$2.log left
+    mkdir -p "$root/target/log"
+    left=$(standing_on "$2" | wc -l)
+    printf '%s: rt %s %s proves %d crates where they changed; target/log/%s.log has what it says\n' "$me" "$1" "$2" "$left" "$2" >&2
+    (cd "$root" && rt "$1" "$2" 2>&1) | tee "$log" | awk -v me="$me" -v left="$left" '
+        /^rt: [a-z0-9_]+ proved/ {
+            left--
+            if ($0 !~ /unchanged/) { printf "%s: %s is proved %s, %d left\n", me, $2, $4 " " $5, left; fflush() }
+        }
+        /NOT PROVED/ { printf "%s: %s\n", me, $0; fflush() }
+    ' >&2
+    return "${PIPESTATUS[0]}"
 }
 
 # want_input WORD..: one file at most, which can be read, or standard input that is no terminal; `usage` says what is asked for.

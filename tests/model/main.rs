@@ -1,4 +1,4 @@
-//! A second Toralinge, written from documents 01 and 02 alone, to hold the proved library against. See ../README.md.
+//! A second Toralinge, written from the rules alone, to hold the proved library against. See ../README.md.
 
 mod asks;
 mod cases;
@@ -183,7 +183,7 @@ fn forecast(bytes: &[u8]) -> String {
 fn run(words: &[String]) -> Result<(), String> {
     let (mode, rest) = words.split_first().ok_or(USAGE)?;
     match mode.as_str() {
-        "cases" => println!("model: {} cases of document 01 hold", cases::check()),
+        "cases" => println!("model: {} cases of docs/CHIP.md hold", cases::check()),
         "plants" => println!("{}", plants(&options(rest)?)?),
         "generate" => generate(&options(rest)?).map_err(|e| format!("model: {e}"))?,
         "stream" => {

@@ -1,4 +1,4 @@
-//! Records, entries and the lines of the program, as document 01 gives them.
+//! Records, entries and the lines of the program, as CHIP R1 to R8 and P1 to P13 give them.
 
 use crate::chip::{wiring, Chip, Setup};
 use crate::plant::Plant;

@@ -1,4 +1,4 @@
--- Document 01, "Both sides of each line": all that `play` prints for its input. Assumes nothing.
+-- CHIP P12: all that `play` prints for its input. Assumes nothing.
 use mathlib.Core.Path.{_≡_}
 use Prim.Native.Nat.{ℕ, suc, _+_, _*_, _≤_}
 use mathlib.Core.List.{List, [], _∷_, _++_}
@@ -25,7 +25,7 @@ abbrev pub linesFrom : ℕ → List ℕ → List Entry → List ℕ
 linesFrom n rest [] = []
 linesFrom n rest (e ∷ es) = lineOf n rest e ++ linesFrom (suc n) (drop (frameOf rest) rest) es
 
--- it ends where the C call's entries end
+-- it ends where the entries end
 unfoldable pub textOf : List ℕ → List ℕ
 textOf s = cond (ltb mostInput (length s)) tooLong (linesFrom 0 s (entries s))
 
@@ -55,8 +55,8 @@ pub record Puts (most : ℕ) (text : List ℕ) (at : ℕ) (old : List ℕ) (r : 
   pub few : r ≤ at + most
   pub wrote : new ≡ sets old at text
 
--- a text and a lent buffer: it stands at the start, every later byte is kept, and how many bytes it has is answered; or −5 where the buffer is
--- too short for all of it, which then keeps every byte
+-- a text and a lent buffer: it stands at the start, every later byte is kept, and how many bytes it has is answered; or −5 where the
+-- buffer is too short for all of it, which then keeps every byte
 pub record Written (text old : List ℕ) (r : ℤ) (new : List ℕ) : Type 0 where
   pub answer : r ≡ cond (leb (length text) (length old)) (pos (length text)) (negsuc 4)
   pub contents : new ≡ cond (leb (length text) (length old)) (text ++ drop (length text) old) old

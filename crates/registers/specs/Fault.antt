@@ -1,4 +1,4 @@
--- Document 01, "Judging": what a fault raises and puts off. Assumes nothing.
+-- CHIP J13: what a fault raises and puts off. Assumes nothing.
 use mathlib.Core.Bool.{Bool, true, false, not, _&&_, _||_}
 use Rattle.events.specs.Fault.{Fault, Ov, Uv, Scd, Ocd}
 use Rattle.registers.specs.declared.Status.{Status}
@@ -10,7 +10,7 @@ bitOf Uv t = t .uv
 bitOf Scd t = t .scd
 bitOf Ocd t = t .ocd
 
--- ── a fault puts off: OV charge; UV, OCD, SCD discharge ──
+-- ── the four faults ──
 abbrev pub driveOf : Fault → Shown → Bool
 driveOf Ov s = s .«chg_on»
 driveOf Uv s = s .«dsg_on»
@@ -35,12 +35,20 @@ raised r s =
       «chg_on» = not (r Ov) && s .«chg_on»;
     }
 
--- OVRD_ALERT and XREADY put off both
+-- OVRD_ALERT and XREADY, which put off both
 abbrev pub overridden : Shown → Shown
 overridden s =
     record {
       status =
-          record { «cc_ready» = s .status .«cc_ready»; xready = s .status .xready; «ovrd_alert» = true; uv = s .status .uv; ov = s .status .ov; scd = s .status .scd; ocd = s .status .ocd };
+          record {
+            «cc_ready» = s .status .«cc_ready»;
+            xready = s .status .xready;
+            «ovrd_alert» = true;
+            uv = s .status .uv;
+            ov = s .status .ov;
+            scd = s .status .scd;
+            ocd = s .status .ocd;
+          };
       «cc_oneshot» = s .«cc_oneshot»;
       «dsg_on» = false;
       «chg_on» = false;
@@ -50,18 +58,34 @@ abbrev pub readied : Shown → Shown
 readied s =
     record {
       status =
-          record { «cc_ready» = s .status .«cc_ready»; xready = true; «ovrd_alert» = s .status .«ovrd_alert»; uv = s .status .uv; ov = s .status .ov; scd = s .status .scd; ocd = s .status .ocd };
+          record {
+            «cc_ready» = s .status .«cc_ready»;
+            xready = true;
+            «ovrd_alert» = s .status .«ovrd_alert»;
+            uv = s .status .uv;
+            ov = s .status .ov;
+            scd = s .status .scd;
+            ocd = s .status .ocd;
+          };
       «cc_oneshot» = s .«cc_oneshot»;
       «dsg_on» = false;
       «chg_on» = false;
     }
 
--- COUNT raises CC_READY and drops CC_ONESHOT
+-- CC_READY (CHIP J16)
 abbrev pub counting : Shown → Shown
 counting s =
     record {
       status =
-          record { «cc_ready» = true; xready = s .status .xready; «ovrd_alert» = s .status .«ovrd_alert»; uv = s .status .uv; ov = s .status .ov; scd = s .status .scd; ocd = s .status .ocd };
+          record {
+            «cc_ready» = true;
+            xready = s .status .xready;
+            «ovrd_alert» = s .status .«ovrd_alert»;
+            uv = s .status .uv;
+            ov = s .status .ov;
+            scd = s .status .scd;
+            ocd = s .status .ocd;
+          };
       «cc_oneshot» = false;
       «dsg_on» = s .«dsg_on»;
       «chg_on» = s .«chg_on»;

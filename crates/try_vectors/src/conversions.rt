@@ -1,4 +1,4 @@
-// Document 01, "Values on the way out": conversions on grids that have both sides of every line.
+// CHIP V2 to V8: conversions on grids that have both sides of every line.
 ghost use Rattle.try_vectors.specs.Number.{IsNumber};
 use libc::STDOUT_FILENO;
 use values::CellVoltage;
@@ -122,7 +122,7 @@ fn put_signed(v: i64) {
     if v < 0 {
         io::write_all(STDOUT_FILENO, b"-");
     }
-    io::print_decimal(STDOUT_FILENO, absolute::size_of(v));
+    io::print_decimal(STDOUT_FILENO, try_print::size_of(v));
 }
 
 fn put_refusal(why: Refusal) {

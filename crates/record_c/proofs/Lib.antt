@@ -1,0 +1,5 @@
+pub mod Tests
+pub mod Ints
+pub mod Meant
+pub mod Laid
+pub mod Told

@@ -1,0 +1,138 @@
+-- The cases of what values mean, as the code comes to them. Assumes nothing.
+use mathlib.Core.Path.{_≡_, refl, sym, ap, _∙_, subst}
+use mathlib.Core.Bool.{Bool, true, false, cond, _&&_}
+use mathlib.Core.Logic.{_≢_}
+use mathlib.Core.List.{List, [], _∷_, _++_, map}
+use Prim.Native.Nat.{ℕ, zero, suc, _+_, _%_, _^_, _<_, _≤_}
+use native.Mathlib.Omega.{arith}
+use native.Mathlib.Numerals.{add-one}
+use lib.Dec.{eqb, leb}
+use lib.IntN.{ℤ, pos}
+use lib.ListN.{length, getD, take, drop, set, length-map}
+use lib.Seq.{drop-cons, take-suc, take-all, length-take-le}
+use lib.Signed.{mag}
+use mir.Syntax.{w64}
+use mir.Val.{toZ, ofZ}
+use borrow.Author.Tests.{ne-eqb, eq-eqb, le-leb, lt-leb, leb-true}
+use Rattle.events.specs.Setup.{checkedOf}
+use Rattle.events.specs.Event.{within, countMost, senseFits, ticksFit}
+use Rattle.events.specs.declared.Checked.{Checked}
+use Rattle.events.specs.declared.Counts.{Counts}
+use Rattle.events.specs.declared.Event.{Event}
+use Rattle.events.specs.declared.Event.the-variants.{Sense}
+use Rattle.records.specs.Kind.{SETUP}
+use Rattle.records.specs.Numbers.{filled}
+use Rattle.records.specs.Record.{checkedIn}
+use Rattle.records.specs.SoundLaws.{and-left, and-right}
+use Rattle.records.specs.declared.Payload.{Payload}
+use Rattle.records.specs.declared.Payload.the-variants.{Whole, Unfit}
+use Rattle.record_c.specs.Values.{natOf, natAt, valueAt, byteOf, wordOf, setupBy, senseBy, repeatBy, countOf, countsBy, laterBy, partBy, eventBy}
+use Rattle.record_c.proofs.Ints.{same}
+
+-- a value as the code reads it
+abbrev pub bitsAt : List ℤ → ℕ → ℤ
+bitsAt vs i = toZ w64 (ofZ w64 (getD vs i (pos 0)))
+
+pub nat-at : (vs : List ℤ) (i n : ℕ) → mag (getD vs i (pos 0)) < 2 ^ 63 → n ≡ natOf (bitsAt vs i) → n ≡ natAt vs i
+nat-at vs i n g e = e ∙ ap natOf (same (getD vs i (pos 0)) g)
+
+-- one value, up to the most
+module _ (f : ℕ → Payload) (most k : ℕ) (vs : List ℤ) (l : length vs ≡ 1) (n : ℕ) (g : mag (getD vs 0 (pos 0)) < 2 ^ 63) (e : n ≡ natOf (bitsAt vs 0)) where
+  pub one-in : n ≤ most → f n ≡ cond (eqb (length vs) 1) (cond (leb (natAt vs 0) most) (f (natAt vs 0)) (Unfit k)) (Unfit 2)
+  one-in h = let q : n ≡ natAt vs 0 = nat-at vs 0 n g e in simp (eq-eqb (length vs) 1 l, le-leb (natAt vs 0) most (subst (λ (m : ℕ). m ≤ most) q h)) (ap f q)
+
+  pub one-out : most < n → Unfit k ≡ cond (eqb (length vs) 1) (cond (leb (natAt vs 0) most) (f (natAt vs 0)) (Unfit k)) (Unfit 2)
+  one-out h = let q : n ≡ natAt vs 0 = nat-at vs 0 n g e in simp (eq-eqb (length vs) 1 l, lt-leb (natAt vs 0) most (subst (λ (m : ℕ). most < m) q h))
+
+-- a value of SENSE
+module _ (vs : List ℤ) (l : length vs ≡ 1) (g : mag (getD vs 0 (pos 0)) < 2 ^ 63) (t : Bool) (e : t ≡ senseFits (bitsAt vs 0)) where
+  pub sense-in : (z : ℤ) → z ≡ bitsAt vs 0 → t ≡ true → Whole (Sense z) ≡ senseBy vs
+  sense-in z q h = simp (eq-eqb (length vs) 1 l, sym (e ∙ ap senseFits (same (getD vs 0 (pos 0)) g)) ∙ h) (ap (λ (z : ℤ). Whole (Sense z)) (q ∙ same (getD vs 0 (pos 0)) g))
+
+  pub sense-out : t ≡ false → Unfit 3 ≡ senseBy vs
+  sense-out h = simp (eq-eqb (length vs) 1 l, sym (e ∙ ap senseFits (same (getD vs 0 (pos 0)) g)) ∙ h)
+
+-- ticks of it
+module _ (f : ℤ → ℕ → Event) (most : ℕ) (vs : List ℤ) (l : length vs ≡ 2) (g : mag (getD vs 0 (pos 0)) < 2 ^ 63) (g1 : mag (getD vs 1 (pos 0)) < 2 ^ 63) (n : ℕ) (en : n ≡ natOf (bitsAt vs 1)) (t : Bool) (e : t ≡ senseFits (bitsAt vs 0)) where
+  fit : {u : Bool} → (t && leb 1 n && leb n most) ≡ u → ticksFit most (valueAt vs 0) (natAt vs 1) ≡ u
+  unfolding ticksFit
+  fit h = ap (λ (n : ℕ). senseFits (valueAt vs 0) && leb 1 n && leb n most) (sym (nat-at vs 1 n g1 en)) ∙ ap (λ (s : Bool). s && leb 1 n && leb n most) (sym (e ∙ ap senseFits (same (getD vs 0 (pos 0)) g))) ∙ h
+
+  pub ticks-near : (t && leb 1 n && leb n most) ≡ true → senseFits (bitsAt vs 0) ≡ true
+  ticks-near h = sym e ∙ and-left t (leb 1 n) (and-left (t && leb 1 n) (leb n most) h)
+
+  pub ticks-most : (t && leb 1 n && leb n most) ≡ true → n ≤ most
+  ticks-most h = leb-true n most (and-right (t && leb 1 n) (leb n most) h)
+
+  pub ticks-in : (z : ℤ) → z ≡ bitsAt vs 0 → (t && leb 1 n && leb n most) ≡ true → Whole (f z n) ≡ repeatBy f most vs
+  ticks-in z q h = simp (eq-eqb (length vs) 2 l, fit h) (ap (λ (z : ℤ). Whole (f z n)) (q ∙ same (getD vs 0 (pos 0)) g) ∙ ap (λ (n : ℕ). Whole (f (valueAt vs 0) n)) (nat-at vs 1 n g1 en))
+
+  pub ticks-out : (t && leb 1 n && leb n most) ≡ false → Unfit 3 ≡ repeatBy f most vs
+  ticks-out h = simp (eq-eqb (length vs) 2 l, fit h)
+
+-- SETUP
+six : {a b c d e f a′ b′ c′ d′ e′ f′ : ℕ} → a ≡ a′ → b ≡ b′ → c ≡ c′ → d ≡ d′ → e ≡ e′ → f ≡ f′ → checkedOf a b c d e f ≡ checkedOf a′ b′ c′ d′ e′ f′
+six p q r s t u = cc
+
+module _ (vs : List ℤ) (l : length vs ≡ 6) (n : ℕ) (g : mag (getD vs 4 (pos 0)) < 2 ^ 63) (e : n ≡ natOf (bitsAt vs 4)) where
+  pub setup-far : 255 < n → Unfit 1 ≡ setupBy vs
+  unfolding setupBy
+  setup-far h = simp (eq-eqb (length vs) 6 l, lt-leb (natAt vs 4) 255 (subst (λ (m : ℕ). 255 < m) (nat-at vs 4 n g e) h))
+
+  pub setup-is : n ≤ 255 → (x : Checked) (part crc address gain offset high floor : ℕ) → mag (getD vs 5 (pos 0)) < 2 ^ 63
+      → part ≡ byteOf (natAt vs 0) → crc ≡ byteOf (natAt vs 1) → address ≡ byteOf (natAt vs 2) → gain ≡ byteOf (natAt vs 3) → offset ≡ byteOf (natAt vs 4) → high ≡ natOf (bitsAt vs 5) → floor ≡ wordOf high
+      → x ≡ checkedOf part crc address gain offset floor → checkedIn x ≡ setupBy vs
+  unfolding setupBy
+  setup-is h x part crc address gain offset high floor g5 e0 e1 e2 e3 e4 e5 e6 q =
+      let m : floor ≡ wordOf (natAt vs 5) = e6 ∙ ap wordOf (nat-at vs 5 high g5 e5) in
+      simp (eq-eqb (length vs) 6 l, le-leb (natAt vs 4) 255 (subst (λ (m : ℕ). m ≤ 255) (nat-at vs 4 n g e) h)) (ap checkedIn (q ∙ six e0 e1 e2 e3 e4 m))
+
+-- the counts of an event, by its case
+pub at-counts : (vs : List ℤ) {r : Counts} {e e′ : Event} → e ≡ e′ → r ≡ countsBy e′ vs → r ≡ countsBy e vs
+at-counts vs q p = p ∙ ap (λ (e : Event). countsBy e vs) (sym q)
+
+-- ── counts ──
+-- a turn of the loop over counts: one out of range ends it, and another is passed
+module _ (vs : List ℤ) (i : ℕ) (h : i < length vs) (n : ℕ) (g : mag (getD vs i (pos 0)) < 2 ^ 63) (e : n ≡ natOf (bitsAt vs i)) where
+  pub count-not : countMost < n → within countMost (map natOf (drop i vs)) ≡ false
+  count-not k = rw (drop-cons vs i (pos 0) h) (simp (lt-leb (natAt vs i) countMost (subst (λ (m : ℕ). countMost < m) (nat-at vs i n g e) k)))
+
+  pub count-next : n ≤ countMost → within countMost (map natOf (drop (i + 1) vs)) ≡ within countMost (map natOf (drop i vs))
+  count-next k = rw (add-one i, drop-cons vs i (pos 0) h) (simp (le-leb (natAt vs i) countMost (subst (λ (m : ℕ). m ≤ countMost) (nat-at vs i n g e) k)))
+
+set-filled : (n : ℕ) (xs : List ℕ) (x : ℕ) → length xs < n → set (filled n xs) (length xs) x ≡ filled n (xs ++ (x ∷ []))
+set-filled zero xs x h = absurd (omega arith)
+set-filled (suc n) [] x h = refl
+set-filled (suc n) (y ∷ xs) x h = ap (λ (l : List ℕ). y ∷ l) (set-filled n xs x (omega arith))
+
+map-snoc : (xs : List ℤ) (x : ℤ) → map countOf (xs ++ (x ∷ [])) ≡ map countOf xs ++ (countOf x ∷ [])
+map-snoc [] x = refl
+map-snoc (y ∷ xs) x = ap (λ (l : List ℕ). countOf y ∷ l) (map-snoc xs x)
+
+-- the counts of the first values
+abbrev pub countsTo : List ℤ → ℕ → List ℕ
+countsTo vs i = filled 15 (map countOf (take i vs))
+
+pub counts-more : (vs : List ℤ) (i : ℕ) → i < 15 → i < length vs → (n : ℕ) → mag (getD vs i (pos 0)) < 2 ^ 63 → n ≡ natOf (bitsAt vs i) → set (countsTo vs i) i (n % 65536) ≡ countsTo vs (i + 1)
+counts-more vs i h k n g e =
+    let l : length (map countOf (take i vs)) ≡ i = length-map (take i vs) countOf ∙ length-take-le i vs (omega arith) in
+    ap (λ (m : ℕ). set (countsTo vs i) i (m % 65536)) (nat-at vs i n g e)
+    ∙ subst (λ (j : ℕ). set (countsTo vs i) j (countOf (getD vs i (pos 0))) ≡ filled 15 (map countOf (take i vs) ++ (countOf (getD vs i (pos 0)) ∷ []))) l (set-filled 15 (map countOf (take i vs)) (countOf (getD vs i (pos 0))) (omega arith))
+    ∙ ap (filled 15) (sym (map-snoc (take i vs) (getD vs i (pos 0))))
+    ∙ ap (λ (l : List ℤ). filled 15 (map countOf l)) (sym (take-suc vs i (pos 0) k) ∙ ap (λ (j : ℕ). take j vs) (sym (add-one i)))
+
+pub counts-past : (vs : List ℤ) (i : ℕ) → length vs ≤ i → countsTo vs i ≡ countsTo vs (i + 1)
+counts-past vs i h = ap (λ (l : List ℤ). filled 15 (map countOf l)) (take-all i vs h ∙ sym (take-all (i + 1) vs (omega arith)))
+
+filled-take : (n : ℕ) (xs : List ℤ) → filled n (map countOf (take n xs)) ≡ filled n (map countOf xs)
+filled-take zero xs = refl
+filled-take (suc n) [] = refl
+filled-take (suc n) (x ∷ xs) = ap (λ (l : List ℕ). countOf x ∷ l) (filled-take n xs)
+
+pub counts-all : (vs : List ℤ) (i : ℕ) → i ≡ 15 → countsTo vs i ≡ filled 15 (map countOf vs)
+counts-all vs i e = ap (countsTo vs) e ∙ filled-take 15 vs
+
+-- the event of another kind, at a part that is one
+pub event-later : (kind part : ℕ) (vs : List ℤ) → kind ≢ SETUP → (p : ℕ) → p ≡ partBy part → p ≢ 0 → {r : Payload} → r ≡ laterBy kind p vs → r ≡ eventBy kind part vs
+unfolding eventBy
+event-later kind part vs h p e n q = simp (ne-eqb kind SETUP h, ne-eqb (partBy part) 0 (λ z. n (e ∙ z))) (q ∙ ap (λ (m : ℕ). laterBy kind m vs) e)

@@ -1,0 +1,93 @@
+-- What the two calls answer and leave: a record from its kind and values, and back. Assumes nothing.
+use mathlib.Core.Path.{_≡_}
+use mathlib.Core.Bool.{cond}
+use mathlib.Core.List.{List, _++_}
+use Prim.Native.Nat.{ℕ, _<_, _^_}
+use lib.Dec.{eqb, leb}
+use lib.IntN.{ℤ, pos, negsuc, negℤ}
+use lib.ListN.{length, drop}
+use Rattle.values.specs.Values.{Said, gives, refuses}
+use Rattle.events.specs.declared.Counts.{Counts}
+use Rattle.events.specs.declared.Event.{Event}
+use Rattle.records.specs.Record.{readOf, countsBeside}
+use Rattle.records.specs.declared.Payload.{Payload}
+use Rattle.records.specs.declared.Payload.the-variants.{Whole, Unfit}
+use Rattle.records.specs.declared.Read.{Read}
+use Rattle.records.specs.declared.Read.the-variants.{Record, Refused, Cut}
+use Rattle.writer.specs.declared.Wrote.{Wrote}
+use Rattle.writer.specs.declared.Wrote.the-variants.{Done, Refused as Refused-}
+use Rattle.writer.specs.Write.{kindFor, recordFor, refusalFor}
+use Rattle.record_c.specs.Values.{valuesFor, partBy, eventBy, countsBy}
+
+-- ── writing ──
+-- an event that the values mean, and what the writer refuses it with
+abbrev pub writtenBy : ℕ → Event → Counts → Said (List ℕ)
+writtenBy part e k = cond (eqb (refusalFor e k part) 0) (gives (recordFor e k)) (refuses (refusalFor e k part))
+
+abbrev pub meantBy : ℕ → List ℤ → Payload → Said (List ℕ)
+meantBy part vs (Whole e) = writtenBy part e (countsBy e vs)
+meantBy part vs (Unfit n) = refuses n
+
+-- as C takes what the writer answers; how many bytes it wrote is below 2 ^ 63
+abbrev pub wroteAnswer : Wrote → ℤ
+wroteAnswer (Done n) = pos n
+wroteAnswer (Refused- n) = negℤ (pos n)
+
+abbrev pub countedFew : Wrote → Type 0
+countedFew (Done n) = n < 2 ^ 63
+countedFew (Refused- n) = Unit
+
+-- a record's bytes
+unfoldable pub recordSaid : ℕ → ℕ → List ℤ → Said (List ℕ)
+recordSaid kind part vs = meantBy (partBy part) vs (eventBy kind part vs)
+
+-- how many bytes were written, or minus the number that refuses it; 5 comes last
+abbrev pub recordAnswer : Said (List ℕ) → ℕ → ℤ
+recordAnswer (refuses n) room = negℤ (pos n)
+recordAnswer (gives b) room = cond (leb (length b) room) (pos (length b)) (negsuc 4)
+
+-- what is laid at the start of a buffer, and then what stood there
+abbrev pub laid : {A : Type 0} → List A → List A → List A
+laid b old = b ++ drop (length b) old
+
+abbrev pub recordBytes : Said (List ℕ) → List ℕ → List ℕ
+recordBytes (refuses n) old = old
+recordBytes (gives b) old = cond (leb (length b) (length old)) (laid b old) old
+
+pub record Records (said : Said (List ℕ)) (old : List ℕ) (r : ℤ) (new : List ℕ) : Type 0 where
+  pub answer : r ≡ recordAnswer said (length old)
+  pub contents : new ≡ recordBytes said old
+
+-- ── reading back ──
+pub record Named : Type 0 where
+  pub kind : ℕ
+  pub values : List ℤ
+
+abbrev pub named : Event → Counts → Named
+named e k = record { kind = kindFor e; values = valuesFor e k }
+
+abbrev pub namedRead : List ℕ → Read → Said Named
+namedRead r (Record e next) = gives (named e (countsBeside r (Record e next)))
+namedRead r (Refused n next) = refuses n
+namedRead r Cut = refuses 9
+
+-- the record that bytes begin with, at the part that stands, 0 where none does yet; there is no part above 3
+unfoldable pub namedSaid : ℕ → List ℕ → Said Named
+namedSaid part r = cond (leb part 3) (namedRead r (readOf part r)) (refuses 1)
+
+abbrev pub namedAnswer : Said Named → ℕ → ℤ
+namedAnswer (refuses n) room = negℤ (pos n)
+namedAnswer (gives v) room = cond (leb (length (v .values)) room) (pos (length (v .values))) (negsuc 4)
+
+abbrev pub namedKind : Said Named → ℕ → ℕ → ℕ
+namedKind (refuses n) room old = old
+namedKind (gives v) room old = cond (leb (length (v .values)) room) (v .kind) old
+
+abbrev pub namedValues : Said Named → List ℤ → List ℤ
+namedValues (refuses n) old = old
+namedValues (gives v) old = cond (leb (length (v .values)) (length old)) (laid (v .values) old) old
+
+pub record Names (said : Said Named) (oldkind : ℕ) (old : List ℤ) (r : ℤ) (newkind : ℕ) (new : List ℤ) : Type 0 where
+  pub answer : r ≡ namedAnswer said (length old)
+  pub kind : newkind ≡ namedKind said (length old) oldkind
+  pub contents : new ≡ namedValues said old
