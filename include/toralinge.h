@@ -26,6 +26,16 @@
 extern "C" {
 #endif
 
+/* The version of this header, as text and as 10,000 x major + 100 x minor + patch. */
+#define TORALINGE_VERSION "1.0.0"
+#define TORALINGE_VERSION_NUMBER 10000
+
+/* The version of the library that is linked, as text: to be compared with TORALINGE_VERSION. */
+const char *toralinge_version(void);
+
+/* A line of text for a number of the list below, with either sign; "unknown number" for any other. */
+const char *toralinge_words(int64_t number);
+
 /* 0 for done, or why a record or a call is refused. */
 enum toralinge_number {
     TORALINGE_DONE = 0,

@@ -78,7 +78,7 @@ want_library() {
 # The crates whose calls include/toralinge.h declares.
 calls=(stream values_c i2c_lists services_stream season_stream plain)
 
-# want_calls: all of them in one library; sets `library`.
+# want_calls: all of them in one library, with those of c/ that are text; sets `library`.
 want_calls() {
     local name room archiver=ar parts=()
     native || archiver=x86_64-linux-gnu-ar
@@ -88,10 +88,12 @@ want_calls() {
         parts+=("$root/target/staticlib/lib$name.a")
     done
     library=$root/target/libtoralinge.a
-    if [[ -e $library && -z $(find "${parts[@]}" -newer "$library") ]]; then
+    if [[ -e $library && -z $(find "${parts[@]}" "$root/c" "$root/include" -newer "$library") ]]; then
         return
     fi
+    want_compiler
     room=$(mktemp -d)
+    "${compiler[@]}" -std=c99 -O2 -fPIC -Wall -Wextra -Werror -pedantic "-I$root/include" -c "$root/c/toralinge.c" -o "$room/words.o"
     for name in "${parts[@]}"; do
         (cd "$room" && "$archiver" x "$name")
     done
