@@ -40,6 +40,27 @@ want() {
     fi
 }
 
+# want_packages NAME..: installs those of the packages that are missing, in one go; where all are there nothing is fetched.
+want_packages() {
+    local name missing=()
+    for name in "$@"; do
+        [[ $(dpkg-query -W -f '${db:Status-Status}' "$name" 2>/dev/null) = installed ]] || missing+=("$name")
+    done
+    if [[ ${#missing[@]} -gt 0 ]]; then
+        want "/usr/share/doc/${missing[-1]}" "${missing[@]}"
+    fi
+}
+
+# want_all: every package that the gate's tests need, so that apt-get is asked once.
+want_all() {
+    local names=(python3 python3-crccheck gcc libc6-dev umockdev gir1.2-umockdev-1.0 python3-gi i2c-tools python3-smbus2
+        python3-pip python3-venv python3-numpy python3-pandas python3-matplotlib python3-dask python3-distributed python3-pytest
+        python3-hypothesis python3-selenium chromium chromium-driver mypy)
+    command -v rustc >/dev/null || names+=(rustc)
+    native || names+=(qemu-user libc6-amd64-cross gcc-x86-64-linux-gnu libc6-dev-amd64-cross binutils-x86-64-linux-gnu)
+    want_packages "${names[@]}"
+}
+
 # Sets `runner`, the words that come before an x86-64 program.
 want_runner() {
     runner=()
