@@ -108,7 +108,7 @@ def run(options, program):
         return on_the_bus(options, program)
     except Ended as signalled:
         return 128 + signalled.args[0]
-    except RuntimeError as error:
+    except (RuntimeError, OSError) as error:
         print(f'bench: {error}', file=sys.stderr)
         return 1
     finally:
