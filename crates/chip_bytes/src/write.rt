@@ -6,9 +6,9 @@ ghost use lib.ListN.{length, drop, replicate};
 ghost use lib.Seq.{sets};
 ghost use Rattle.writer.specs.Write.{wordBytes};
 ghost use Rattle.chip_bytes.specs.Layout.{tagOf, firstOf, secondOf, plainOf, switchesOf, wordsOf, chipBytes, keptIn};
+use bits::weigh;
 use bus::Phase;
 use chip::Chip;
-use bits::weigh;
 
 fn tag_of(phase: Phase) -> u8
     ensures { λ r. ⌜ r ≡ tagOf phase ⌝ }

@@ -7,10 +7,10 @@ ghost use Rattle.stream.specs.Convert.{Gives};
 ghost use Rattle.smart_battery.specs.Reply.{Replied};
 ghost use Rattle.services_stream.specs.Asks.{Bled};
 ghost use Rattle.chip_c.specs.Asked.{byteOr, standsNumber, registerSaid, voltageOf, proposalOf, wordOf, ReadOf};
-use services_chip::Proposal;
 use chip::CellAnswer;
 use chip::ForecastAnswer;
 use chip_bytes::Kept;
+use services_chip::Proposal;
 
 // 0 where a chip stands, 26 for bytes that are no chip, 9 for no chip yet.
 fn stands(kept: Kept) -> u8
