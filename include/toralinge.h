@@ -26,6 +26,10 @@
 extern "C" {
 #endif
 
+/* The version of this header and of what it declares, as text and as 10,000 x major + 100 x minor + patch. */
+#define TORALINGE_VERSION "1.0.0"
+#define TORALINGE_VERSION_NUMBER 10000
+
 /* 0 for done, or why a record or a call is refused. */
 enum toralinge_number {
     TORALINGE_DONE = 0,
