@@ -55,13 +55,12 @@ static void put(struct wave *wave, unsigned long long time, int signal, int leve
     wave->levels[signal] = level;
 }
 
-/* SDA falls while SCL is up. In a frame both are brought up first. */
+/* SDA falls while SCL is up, after both were brought up where a frame stands. SCL stays up until the first byte. */
 static void put_start(struct wave *wave, unsigned long long time)
 {
     put(wave, time, SDA, 1);
     put(wave, time + 1, SCL, 1);
     put(wave, time + 2, SDA, 0);
-    put(wave, time + 3, SCL, 0);
     wave->framed = 1;
 }
 
@@ -79,6 +78,7 @@ static void put_byte(struct wave *wave, unsigned long long time, unsigned byte, 
 {
     unsigned nine = 2 * byte + unacknowledged;
     int bit;
+    put(wave, time++, SCL, 0);
     for (bit = 8; bit >= 0; bit--, time += BIT) {
         put(wave, time, SDA, nine >> bit & 1);
         put(wave, time + 1, SCL, 1);
@@ -107,7 +107,7 @@ static void put_record(struct wave *wave, const struct turn *turn)
     unsigned long long time = (turn->count - 1) * STEP;
     int refused = turn->entry[TORALINGE_ENTRY_NUMBER] != TORALINGE_DONE, at;
     if (!refused) {
-        put_bus(wave, turn, time + 2);
+        put_bus(wave, turn, time + 1);
     }
     for (at = 0; at < PINS; at++) {
         put(wave, time + STEP - 1, at, (turn->entry[TORALINGE_ENTRY_PINS] & pins_of_entry[at].weight) != 0);

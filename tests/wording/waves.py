@@ -16,8 +16,9 @@ def sigrok(path, *words):
 
 def hold_levels(path, wave, lines):
     """The last sample of each record has the levels that the model has after it."""
-    table = [line for line in sigrok(wave, "-O", "csv") if not line.startswith(";")]
-    names, samples = table[0].split(","), table[1:]
+    table = sigrok(wave, "-O", "csv")
+    names = next(line.split("): ")[1].split(", ") for line in table if line.startswith("; Channels"))
+    samples = [line for line in table if line[0] in "01"]
     hold(names == [*PINS, *BITS, "REFUSED", "SCL", "SDA"], f"{path}: signals {names}")
     hold(len(samples) == STEP * len(lines), f"{path}: {len(samples)} samples, not {STEP * len(lines)}")
     for line in lines:
@@ -28,17 +29,20 @@ def hold_levels(path, wave, lines):
 
 
 def sent(lines, payloads):
-    """What is on the bus inside frames: S, P, and bytes with 0 for an acknowledgement and 1 for none."""
-    framed = False
+    """What is on the bus inside frames: S, P, and bytes with 0 for an acknowledgement and 1 for none. sigrok looks for a byte after a start
+    and for nothing else, so a start or stop straight after a start is left out."""
+    framed, last = False, "P"
     for line, payload in zip(lines, payloads):
+        one = None
         if line.number == 0 and line.kind == "START":
-            framed = True
-            yield "S"
+            framed, one = True, "S"
         elif line.number == 0 and framed and line.kind == "STOP":
-            framed = False
-            yield "P"
+            framed, one = False, "P"
         elif line.number == 0 and framed and line.kind in ("OUT", "IN"):
-            yield (payload[0], line.bus) if line.kind == "OUT" else (line.bus, payload[0])
+            one = (payload[0], line.bus) if line.kind == "OUT" else (line.bus, payload[0])
+        if one is not None and not (last == "S" and one in ("S", "P")):
+            last = one
+            yield one
 
 
 def decoded(wave):
