@@ -7,7 +7,7 @@ import sys
 import threading
 
 import place
-from options import HELP, judged
+from options import HELP, judged, path, say
 
 HELPED = 64             # what `check` ends with after the help
 PATIENCE = 5
@@ -56,12 +56,10 @@ def opened(options):
 
 def surroundings(device, bus, temporary):
     """What the command finds in its environment: the bench's, with the bus, and i2c-tools on the path."""
-    found = {**os.environ, **device.environment(), place.INSIDE: str(bus)}
+    found = {**os.environ, **device.environment(), 'PATH': path(), place.INSIDE: str(bus)}
     found.pop('TMPDIR')
     if temporary is not None:
         found['TMPDIR'] = temporary
-    if '/usr/sbin' not in found.get('PATH', '').split(':'):
-        found['PATH'] = found.get('PATH', '') + ':/usr/sbin'
     return found
 
 
@@ -110,7 +108,7 @@ def run(options, program):
         return on_the_bus(options, program)
     except Ended as signalled:
         return 128 + signalled.args[0]
-    except RuntimeError as error:
+    except (RuntimeError, OSError) as error:
         print(f'bench: {error}', file=sys.stderr)
         return 1
     finally:
@@ -119,12 +117,12 @@ def run(options, program):
 
 def main(verb, *words):
     if verb == 'check':
-        if judged(words) is None:
-            print(HELP)
+        if judged(words, False) is None:
+            say(HELP)
             return HELPED
         return 0
     at = words.index('---')
-    return run(judged(words[at + 1:]), list(words[:at]))
+    return run(judged(words[at + 1:], True), list(words[:at]))
 
 
 if __name__ == '__main__':

@@ -11,7 +11,6 @@
  *   P  the same of a copy of the chip: nothing is kept or written.
  *   W  kind (4), part (4), values (8 each): toralinge_record's answer and the record.
  *   S  the 256 registers, then a number and microvolts (8) for each of fifteen cells.
- *   N  a number (8): its words.
  *
  * A result below UNWRITTEN is UNWRITTEN minus errno: the file took no record, and the chip stands as before.
  */
@@ -139,9 +138,6 @@ static void serve(int letter, const uint8_t *bytes, size_t length)
         write_record(bytes, length);
     } else if (letter == 'S') {
         state();
-    } else if (letter == 'N' && length == 8) {
-        const char *words = toralinge_words((int64_t)number_at(bytes, 8));
-        answer(0, words, strlen(words));
     } else {
         fail("a request of an unknown kind");
     }

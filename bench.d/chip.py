@@ -17,11 +17,7 @@ MOST = 1 << 62
 
 
 class Refused(Exception):
-    """A record that the library refuses to write, with its number."""
-
-    def __init__(self, number, words):
-        super().__init__(f'{number}: {words}')
-        self.number, self.words = number, words
+    """A record that the library refuses to write; its number."""
 
 
 class Gone(RuntimeError):
@@ -73,15 +69,12 @@ class Chip:
         self.changed.notify_all()
         raise Gone(self.gone)
 
-    def words(self, number):
-        return self.ask(b'N', struct.pack('<q', number))[1].decode()
-
     def record(self, name, *values):
         """The bytes of one record."""
         values = [max(-MOST, min(MOST, value)) for value in values[:MOST_VALUES]]
         result, data = self.ask(b'W', struct.pack(f'<II{len(values)}q', KINDS[name], self.options.part, *values))
         if result < 0:
-            raise Refused(-result, self.words(-result))
+            raise Refused(-result)
         return data
 
     def peek(self, records):

@@ -5,7 +5,7 @@ import socket
 import sys
 
 import place
-from options import number
+from options import number, say
 
 HELP = '''usage: ./bench-event [--bus N] EVENT ..
 Makes something happen to the chip of a running ./bench, inside its shell or from another terminal.
@@ -71,11 +71,11 @@ def answer(bus, words):
 
 def main(words):
     if words[:1] in (['--help'], ['-h']):
-        print(HELP)
+        say(HELP)
         return 0
     status, text = answer(*bus_and_words(words))
     if status == 0:
-        print(text)
+        say(text)
         return 0
     give_up(status, text)
 

@@ -72,7 +72,7 @@ def done(chip, words):
         raise Wrong(f'show takes {wants(name, chip.options)}' if name == 'show' else f'no event {name}: {LIST}')
     entry = chip.feed([record_of(chip, name, words)])[0]
     if entry[NUMBER]:
-        return 1, show.refused(chip, name, entry)
+        return 1, show.refused(name, entry)
     return 0, show.left(entry)
 
 

@@ -127,8 +127,6 @@ def judge(options):
     least, most = CELLS[options.part]
     if options.cells is not None and not least <= options.cells <= most:
         raise Wrong(f'--cells of an {options.name()} takes a number from {least} to {most}, not {options.cells}')
-    if options.command and shutil.which(options.command[0]) is None:
-        raise Wrong(f'no command {options.command[0]} to run')
     if options.record is not None:
         judge_file(options.record)
 
@@ -141,12 +139,34 @@ def judge_file(name):
         raise Wrong(f'--record cannot make {name}: {folder} is no folder that can be written')
 
 
-def judged(words):
-    """options_of, with the bus number looked for too; ends with one line and status 2, or prints the help."""
+def found(options):
+    """Whether the command is there; i2c-tools are in /usr/sbin, and `path` is where the command will look."""
+    if options.command and shutil.which(options.command[0], path=path()) is None:
+        raise Wrong(f'no command {options.command[0]} to run')
+
+
+def path():
+    words = os.environ.get('PATH') or os.defpath
+    return words if '/usr/sbin' in words.split(':') else f'{words}:/usr/sbin'
+
+
+def say(text):
+    """Prints for a reader who may have had enough."""
+    try:
+        print(text, flush=True)
+    except BrokenPipeError:
+        os.dup2(os.open(os.devnull, os.O_WRONLY), sys.stdout.fileno())
+
+
+def judged(words, installed):
+    """The options, None for --help; ends with one line and status 2 where they are wrong, or the bus number is in use, or, with all
+    packages installed, there is no such command."""
     try:
         options = options_of(words)
         if options is not None:
             place.free(options.bus)
+        if installed:
+            found(options)
         return options
     except (Wrong, place.Taken) as error:
         print(f'bench: {error}', file=sys.stderr)

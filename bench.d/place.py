@@ -56,14 +56,16 @@ def lock_of(bus):
 
 def locked(bus):
     """The lock file, held; None where it cannot be had now, or was removed by the one who had it."""
-    lock = open(lock_of(bus), 'w')
+    lock = None
     try:
+        lock = open(lock_of(bus), 'w')
         fcntl.flock(lock, fcntl.LOCK_EX | fcntl.LOCK_NB)
         if os.fstat(lock.fileno()).st_ino == os.stat(lock_of(bus)).st_ino:
             return lock
     except (BlockingIOError, FileNotFoundError):
         pass
-    lock.close()
+    if lock is not None:
+        lock.close()
     return None
 
 

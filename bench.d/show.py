@@ -15,7 +15,7 @@ OCD_LIMITS = (
     (9500, 11500, 14500, 17500, 19500, 22500, 25000, 28000, 31500, 33000, 36500, 40500, 42000, 44500, 46000, 48000),
     (18500, 22500, 28500, 34500, 38500, 44500, 49500, 56500, 62500, 65000, 72500, 80500, 83500, 88500, 90500, 94000),
 )
-ASLEEP, NO_CELL, NOT_CONNECTED = 4, 6, 10
+ASLEEP, NO_CELL = 4, 6
 
 
 def up(value, names):
@@ -36,8 +36,10 @@ def left(entry):
     return f'SYS_STAT {entry[STAT]:02X} ({up(entry[STAT], STATS)}), ALERT {alert}, {drives(entry[PINS])}'
 
 
-def refused(chip, name, entry):
-    return f'{name} is refused with {entry[NUMBER]}, {chip.words(entry[NUMBER])}'
+def refused(name, entry):
+    """A line for the entry of a record that was not; of whole and valid ones that is number 4."""
+    why = ', the chip is in SHIP' if entry[NUMBER] == ASLEEP else ''
+    return f'{name} is refused with {entry[NUMBER]}{why}'
 
 
 def balanced(value, first):
@@ -80,14 +82,10 @@ def measures(page, options):
     return lines + [(0x32, 'CC', f'{charge - 65536 if charge > 32767 else charge}')]
 
 
-def cells(chip, voltages):
-    lines = []
-    for place, (number, microvolts) in enumerate(voltages):
-        if number == NO_CELL:
-            break
-        said = f'{microvolts} uV' if number == 0 else chip.words(number)
-        lines.append(f'cell {place + 1:<3} {"not connected" if number == NOT_CONNECTED else said}')
-    return lines
+def cells(voltages):
+    """A line for each cell of the pack; the numbers are 0, 10 for one that is not connected, and 6 past the last."""
+    return [f'cell {place + 1:<3} ' + (f'{microvolts} uV' if number == 0 else 'not connected')
+            for place, (number, microvolts) in enumerate(voltages) if number != NO_CELL]
 
 
 def whole(chip):
@@ -109,4 +107,4 @@ def whole(chip):
     gain = page[0x50] >> 2 << 3 | page[0x59] >> 5
     lines += [f'50 ADCGAIN1   {page[0x50]:02X}    gain code {gain}, with ADCGAIN2', f'51 ADCOFFSET  {page[0x51]:02X}    '
               f'{page[0x51] - 256 if page[0x51] > 127 else page[0x51]} mV', f'59 ADCGAIN2   {page[0x59]:02X}']
-    return '\n'.join(lines + (['cells    none can be read in SHIP'] if asleep else cells(chip, voltages)))
+    return '\n'.join(lines + (['cells    none can be read in SHIP'] if asleep else cells(voltages)))

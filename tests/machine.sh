@@ -40,6 +40,27 @@ want() {
     fi
 }
 
+# want_packages NAME..: installs those of the packages that are missing, in one go; where all are there nothing is fetched.
+want_packages() {
+    local name missing=()
+    for name in "$@"; do
+        [[ $(dpkg-query -W -f '${db:Status-Status}' "$name" 2>/dev/null) = installed ]] || missing+=("$name")
+    done
+    if [[ ${#missing[@]} -gt 0 ]]; then
+        want "/usr/share/doc/${missing[-1]}" "${missing[@]}"
+    fi
+}
+
+# want_all: every package that the gate's tests need, so that apt-get is asked once.
+want_all() {
+    local names=(python3 python3-crccheck gcc libc6-dev umockdev gir1.2-umockdev-1.0 python3-gi i2c-tools python3-smbus2
+        python3-pip python3-venv python3-numpy python3-pandas python3-matplotlib python3-dask python3-distributed python3-pytest
+        python3-hypothesis python3-selenium chromium chromium-driver mypy)
+    command -v rustc >/dev/null || names+=(rustc)
+    native || names+=(qemu-user libc6-amd64-cross gcc-x86-64-linux-gnu libc6-dev-amd64-cross binutils-x86-64-linux-gnu)
+    want_packages "${names[@]}"
+}
+
 # Sets `runner`, the words that come before an x86-64 program.
 want_runner() {
     runner=()
@@ -76,9 +97,9 @@ want_library() {
 }
 
 # The crates whose calls include/toralinge.h declares.
-calls=(stream values_c i2c_lists services_stream season_stream plain)
+calls=(stream values_c i2c_lists services_stream season_stream plain chip_c feed record_c)
 
-# want_calls: all of them in one library; sets `library`.
+# want_calls: all of them in one library, with those of c/ that are text; sets `library`.
 want_calls() {
     local name room archiver=ar parts=()
     native || archiver=x86_64-linux-gnu-ar
@@ -88,10 +109,12 @@ want_calls() {
         parts+=("$root/target/staticlib/lib$name.a")
     done
     library=$root/target/libtoralinge.a
-    if [[ -e $library && -z $(find "${parts[@]}" -newer "$library") ]]; then
+    if [[ -e $library && -z $(find "${parts[@]}" "$root/c" "$root/include" -newer "$library") ]]; then
         return
     fi
+    want_compiler
     room=$(mktemp -d)
+    "${compiler[@]}" -std=c99 -O2 -fPIC -Wall -Wextra -Werror -pedantic "-I$root/include" -c "$root/c/toralinge.c" -o "$room/words.o"
     for name in "${parts[@]}"; do
         (cd "$room" && "$archiver" x "$name")
     done
@@ -232,7 +255,8 @@ want_bridge() {
 # want_python: what the Python package and its tests are made of, in one go.
 want_python() {
     local pair place=/usr/lib/python3/dist-packages last='' missing=()
-    for pair in "$place/pip python3-pip" "/usr/share/doc/python3-venv python3-venv" "$place/numpy python3-numpy" "$place/pandas python3-pandas" \
+    for pair in "$place/pip python3-pip" "/usr/share/doc/python3-venv python3-venv" "$place/numpy python3-numpy" \
+        "$place/pandas python3-pandas" \
         "$place/matplotlib python3-matplotlib" "$place/dask python3-dask" "$place/distributed python3-distributed" "$place/pytest python3-pytest" \
         "$place/hypothesis python3-hypothesis" "$place/selenium python3-selenium" "/usr/bin/chromium chromium" "/usr/bin/chromedriver chromium-driver" \
         "/usr/bin/mypy mypy"; do

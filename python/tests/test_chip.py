@@ -43,6 +43,11 @@ def test_write_and_read_do_the_crc(crc):  # type: ignore[no-untyped-def]
     assert all(chip.read(at) == bytes([chip.registers[at]]) for at in range(256))
 
 
+def test_parts_by_name_and_number():  # type: ignore[no-untyped-def]
+    for number, names in {1: ("MS9920T", "ms9920t", "9920", 9920), 2: ("MS9930T", "9930", 9930), 3: ("MS9940T", "9940", 9940)}.items():
+        assert all(Chip(name).setup == Chip(number).setup and Chip(name).setup.part == number for name in names)
+
+
 def test_a_wrong_crc_is_not_acknowledged():  # type: ignore[no-untyped-def]
     chip = Chip(crc=True)
     chip.boot()

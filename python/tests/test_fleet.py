@@ -72,7 +72,8 @@ def test_a_cluster_of_two_workers_with_some_killed(packs, plain):  # type: ignor
             def kill() -> None:
                 while at_work.is_set() and len(killed) < 2:
                     time.sleep(0.5)
-                    pids = [worker.process.process.pid for worker in cluster.workers.values() if worker.process is not None and worker.process.process]
+                    nannies = [nanny.process for nanny in cluster.workers.values() if nanny.process is not None]
+                    pids = [nanny.process.pid for nanny in nannies if nanny.process]
                     if pids and at_work.is_set():
                         os.kill(pids[-1], signal.SIGKILL)
                         killed.append(pids[-1])

@@ -3,6 +3,7 @@ from __future__ import annotations
 
 import ctypes.util
 import os
+import signal
 import subprocess
 import sys
 from pathlib import Path
@@ -98,3 +99,36 @@ def test_one_more_process_after_a_fork():  # type: ignore[no-untyped-def]
         os._exit(0)
     os.waitpid(child, 0)
     assert int(os.read(reading, 100)) == expected == toralinge.cell_microvolts(10, 30, 6144) == 2_204_976
+
+
+def test_an_interrupt_leaves_no_answer_behind():  # type: ignore[no-untyped-def]
+    """A call that is broken off, by a key or an alarm, does not shift the answers of the next ones."""
+    class Stopped(Exception):
+        pass
+
+    def stop(*given: object) -> None:
+        raise Stopped
+
+    before = signal.signal(signal.SIGALRM, stop)
+    stream = toralinge.stream_of(ROOT / "examples/season.hex")
+    try:
+        for wait in (0.001, 0.003, 0.01, 0.02):
+            signal.setitimer(signal.ITIMER_REAL, wait)
+            with pytest.raises(Stopped):
+                while True:
+                    toralinge.season(stream)
+            assert toralinge.cell_microvolts(10, 30, 6144) == 2_204_976 and toralinge.crc8(b"\x10\x05\x03") == 0xEA
+    finally:
+        signal.signal(signal.SIGALRM, before)
+
+
+def test_a_bridge_that_ended_is_started_again():  # type: ignore[no-untyped-def]
+    process = getattr(library.library(), "_process", None)
+    if process is None:     # the library is in this process
+        assert type(library.library()) is library.Library
+        return
+    process.kill()
+    process.wait()
+    with pytest.raises(toralinge.NotThere, match="has ended"):
+        toralinge.cell_microvolts(10, 30, 6144)
+    assert toralinge.cell_microvolts(10, 30, 6144) == 2_204_976

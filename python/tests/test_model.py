@@ -28,43 +28,43 @@ def held_to_the_model(stream: bytes) -> int:
             assert answer(call, stream)[0] == number
         return 1
     chip = toralinge.Chip.after(stream)
+    numbers = [(what, [int(word) for word in rest if word != "refused"]) for what, *rest in lines]
+    for what, given in numbers:
+        asked_of_the_chip(chip, what, given)
     found = list(toralinge.scans(stream))
-    seen = 0
-    rows = []
-    for what, *rest in lines:
-        if what == "registers":
-            assert [chip.registers[at] for at in range(256)] == [int(byte) for byte in rest]
-            continue
-        numbers = [int(word) for word in rest if word != "refused"]
-        if what == "awake":
-            assert chip.asleep == (not numbers[0])
-        elif what == "voltage":
-            cell, number, *microvolts = numbers
-            assert answer(chip.voltage, cell) == (number, microvolts[0] if microvolts else None)
-        elif what == "reading":
-            number, *values = numbers
-            given = answer(chip.reading)
-            assert given[0] == number and (number or [float(one) for one in values] == list(given[1]))
-        elif what == "bleed":
-            margin, number, *three = numbers
-            assert answer(chip.bleed, margin) == (number, tuple(three) if not number else None)
-        elif what == "reply":
-            command, resistor, number, *three = numbers
-            given = answer(chip.smart_battery, command, resistor)
-            assert given[0] == number and (number or list(given[1].data) == three)
-        elif what == "scan":
-            at, bits, *voltages = numbers
-            scan = found[seen]
-            assert (scan.scan, scan.record) == (seen + 1, at)
-            assert [voltages[cell] if bits >> cell & 1 else None for cell in range(len(scan.microvolts))] == list(scan.microvolts)
-            assert bits >> len(scan.microvolts) == 0
-            seen += 1
-        elif what == "season":
-            rows.append(numbers)
-    assert seen == len(found)
-    if rows and len(rows[0]) == 9:
+    told_scans = [given for what, given in numbers if what == "scan"]
+    assert len(found) == len(told_scans)
+    for scan, (at, bits, *voltages) in zip(found, told_scans):
+        assert scan.record == at and bits >> len(scan.microvolts) == 0
+        assert [voltages[cell] if bits >> cell & 1 else None for cell in range(len(scan.microvolts))] == list(scan.microvolts)
+    rows = [given for what, given in numbers if what == "season"]
+    if len(rows[0]) == 9:
         assert season_rows(stream) == rows == toralinge.season(stream).rows
+    else:
+        assert [answer(toralinge.season, stream)[0]] == rows[0]
     return len(lines)
+
+
+def asked_of_the_chip(chip, what, numbers):  # type: ignore[no-untyped-def]
+    """Holds one line about the chip that a stream leaves."""
+    if what == "registers":
+        assert [chip.registers[at] for at in range(256)] == numbers
+    elif what == "awake":
+        assert chip.asleep == (not numbers[0])
+    elif what == "voltage":
+        cell, number, *microvolts = numbers
+        assert answer(chip.voltage, cell) == (number, microvolts[0] if microvolts else None)
+    elif what == "reading":
+        number, *values = numbers
+        given = answer(chip.reading)
+        assert given[0] == number and (number or [float(one) for one in values] == list(given[1]))
+    elif what == "bleed":
+        margin, number, *three = numbers
+        assert answer(chip.bleed, margin) == (number, tuple(three) if not number else None)
+    elif what == "reply":
+        command, resistor, number, *three = numbers
+        given = answer(chip.smart_battery, command, resistor)
+        assert given[0] == number and (number or list(given[1].data) == three)
 
 
 @pytest.mark.parametrize("scene", SCENES, ids=lambda path: path.stem)

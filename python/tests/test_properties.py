@@ -117,7 +117,8 @@ def test_hostile_numbers_are_refused_and_never_more(one, two, three):  # type: i
 
 
 @modest
-@given(some.sampled_from([Kind.SCAN, Kind.TEMP, Kind.SENSE, Kind.OUT, Kind.TICKS, Kind.SOAK, Kind.COUNT, Kind.LOAD, Kind.STOP]), some.integers(1, 3), some.data())
+@given(some.sampled_from([Kind.SCAN, Kind.TEMP, Kind.SENSE, Kind.OUT, Kind.TICKS, Kind.SOAK, Kind.COUNT, Kind.LOAD, Kind.STOP]),
+       some.integers(1, 3), some.data())
 def test_what_is_written_is_read(kind, part, data):  # type: ignore[no-untyped-def]
     count = some.integers(0, 16_383)
     value = some.integers(-500_000, 500_000)

@@ -22,8 +22,9 @@ def _parser() -> argparse.ArgumentParser:
         one.add_argument("-o", "--output", metavar="OUT", required=not many, help=output)
         return one
 
-    command("picture", "the picture of a run: cell voltages with the OV and UV lines, bits, ALERT, drives, refusals", False, "a .png, .svg or .pdf file")
-    command("season-picture", "the picture of a pack's season: least, mean and greatest of each cell, weak cells first", False, "a .png, .svg or .pdf file")
+    drawn = "a .png, .svg or .pdf file"
+    command("picture", "the picture of a run: cell voltages with the OV and UV lines, bits, ALERT, drives, refusals", False, drawn)
+    command("season-picture", "the picture of a pack's season: least, mean and greatest of each cell, weak cells first", False, drawn)
     command("page", "the page of a run: picture, sentences, season, refusals and records in one HTML file", False, "an .html file")
     table = command("seasons", "the season of many packs as one table: a row a pack and cell", True,
                     "a .csv or .parquet file; without it CSV goes to standard output")

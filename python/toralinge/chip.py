@@ -64,12 +64,12 @@ COMMANDS = {"temperature": 0x08, "voltage": 0x09, "current": 0x0A}
 
 
 def _part(part: Union[int, str]) -> int:
-    """1 to 3 for a part's name, as ``MS9920T`` or ``9920``; a number stays as it is."""
+    """1 to 3 for a part's name, as ``MS9920T`` or 9920; another number stays as it is."""
+    for number, name in PARTS.items():
+        if str(part).upper() in (name, name[2:6]):
+            return number
     if isinstance(part, int):
         return part
-    for number, name in PARTS.items():
-        if part.upper() in (name, name[2:6]):
-            return number
     raise Refused(constant("TORALINGE_BAD_SETUP"))
 
 
@@ -105,7 +105,7 @@ class Registers(Mapping[str, int]):
 class Chip:
     """A chip that is set up once and stays. After setup it is in SHIP: :meth:`boot` wakes it.
 
-    :param part: ``"MS9920T"``, ``"MS9930T"`` or ``"MS9940T"``, or 1 to 3: 5, 10 and 15 cell inputs
+    :param part: ``"MS9920T"``, ``"MS9930T"`` or ``"MS9940T"``, or 9920, 9930, 9940, or 1 to 3: 5, 10 and 15 cell inputs
     :param crc: whether its bus uses a CRC
     :param address: on the bus, 0x08 to 0x77
     :param gain_code: 0 to 31, for 344 to 375 microvolts a count

@@ -261,7 +261,7 @@ class Bridge(Library):
         self._memory = mmap.mmap(self._shared, self._size)
         self._process = subprocess.Popen(
             [runner, loader, "--library-path", self.LIBRARIES, self._program, self.path, str(self._shared)],
-            stdin=subprocess.PIPE, stdout=subprocess.PIPE, pass_fds=(self._shared,))
+            stdin=subprocess.PIPE, stdout=subprocess.PIPE, pass_fds=(self._shared,), start_new_session=True)
         atexit.register(self._end, self._process)
 
     @staticmethod
@@ -275,7 +275,8 @@ class Bridge(Library):
             process.kill()
 
     def _ask(self, many: int, place: int) -> int:
-        process = self._process
+        """Has calls made and gives the answer. Whoever is interrupted meanwhile leaves no answer behind: the next call starts anew."""
+        process, self._process = self._process, None
         assert process is not None and process.stdin is not None and process.stdout is not None
         try:
             process.stdin.write(self._HEAD.pack(many, place, self._size))
@@ -283,8 +284,12 @@ class Bridge(Library):
             answer = process.stdout.read(8)
         except OSError:
             answer = b""
+        except BaseException:
+            process.kill()
+            raise
         if len(answer) != 8:
             raise NotThere(f"the bridge {self._program} has ended: is {self.path} a library for x86-64 Linux?")
+        self._process = process
         return int.from_bytes(answer, "little", signed=True)
 
     def _need(self, size: int) -> None:
@@ -303,8 +308,8 @@ class Bridge(Library):
         return self._handles[name]
 
     def _here(self) -> None:
-        """After a fork the pipes are the parent's: start an own process."""
-        if self._owner != os.getpid():
+        """After a fork the pipes are the parent's, and a process may have ended: then another is started."""
+        if self._owner != os.getpid() or self._process is None:
             self._start()
 
     def has(self, name: str) -> bool:

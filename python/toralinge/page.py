@@ -36,10 +36,13 @@ ol.changes a:hover, ol.changes a:focus { background: #eef4fa; outline: none; } o
 ol.changes .what { flex: 0 0 4.8rem; color: var(--pale); font-size: .82em; padding-top: .15em; }
 ol.changes .refused .what { color: #b00020; font-weight: 600; } .filters { margin: 0 0 .5rem; font-size: .9em; color: var(--pale); }
 .filters label { margin-right: .9rem; white-space: nowrap; }
-.wide { overflow: auto; } table { border-collapse: collapse; font-size: .9em; } th, td { padding: .25rem .6rem; border-bottom: 1px solid var(--line); }
-th { text-align: right; font-weight: 600; vertical-align: bottom; background: #f6f8fa; position: sticky; top: 0; } td { text-align: right; font-variant-numeric: tabular-nums; }
+.wide { overflow: auto; } table { border-collapse: collapse; font-size: .9em; }
+th, td { padding: .25rem .6rem; border-bottom: 1px solid var(--line); }
+th { text-align: right; font-weight: 600; vertical-align: bottom; background: #f6f8fa; position: sticky; top: 0; }
+td { text-align: right; font-variant-numeric: tabular-nums; }
 th.text, td.text { text-align: left; } td.nothing { color: var(--pale); } tr:target, tr.picked { background: var(--mark); }
-tr.gap td { color: var(--pale); text-align: center; font-style: italic; } .records { max-height: 22rem; overflow: auto; border: 1px solid var(--line); border-radius: 6px; }
+tr.gap td { color: var(--pale); text-align: center; font-style: italic; }
+.records { max-height: 22rem; overflow: auto; border: 1px solid var(--line); border-radius: 6px; }
 .records table { width: 100%; } code { font-family: "DejaVu Sans Mono", ui-monospace, monospace; font-size: .92em; }
 @media (max-width: 60rem) { .run { grid-template-columns: minmax(0, 1fr); } }
 @media print { ol.changes, .records { max-height: none; } }
@@ -221,7 +224,8 @@ def _records(history: History, found: list[Change]) -> str:
             rows.append(f"<tr class=\"gap\"><td colspan=\"8\">records {before + 1:,} to {at - 1:,}: nothing changed</td></tr>\n")
         rows.append(_record(history, history.run[at]))
         before = at
-    heads = _heads((("record", ""), ("what it is", "text"), ("answer", "text"), ("bus", ""), ("SYS_STAT", "text"), ("ALERT", ""), ("CHG", ""), ("DSG", "")))
+    heads = _heads((("record", ""), ("what it is", "text"), ("answer", "text"), ("bus", ""), ("SYS_STAT", "text"), ("ALERT", ""), ("CHG", ""),
+                    ("DSG", "")))
     return f"<section>\n<h2>Records</h2>\n<div class=\"records\"><table>\n{heads}{''.join(rows)}</table></div>\n</section>\n"
 
 

@@ -2,6 +2,7 @@
 from __future__ import annotations
 
 import ctypes
+from functools import cached_property
 from typing import TYPE_CHECKING, Iterator, NamedTuple, Optional, Sequence, Union, overload
 
 from .library import call, constant, room
@@ -90,7 +91,7 @@ class Run(Sequence[Entry]):
     def __iter__(self) -> Iterator[Entry]:
         return (self[at] for at in range(self._many))
 
-    @property
+    @cached_property
     def part(self) -> int:
         """The part that the stream's SETUP names; 0 where no chip stands."""
         try:

@@ -1,4 +1,4 @@
-"""What the real clients are to print: expected.py MODEL off|on. The chip's answers come from tests/model, the CRCs from python3-crccheck,
+"""What the real clients are to print: expected.py MODEL off|on [FILE]; and to the file, all that then has happened to the chip. The chip's answers come from tests/model, the CRCs from python3-crccheck,
 the frames and SMBus forms from their specifications; no line is shared with bench.d/. tests/busing/off.text and on.text are what this prints,
 and what the clients print is held to these."""
 import struct
@@ -277,6 +277,12 @@ def off(model):
     """MS9920T, no CRC, address 0x08: all as it is by default."""
     wire = Wire(model, 1, 0, 0x08)
     listed('toralinge MS9920T')
+    for part in (off_tools, off_events, off_clients, off_asleep):
+        part(wire)
+    return wire
+
+
+def off_tools(wire):
     i2cdetect(wire)
     i2cget(wire, 0x08, 0x09)
     i2cset(wire, 0x08, 0x09, [0xF1])
@@ -294,6 +300,9 @@ def off(model):
     i2cset(wire, 0x08, 0x06, [0x9F, 0x7F, 0xFF], 'i')
     i2cset(wire, 0x08, 0x06, [0x00, 0x00], 's')
     i2cget(wire, 0x08, 0x06, 'i', 4)
+
+
+def off_events(wire):
     for count in (9000, 10953, 10953, 10953, 10953):
         scan(wire, count, 9001, 9002, 9003, 9004)
     i2cget(wire, 0x08, 0x00)
@@ -316,17 +325,23 @@ def off(model):
     event(wire, 'pin', 7)
     event(wire, 'xready', 9)
     i2cdetect(wire, '-r')
+
+
+def off_clients(wire):
     driver(wire, 'funcs', 'slave:08', 'write:0903', 'write:09', 'read:1', 'read:4', 'rdwr:w08:04,r08:2', 'data:r:0a', 'data:w:0a:97', 'word:r:09',
            'word:w:09:ac97', 'quick:w', 'quick:r', 'byte:w:0b', 'byte:r', 'i2c:r:09:3', 'i2c:w:01:1f1f', 'block:w:01:0102',
            'rdwr:w08:01,r08:4,w08:0b,r08:1', 'block:r:0b', 'read:1', 'block:r:0c', 'read:1', 'lens:08:0b', 'lens:08:00', 'lens:09:0b', 'proc:w:09:acb4',
            'pec:1', 'block:r:0b', 'proc:w:09:ac97', 'data:r:09', 'byte:r', 'pec:0', f'word:w:09:ac{crc(0x10, 0x09, 0x11, 0xAC):02x}', 'pec:1', 'data:r:09',
-           'pec:0', 'data:w:0a:97')
+           'i2c:r:09:3', 'i2c:w:09:ac', 'quick:w', 'pec:0', 'data:w:0a:97')
     driver(wire, 'read:1', 'slave:80', 'slave:09', 'read:1', 'write:00', 'quick:w', 'data:r:00', 'rdwr:r09:1', 'force:08', 'data:r:09', 'other')
     smbus2(wire, ('read_byte_data=8,9', 'data', 'r', 9, (), 1), ('write_byte_data=8,9,0xf1', 'data', 'w', 9, (0xF1,), 0),
            ('read_word_data=8,9', 'word', 'r', 9, (), 2), ('read_i2c_block_data=8,0x0c,10', 'i2c', 'r', 0x0C, (), 10),
            ('write_i2c_block_data=8,1,1.2', 'i2c', 'w', 1, (1, 2), 0), ('write_block_data=8,1,3.4', 'block', 'w', 1, (3, 4), 0),
-           ('read_block_data=8,0x0b', 'block', 'r', 0x0B, (), 0), ('read_block_data=8,0', 'block', 'r', 0, (), 0), ('write_quick=8', 'quick', 'w', 0, (), 0), ('read_byte=9', 'at', 'r', 0, (9,), 1),
-           ('rdwr=w08:01,r08:3', 'rdwr', '', 0, (), 0), ('rdwr=w09:01', 'rdwr', '', 0, (), 0))
+           ('read_block_data=8,0x0b', 'block', 'r', 0x0B, (), 0), ('read_block_data=8,0', 'block', 'r', 0, (), 0),
+           ('write_quick=8', 'quick', 'w', 0, (), 0), ('read_byte=9', 'at', 'r', 0, (9,), 1), ('rdwr=w08:01,r08:3', 'rdwr', '', 0, (), 0), ('rdwr=w09:01', 'rdwr', '', 0, (), 0))
+
+
+def off_asleep(wire):
     i2ctransfer(wire, (0x08, [0x04, 0x01]))
     i2ctransfer(wire, (0x08, [0x04, 0x02, 0x00]))
     event(wire, 'scan 9000 9000 9000 9000 9000', 3, struct.pack('<5H', *[9000] * 5))
@@ -339,14 +354,20 @@ def off(model):
 
 def on(model):
     """MS9940T with a pack of 13 cells, CRC on, address 0x18."""
-    wire, a = Wire(model, 3, 1, 0x18, 13), 0x18
-    w, r = 0x30, 0x31
+    wire = Wire(model, 3, 1, 0x18, 13)
     listed('toralinge MS9940T')
+    for part in (on_tools, on_events, on_clients, on_asleep):
+        part(wire, 0x18, 0x30)
+    return wire
+
+
+def on_tools(wire, a, w):
     i2cdetect(wire)
     i2ctransfer(wire, (a, [0x05, 0x03, crc(w, 0x05, 0x03)]))
     i2ctransfer(wire, (a, [0x05]), (a, 2))
     i2ctransfer(wire, (a, [0x05, 0x00, 0x55]))
     i2ctransfer(wire, (a, [0x05, 0x00, 0x55, 0x00]), (a, 2))
+    i2ctransfer(wire, (a, 2))
     i2ctransfer(wire, (a, [0x05]), (a, 4))
     i2ctransfer(wire, (a, [0x09, 0xF1, crc(w, 0x09, 0xF1), 0xB4, crc(0xB4)]))
     i2ctransfer(wire, (a, [0x09]), (a, 6))
@@ -362,6 +383,9 @@ def on(model):
     i2cget(wire, a, 0x09, 'w')
     i2cset(wire, a, 0x01, [0x05, crc(w, 0x01, 0x05), 0x0A, crc(0x0A)], 'i')
     i2cget(wire, a, 0x01, 'i', 6)
+
+
+def on_events(wire, a, w):
     counts = [9000 + place for place in range(15)]
     scan(wire, *counts)
     scan(wire, *counts[:14], 12057)
@@ -372,12 +396,18 @@ def on(model):
         scan(wire, *counts[:14], 12057)
     event(wire, 'temp 3000 3001 3002', 4, struct.pack('<3H', 3000, 3001, 3002))
     i2ctransfer(wire, (a, [0x2C]), (a, 12))
+
+
+def on_clients(wire, a, w):
     driver(wire, 'slave:18', f'write:0500{crc(w, 5, 0):02x}', 'write:05', 'read:2', 'write:050355', 'pec:1', 'data:w:05:03', 'byte:w:05', 'pec:0', 'read:2',
            'write:05', 'read:2', 'data:r:05', 'pec:1', 'data:r:05', 'word:r:05', 'pec:0', 'word:r:05', f'rdwr:w18:00ff{crc(w, 0, 0xFF):02x},w18:00,r18:2',
            'rdwr:w18:05,r18:2,w18:06ff00,r18:2')
     smbus2(wire, ('read_byte_data=0x18,9', 'data', 'r', 9, (), 1), ('pec=1', 'pec', '', 0, 1, 0), ('write_byte_data=0x18,5,3', 'data', 'w', 5, (3,), 0),
            ('read_byte_data=0x18,5', 'data', 'r', 5, (), 1), ('pec=0', 'pec', '', 0, 0, 0), ('read_i2c_block_data=0x18,5,4', 'i2c', 'r', 5, (), 4),
            ('read_byte=8', 'at', 'r', 0, (8,), 1), ('rdwr=w18:050055', 'rdwr', '', 0, (), 0), ('rdwr=w18:05,r18:2', 'rdwr', '', 0, (), 0))
+
+
+def on_asleep(wire, a, w):
     i2ctransfer(wire, (a, [0x04, 0x01, crc(w, 0x04, 0x01)]))
     i2ctransfer(wire, (a, [0x04, 0x02, crc(w, 0x04, 0x02)]))
     i2ctransfer(wire, (a, [0x04]))
@@ -386,5 +416,12 @@ def on(model):
     i2ctransfer(wire, (a, [0x05]), (a, 2))
 
 
+def main(model, name, file=None):
+    wire = {'off': off, 'on': on}[name](model)
+    if file is not None:
+        with open(file, 'wb') as kept:
+            kept.write(wire.stream)
+
+
 if __name__ == '__main__':
-    {'off': off, 'on': on}[sys.argv[2]](sys.argv[1])
+    main(*sys.argv[1:])

@@ -6,7 +6,7 @@ use mathlib.Core.Logic.{_≢_}
 use mathlib.Core.List.{List}
 use Prim.Native.Nat.{ℕ}
 use native.Mathlib.Omega.{arith}
-use lib.Dec.{leb}
+use lib.Dec.{leb, eqb}
 use lib.ListN.{length, replicate}
 use borrow.Author.Tests.{leb-true, ne-eqb}
 use Rattle.events.specs.Event.{within}
@@ -16,7 +16,7 @@ use Rattle.records.specs.SoundLaws.{and-left, and-right}
 use Rattle.writer.specs.BytesLaws.{Bytes}
 use Rattle.chip.specs.declared.Chip.{Chip}
 use Rattle.chip_bytes.specs.declared.Kept.{Kept}
-use Rattle.chip_bytes.specs.Layout.{plainOf, chipBytes, switchAt, chipAt, formed, setupStands, couldStand}
+use Rattle.chip_bytes.specs.Layout.{plainOf, switchesOf, wordsOf, chipBytes, switchAt, chipAt, formed, setupStands, couldStand}
 use Rattle.chip_bytes.specs.Layout.{none, keeps, noChip, keptAt, keptBytes}
 use Rattle.chip_bytes.specs.ListedLaws.{zeros-forth}
 use Rattle.chip_bytes.specs.TripLaws.{Sized, back, back-fresh, back-formed, forth, sized}
@@ -42,6 +42,14 @@ bytes-are c fresh h = simp (ne-eqb (c .setup .part) 0 (part-not c fresh h))
 not-zero : (c : Chip) (fresh : Bool) → within 0 (chipBytes c fresh) ≡ false
 unfolding chipBytes plainOf
 not-zero c fresh = refl
+
+pub kept-length : (c : Chip) (fresh : Bool) → length (keptBytes c fresh) ≡ 96
+unfolding keptBytes chipBytes plainOf switchesOf wordsOf
+kept-length c fresh = by (eqb (c .setup .part) 0)
+  where
+    by : (t : Bool) → length (cond t (replicate 96 0) (chipBytes c fresh)) ≡ 96
+    by true = refl
+    by false = refl
 
 -- CHIP TO BYTES AND BACK is the same chip
 pub trip : {c : Chip} {fresh : Bool} → Stood c fresh → keptAt (keptBytes c fresh) ≡ keeps c fresh
@@ -73,9 +81,22 @@ module _ (b : List ℕ) (l : length b ≡ 96) (y : Bytes b) where
   owns-by false true t s h =
       let f : formed b ≡ true = and-left _ _ s in
       let g : couldStand (chipAt b) (switchAt b 23) ≡ true = and-right (formed b) (couldStand (chipAt b) (switchAt b 23)) s in
-      record { bytes = bytes-are (chipAt b) (switchAt b 23) g ∙ forth b l y f; stood = stands g (sized b l y f) }
+      record { bytes = bytes-are (chipAt b) (switchAt b 23) g ∙ forth b l y f; stood = stands g (sized b) }
   owns-by false false t s h = absurd (true≢false (sym h))
 
   pub owns : keptAt b .good ≡ true → Owns b (keptAt b)
   unfolding keptAt
   owns h = owns-by (within 0 b) (formed b && couldStand (chipAt b) (switchAt b 23)) refl refl h
+
+-- and whatever numbers the bytes are, a chip that they keep could stand
+pub kept-stood : (b : List ℕ) → keptAt b .good ≡ true → Stood (keptAt b .chip) (keptAt b .fresh)
+unfolding keptAt
+kept-stood b h = by (within 0 b) (formed b && couldStand (chipAt b) (switchAt b 23)) refl h
+  where
+    by : (t u : Bool) → (formed b && couldStand (chipAt b) (switchAt b 23)) ≡ u
+        → cond t (keeps none false) (cond u (keeps (chipAt b) (switchAt b 23)) noChip) .good ≡ true
+        → Stood (cond t (keeps none false) (cond u (keeps (chipAt b) (switchAt b 23)) noChip) .chip)
+        (cond t (keeps none false) (cond u (keeps (chipAt b) (switchAt b 23)) noChip) .fresh)
+    by true u s h = not-yet
+    by false true s h = stands (and-right (formed b) (couldStand (chipAt b) (switchAt b 23)) s) (sized b)
+    by false false s h = absurd (true≢false (sym h))

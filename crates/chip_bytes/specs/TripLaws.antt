@@ -26,6 +26,10 @@ pub record Sized (c : Chip) : Type 0 where
   pub cells : length (c .registers .measured .cells) ≡ 15
   pub ts : length (c .registers .measured .ts) ≡ 3
 
+pub sized : (b : List ℕ) → Sized (chipAt b)
+unfolding chipAt
+sized b = record { cells = refl; ts = refl }
+
 -- ── written, then read ──
 module _ (c : Chip) (fresh : Bool) where
   words-are : words (drop 46 (chipBytes c fresh)) ≡ wordsOf c
@@ -98,7 +102,3 @@ module _ (b : List ℕ) (l : length b ≡ 96) (h : Bytes b) (f : formed b ≡ tr
       ∙ ap (λ (w : List ℕ). listed b 0 46 ++ w) (words-forth (drop 46 b) 25 rest-length (bytes-drop 46 b h))
       ∙ ap (λ (p : List ℕ). p ++ drop 46 b) (listed-is b 0 46 (omega arith))
       ∙ take-append-drop 46 b
-
-  pub sized : Sized (chipAt b)
-  unfolding chipAt
-  sized = record { cells = refl; ts = refl }

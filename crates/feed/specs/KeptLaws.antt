@@ -5,7 +5,7 @@ use mathlib.Core.Logic.{_≢_}
 use mathlib.Core.List.{List, [], _∷_}
 use Prim.Native.Nat.{ℕ, zero, suc}
 use lib.Dec.{eqb}
-use lib.ListN.{drop}
+use lib.ListN.{length, drop}
 use borrow.Author.Tests.{eqb-true, eqb-false, eq-eqb, ne-eqb}
 use Rattle.events.specs.declared.Setup.{Setup as SetupValues}
 use Rattle.events.specs.declared.Counts.{Counts}
@@ -28,7 +28,8 @@ use Rattle.chip.specs.Chip.{numbered, inShip, steppedAs, steppedBy}
 use Rattle.chip.specs.Calm.{Calmed}
 use Rattle.chip.specs.RepeatLaws.{setup-as, calm-as}
 use Rattle.demands.specs.Refused.{refused-as}
-use Rattle.stream.specs.Stream.{Turn, none, bornOf, wiredAs, acted, staysFresh, turned, turnOf}
+use Rattle.stream.specs.Stream.{Turn, none, bornOf, wiredAs, acted, staysFresh, turned, turnOf, stays, chipFrom, freshFrom}
+use Rattle.stream.specs.Stream.{stands as ends}
 use Rattle.stream.specs.StandingLaws.{acted-is}
 use Rattle.chip_bytes.specs.Layout.{setupStands, couldStand}
 use Rattle.chip_bytes.specs.TripLaws.{Sized}
@@ -187,3 +188,22 @@ turned-stands r s Cut q = s
 pub turn-stands : {c : Chip} {o : Bool} (r : List ℕ) → Stood c o → Stood (turnOf o c r .chip) (turnOf o c r .fresh)
 unfolding turnOf
 turn-stands {c} {o} r s = turned-stands r s (readOf (c .setup .part) r) refl
+
+-- over any number of records
+run-stands : (f : ℕ) {c : Chip} {o : Bool} (s : List ℕ) → Stood c o → Stood (ends f o c s) (stays f o c s)
+run-stands zero s t = t
+run-stands (suc f) [] t = t
+run-stands (suc f) {c} {o} (b ∷ s) t =
+    by (turnOf o c (b ∷ s) .last) (turn-stands (b ∷ s) t) (run-stands f (drop (turnOf o c (b ∷ s) .next) (b ∷ s)) (turn-stands (b ∷ s) t))
+  where
+    by : (l : Bool) {c d : Chip} {o p : Bool} → Stood c o → Stood d p → Stood (cond l c d) (cond l o p)
+    by true x y = x
+    by false x y = y
+
+pub from-stands : {c : Chip} {o : Bool} (s : List ℕ) → Stood c o → Stood (chipFrom o c s) (freshFrom o c s)
+unfolding chipFrom freshFrom
+from-stands s t = run-stands (length s) s t
+
+pub stood-calm : {c : Chip} {o : Bool} → Stood c o → Calmed c
+stood-calm not-yet = λ e. absurd (true≢false (sym e))
+stood-calm {c} {o} (stands h z) = parts c o h .calm
