@@ -1,6 +1,6 @@
 # shellcheck shell=bash
 # Sourced by the commands at the root, which set `root`, `me`, `usage` (one line) and `help` (what their options and words mean).
-# shellcheck disable=SC2034,SC2154  # option, files, tool and room are read, root, me, usage and help set by the script that sources this
+# shellcheck disable=SC2034,SC2154  # option, files, tool, linked and room are read, root, me, usage and help set by the script that sources this
 # shellcheck source=tests/machine.sh
 source "$root/tests/machine.sh"
 
@@ -10,8 +10,12 @@ tell_help() {
         "$usage" "$help" "$me"
 }
 
+version() {
+    sed -n 's/^#define TORALINGE_VERSION "\(.*\)"$/\1/p' "$root/include/toralinge.h"
+}
+
 tell_version() {
-    printf '%s (Toralinge) %s\n' "$me" "$(sed -n 's/^#define TORALINGE_VERSION "\(.*\)"$/\1/p' "$root/include/toralinge.h")"
+    printf '%s (Toralinge) %s\n' "$me" "$(version)"
 }
 
 # take OPTION.. -- WORD..: sets `option` to the one of the options that the words have, or to nothing, and `files` to the other words.
@@ -43,17 +47,26 @@ take() {
     done
 }
 
-# want_linked: sets `library` and `headers`. TORALINGE_LIBRARY may name a library to link in place of the one that is proved here, with its
-# header in include/ beside it.
+# want_linked [CRATE ..]: sets `linked` to what a program in C is compiled with for the calls of these crates, or for all, and `headers`.
+# TORALINGE_LIBRARY may name a library to link in place of the one that is proved here, with its header in include/ beside it.
 want_linked() {
+    local name
     headers=$root/include
-    if [[ -z ${TORALINGE_LIBRARY-} ]]; then
+    linked=()
+    if [[ -n ${TORALINGE_LIBRARY-} ]]; then
+        [[ -f $TORALINGE_LIBRARY ]] || give_up 2 "TORALINGE_LIBRARY names no file: $TORALINGE_LIBRARY"
+        linked=("$(readlink -f "$TORALINGE_LIBRARY")")
+        [[ ! -d ${linked[0]%/*}/include ]] || headers=${linked[0]%/*}/include
+    elif [[ $# -eq 0 ]]; then
         want_calls
-        return
+        linked=("$library")
+    else
+        linked=("$root/c/toralinge.c")
+        for name in "$@"; do
+            want_library "$name"
+            linked+=("$root/target/staticlib/lib$name.a")
+        done
     fi
-    [[ -f $TORALINGE_LIBRARY ]] || give_up 2 "TORALINGE_LIBRARY names no file: $TORALINGE_LIBRARY"
-    library=$(readlink -f "$TORALINGE_LIBRARY")
-    [[ ! -d ${library%/*}/include ]] || headers=${library%/*}/include
 }
 
 # want_tool NAME FILE..: compiles the files, sources and libraries, where they are newer than what was made of them, and sets `tool`.
@@ -61,7 +74,7 @@ want_tool() {
     local name=$1 new
     shift
     tool=$root/target/tools/$name
-    [[ -z ${TORALINGE_LIBRARY-} ]] || tool+=-$(cksum <<<"${library-}" | cut -d' ' -f1)
+    [[ -z ${TORALINGE_LIBRARY-} ]] || tool+=-$(cksum <<<"${linked[*]-}" | cut -d' ' -f1)
     want_runner
     want_compiler
     if [[ -x $tool && -z $(find "$@" "$root"/tools/*.h "$headers" -newer "$tool" -print -quit) ]]; then
@@ -77,13 +90,13 @@ want_tool() {
 
 # want_turns NAME: the tool of tools/NAME.c, which plays a stream a record at a time.
 want_turns() {
-    want_linked
-    want_tool "$1" "$root/tools/$1.c" "$root/tools/turns.c" "$root/tools/input.c" "$library"
+    want_linked feed
+    want_tool "$1" "$root/tools/$1.c" "$root/tools/turns.c" "$root/tools/input.c" "${linked[@]}"
 }
 
 # spool MOST: puts the bytes of the input, so many at most, into $room/bytes.
 spool() {
-    local headers=$root/include
+    local headers=$root/include linked=()
     want_tool bytes "$root/tools/bytes.c" "$root/tools/input.c"
     room=$(mktemp -d)
     trap 'rm -rf "$room"' EXIT
