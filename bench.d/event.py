@@ -20,6 +20,8 @@ Makes something happen to the chip of a running ./bench, inside its shell or fro
   xready, por, boot    an internal fault, power-on reset, booting from SHIP
   show                 mode, registers by name, faults, drives, ALERT and cell voltages
   wait-alert SECONDS   until ALERT is up; status 1 where it stays down
+  -h, --help           this text
+  -V, --version        the version
 
 Status 0: done; 1: the chip refused it, or ALERT stayed down; 2: wrong words, or no bench.'''
 PATIENCE = 30

@@ -23,9 +23,10 @@ Makes a chip, boots it, and runs the command, or a shell, in which /dev/i2c-9 is
   --cells N        the cells of the pack: 3 to 5, 6 to 10 or 11 to 15 by part; by default no wiring is told
   --bus N          /dev/i2c-N, 0 to 255; by default 9
   --record FILE    a new file that keeps every record as it happens
-  --help           this text
+  -h, --help       this text
+  -V, --version    the version
 
-./bench-event makes things happen to the chip. docs/BENCH.md says more.'''
+./bench-event makes things happen to the chip. docs/BENCH.md and man -l man/bench.1 say more.'''
 
 
 @dataclass

@@ -1,5 +1,5 @@
 # shellcheck shell=bash
-# Sourced by ./play, ./forecast, ./listing, ./library, ./bench, ./bench-event, .ci/run and the scripts of tests/. What the proved crates are built into is for x86-64 Linux:
+# Sourced by .ci/run, the scripts of tests/ and, over tools/command.sh, the commands. What the proved crates are built into is for x86-64 Linux:
 # elsewhere it is compiled for with Debian's cross compiler and run under qemu-user.
 # shellcheck disable=SC2034,SC2154  # me, root and usage are set, runner, compiler, program and library read by the script that sources this
 
@@ -55,7 +55,7 @@ want_packages() {
 want_all() {
     local names=(python3 python3-crccheck gcc libc6-dev umockdev gir1.2-umockdev-1.0 python3-gi i2c-tools python3-smbus2
         python3-pip python3-venv python3-numpy python3-pandas python3-matplotlib python3-dask python3-distributed python3-pytest
-        python3-hypothesis python3-selenium chromium chromium-driver mypy)
+        python3-hypothesis python3-selenium chromium chromium-driver mypy sigrok-cli mandoc)
     command -v rustc >/dev/null || names+=(rustc)
     native || names+=(qemu-user libc6-amd64-cross gcc-x86-64-linux-gnu libc6-dev-amd64-cross binutils-x86-64-linux-gnu)
     want_packages "${names[@]}"
@@ -193,49 +193,11 @@ proved() {
 want_input() {
     if [[ $# -gt 1 ]]; then
         give_up 2 "one file at most: $usage"
-    elif [[ ${1-} = -h || ${1-} = --help ]]; then
-        echo "usage: $usage"
-        exit 0
     elif [[ $# -eq 1 ]]; then
         [[ -e $1 ]] || give_up 2 "no such file: $1"
         [[ ! -d $1 && -r $1 ]] || give_up 2 "not a file that can be read: $1"
     elif [[ -t 0 ]]; then
         give_up 2 "nothing to read: $usage"
-    fi
-}
-
-# The bytes of a hex text as printf's %b wants them; one line and status 2 where something else stands there.
-escapes() {
-    LC_ALL=C awk '
-        function refuse(why) { printf "%s\n", "line " NR ": " why; refused = 1; exit 2 }
-        { sub(/#.*/, ""); gsub(/[ \t\r\f\v]+/, " ") }
-        {
-            for (i = 1; i <= NF; i++) {
-                if ($i ~ /[^0-9A-Fa-f]/) refuse("not hex: " $i)
-                if (length($i) % 2 == 1) refuse("odd number of hex digits: " $i)
-                for (j = 1; j < length($i); j += 2) bytes[NR] = bytes[NR] "\\x" substr($i, j, 2)
-            }
-        }
-        END { if (!refused) for (n = 1; n <= NR; n++) printf "%s", bytes[n] }
-    ' <"$1"
-}
-
-# want_stream WORD..: as want_input; the bytes of a file FILE.hex are set as `bytes`.
-want_stream() {
-    want_input "$@"
-    if [[ ${1-} = *.hex ]]; then
-        bytes=$(escapes "$1") || give_up 2 "$1, $bytes"
-    fi
-}
-
-# fed WORD..: runs `program` on the stream that want_stream was given.
-fed() {
-    if [[ $# -eq 0 ]]; then
-        "${runner[@]}" "$program"
-    elif [[ $1 = *.hex ]]; then
-        printf '%b' "$bytes" | "${runner[@]}" "$program"
-    else
-        "${runner[@]}" "$program" <"$1"
     fi
 }
 

@@ -13,8 +13,9 @@ import toralinge
 from toralinge.library import library
 from toralinge.tables import COLUMNS, NUMBERS
 
-FORECAST = {"cell": "cell", "scans": "scans", "least": "least_count", "in scan": "least_count_scan", "greatest": "greatest_count",
-            "in scan.1": "greatest_count_scan", "counts": "total_counts", "connected": "connected_scans", "microvolts": "total_microvolts"}
+FORECAST = {"cell": "cell", "scans": "scans", "least count": "least_count", "scan of least count": "least_count_scan",
+            "greatest count": "greatest_count", "scan of greatest count": "greatest_count_scan", "sum of counts": "total_counts",
+            "scans connected": "connected_scans", "sum in microvolts": "total_microvolts"}
 
 
 @pytest.mark.parametrize("streams", (range(0, 12), range(12, 24)))
@@ -27,15 +28,15 @@ def test_the_numbers_are_those_of_forecast(streams, tmp_path):  # type: ignore[n
     assert list(table.columns) == list(COLUMNS)
     held = 0
     for path in paths:
-        lines = model("forecast", str(path)).decode().splitlines()
-        at = next(number for number, line in enumerate(lines) if line.startswith(("cell", "season refused")))
+        text = model("season", str(path)).decode()
         rows = table[table["pack"] == str(path)]
-        if lines[at].startswith("season refused"):
-            assert rows["refused_number"].tolist() == [int(lines[at].split(",")[1])]
-            assert rows["refused_words"].tolist() == [toralinge.words(int(lines[at].split(",")[1]))]
+        if text.startswith("no season, "):
+            number = int(text.split(", ")[1])
+            assert rows["refused_number"].tolist() == [number]
+            assert rows["refused_words"].tolist() == [toralinge.words(number)]
             assert rows[list(NUMBERS)].isna().all(axis=None)
             continue
-        wanted = pandas.read_csv(io.StringIO("\n".join(lines[at:])), dtype="Int64").rename(columns=FORECAST)
+        wanted = pandas.read_csv(io.StringIO(text), dtype="Int64").rename(columns=FORECAST)
         pandas.testing.assert_frame_equal(rows[list(FORECAST.values())].reset_index(drop=True), wanted, check_names=False)
         held += len(wanted)
     assert held > 100

@@ -19,7 +19,7 @@ fn voltage(chip: &Chip, cell: usize) -> Result<i64, u8> {
 }
 
 /// Each stored scan: its record, its connected cells as bits, and the microvolts of cells 1 to 15, 0 where there are none.
-fn scans(bytes: &[u8]) -> Vec<(usize, u32, [i64; 15])> {
+pub fn scans(bytes: &[u8]) -> Vec<(usize, u32, [i64; 15])> {
     let mut session = Session::new(Plant::None);
     let (mut list, mut at, mut record) = (Vec::new(), 0, 0);
     while at < bytes.len() && !session.ended {
