@@ -24,3 +24,6 @@ pub mod Latches
 pub mod Between
 pub mod Level
 pub mod Ticks
+pub mod Moves
+pub mod MovesLaws
+pub mod ShownLaws
