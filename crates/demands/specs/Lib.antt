@@ -27,3 +27,5 @@ pub mod Ticks
 pub mod Moves
 pub mod MovesLaws
 pub mod ShownLaws
+pub mod Table
+pub mod TableLaws
