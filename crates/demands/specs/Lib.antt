@@ -29,3 +29,7 @@ pub mod MovesLaws
 pub mod ShownLaws
 pub mod Table
 pub mod TableLaws
+pub mod LineLaws
+pub mod RefusalLaws
+pub mod CellLaws
+pub mod KindLaws
