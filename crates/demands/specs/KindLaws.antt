@@ -20,7 +20,8 @@ use Rattle.events.specs.declared.Event.the-variants.{Setup, Por, Boot, Scan, Te
 use Rattle.events.specs.declared.Event.the-variants.{Soak, Wires}
 use Rattle.settings.specs.Laws.{cond-by}
 use Rattle.records.specs.Numbers.{le16, le32, signed32, words}
-use Rattle.records.specs.Record.{checkedIn, setupIn, bareIn, countedIn, countIn, senseOf, senseIn, repeatOf, ticksOf, ticksIn, soakOf, soakIn}
+use Rattle.records.specs.Record.{checkedIn, setupIn, bareIn, countedIn, countIn, senseOf, senseIn, repeatOf, ticksOf, ticksIn, soakOf}
+use Rattle.records.specs.Record.{soakIn}
 use Rattle.records.specs.Record.{switchIn, loadOf, levelOf, inOf, outIn, wiresIn, groupsAt, inputsAt, laterOf, payloadOf, asRead, readOf}
 use Rattle.records.specs.ReadingLaws.{WholeAt, read-whole}
 use Rattle.records.specs.declared.Payload.{Payload}
@@ -167,7 +168,8 @@ module _ (part : ℕ) (b : List ℕ) where
   pub payload-of : (k : ℕ) → At k (payloadOf k part b)
   unfolding payloadOf
   payload-of k =
-      cond-by (At k) (eqb part 0) (λ e. cond-by (At k) (eqb k 0x0000) (arm k 0x0000 _ (setup-of b)) (unfit-of k (size part k) b)) (later-of k)
+      cond-by (At k) (eqb part 0) (λ e. cond-by (At k) (eqb k 0x0000) (arm k 0x0000 _ (setup-of b)) (unfit-of k (size part k) b))
+      (later-of k)
 
 -- THE KINDS: what is read is of the kind that stands in bytes 2 and 3 of its header, the low byte first
 pub kind-is : (part : ℕ) (r : List ℕ) (e : Event) (next : ℕ) → readOf part r ≡ Record e next

@@ -131,7 +131,8 @@ out-is u l b = by (l .phase) (l .pointer)
     by (Summing k) a = refl
 
 -- START begins afresh, STOP ends; the pointer outlives both
-pub start-stop : (l : Line) → (started l ≡ record { phase = Address; pointer = l .pointer }) × (stopped l ≡ record { phase = Idle; pointer = l .pointer })
+pub start-stop : (l : Line)
+    → (started l ≡ record { phase = Address; pointer = l .pointer }) × (stopped l ≡ record { phase = Idle; pointer = l .pointer })
 start-stop l = (refl, refl)
 
 -- ── IN ──

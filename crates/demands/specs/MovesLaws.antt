@@ -102,7 +102,8 @@ module _ (c : Chip) where
   bus-by (Out b) a =
       subst (λ w. By (OnBus (Out b)) w (onBus (Out b) c .chip)) (sym (when-true (c .normal) (o .store) Nothing a))
       (stored-by (By (OnBus (Out b)) (o .store)) (o .line) (o .store) c
-      (λ t. awakes _ _ (c .normal) a (sym (ap (λ w. moved (c .setup) (OnBus (Out b)) w (c .registers .shown .«cc_oneshot») (c .registers)) t)))
+      (λ t. awakes _ _ (c .normal) a
+      (sym (ap (λ w. moved (c .setup) (OnBus (Out b)) w (c .registers .shown .«cc_oneshot») (c .registers)) t)))
       (λ x y t h. refl)
       (λ x y t h. awakes _ _ (c .normal) a
       (accepts x y ∙ sym (ap (λ w. moved (c .setup) (OnBus (Out b)) w (c .registers .shown .«cc_oneshot») (c .registers)) t))))
@@ -153,8 +154,11 @@ module _ (c : Chip) where
   next-moves e z =
       next-by (By e (wrote (c .setup) (coreOf c) e)) e c (λ f a. normal-by e f a)
       (λ f a. asleep-by (By e (wrote (c .setup) (coreOf c) e)) e c refl
-      (λ b. sym (ap (λ (x : Event). moved (c .setup) x (wrote (c .setup) (coreOf c) x) (c .registers .shown .«cc_oneshot») (c .registers)) b))
-      (z a ∙ sym (ap (λ t. cond t (moved (c .setup) e (wrote (c .setup) (coreOf c) e) (c .registers .shown .«cc_oneshot») (c .registers)) reset) a)))
+      (λ b. sym
+      (ap (λ (x : Event). moved (c .setup) x (wrote (c .setup) (coreOf c) x) (c .registers .shown .«cc_oneshot») (c .registers)) b))
+      (z a ∙ sym
+      (ap (λ t. cond t (moved (c .setup) e (wrote (c .setup) (coreOf c) e) (c .registers .shown .«cc_oneshot») (c .registers)) reset)
+      a)))
       (λ f. stays (c .normal) refl f)
     where
       stays : (t : Bool) → c .normal ≡ t → fits e ≡ false → withShown dark (c .registers)

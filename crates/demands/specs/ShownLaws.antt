@@ -71,7 +71,8 @@ pin-heard f en s h = by (alert (s .status)) refl
 xready-heard : (en : Bool) (s : Shown) → fits Xready ≡ true → readied s ≡ heard Xready Nothing en (λ k. false) s
 xready-heard en s h = simp (h, and-true)
 
-count-heard : (n : ℕ) (en : Bool) (s : Shown) → fits (Count n) ≡ true → cond (en || s .«cc_oneshot») (counting s) s ≡ heard (Count n) Nothing en (λ k. false) s
+count-heard : (n : ℕ) (en : Bool) (s : Shown) → fits (Count n) ≡ true
+    → cond (en || s .«cc_oneshot») (counting s) s ≡ heard (Count n) Nothing en (λ k. false) s
 count-heard n en s h = by en (s .«cc_oneshot») refl
   where
     by : (c t : Bool) → s .«cc_oneshot» ≡ t → cond (c || s .«cc_oneshot») (counting s) s ≡ heard (Count n) Nothing c (λ k. false) s
@@ -137,13 +138,15 @@ module _ (c : Chip) where
   normal-shows Por f a = refl
   normal-shows Boot f a = plain Boot a refl refl refl (λ k. simp f)
   normal-shows Pin f a = awake-shows Pin Nothing _ a (pin-heard true (c .registers .settings .«cc_en») (c .registers .shown) f ∙ (simp f))
-  normal-shows Xready f a = awake-shows Xready Nothing _ a (xready-heard (c .registers .settings .«cc_en») (c .registers .shown) f ∙ (simp f))
+  normal-shows Xready f a =
+      awake-shows Xready Nothing _ a (xready-heard (c .registers .settings .«cc_en») (c .registers .shown) f ∙ (simp f))
   normal-shows (Scan xs) f a =
       awake-shows (Scan xs) Nothing _ a
       (judged-heard (Scan xs) (c .registers .settings .«cc_en») (risen (c .setup .floor) (c .registers .settings) (c .runs) (Scan xs))
       (c .registers .shown) refl refl refl ∙ (simp f))
   normal-shows (Temp xs) f a = plain (Temp xs) a refl refl refl (λ k. simp f)
-  normal-shows (Count n) f a = awake-shows (Count n) Nothing _ a (count-heard n (c .registers .settings .«cc_en») (c .registers .shown) f ∙ (simp f))
+  normal-shows (Count n) f a =
+      awake-shows (Count n) Nothing _ a (count-heard n (c .registers .settings .«cc_en») (c .registers .shown) f ∙ (simp f))
   normal-shows (Sense v) f a =
       awake-shows (Sense v) Nothing _ a
       (judged-heard (Sense v) (c .registers .settings .«cc_en») (risen (c .setup .floor) (c .registers .settings) (c .runs) (Sense v))
@@ -169,7 +172,8 @@ module _ (c : Chip) where
       → normally e c .chip .registers .«outside_level» ≡ false
   ships-level e f a z =
       ap (λ (r : Registers). r .«outside_level») (normal-by c e f a)
-      ∙ ap (λ (t : Bool). cond t (moved (c .setup) e (wrote (c .setup) (coreOf c) e) (c .registers .shown .«cc_oneshot») (c .registers)) reset
+      ∙ ap (λ (t : Bool). cond t
+      (moved (c .setup) e (wrote (c .setup) (coreOf c) e) (c .registers .shown .«cc_oneshot») (c .registers)) reset
       .«outside_level») z
 
   booted : hears Boot Nothing ≡ c .registers .shown
