@@ -73,7 +73,7 @@ want_library() {
 }
 
 # The crates whose calls include/toralinge.h declares.
-calls=(stream i2c_lists services_stream season_stream plain)
+calls=(stream values_c i2c_lists services_stream season_stream plain)
 
 # want_calls: all of them in one library; sets `library`.
 want_calls() {

@@ -1,5 +1,5 @@
--- Request M-110: the choice is the best. Of all that are allowed none has a larger total excess, and of those with an equal one none is a smaller
--- number. Assumes nothing.
+-- Request M-110: the choice is the best. Of all that are allowed none has a larger total excess, and of those with an equal one none is a
+-- smaller number. Assumes nothing.
 use mathlib.Core.Path.{_≡_, refl, sym, ap, subst, _∙_}
 use mathlib.Core.Bool.{Bool, true, false, _&&_, cond}
 use mathlib.Core.List.{List}
@@ -47,7 +47,8 @@ module _ (e : List ℕ) (from : ℕ) where
       record {
         within = omega arith;
         may = y;
-        most = λ m l a. split m k (x m ≤ x k) l (λ p. let s : x m ≤ x b = t .most m p a in omega arith) (λ q. let s : x m ≡ x k = ap x q in omega arith);
+        most = λ m l a. split m k (x m ≤ x k) l (λ p. let s : x m ≤ x b = t .most m p a in omega arith)
+            (λ q. let s : x m ≡ x k = ap x q in omega arith);
         first = λ m l a q. split m k (k ≤ m) l (λ p. let s : x m ≤ x b = t .most m p a in absurd (omega arith)) (λ r. omega arith);
       }
 
@@ -57,7 +58,8 @@ module _ (e : List ℕ) (from : ℕ) where
       record {
         within = omega arith;
         may = t .may;
-        most = λ m l a. split m k (x m ≤ x b) l (λ p. t .most m p a) (λ q. let s : x m ≡ x k = ap x q in let u : x k ≤ x b = h (ap (mayIn e from) (sym q) ∙ a) in omega arith);
+        most = λ m l a. split m k (x m ≤ x b) l (λ p. t .most m p a)
+            (λ q. let s : x m ≡ x k = ap x q in let u : x k ≤ x b = h (ap (mayIn e from) (sym q) ∙ a) in omega arith);
         first = λ m l a q. split m k (b ≤ m) l (λ p. t .first m p a q) (λ r. omega arith);
       }
 
@@ -66,12 +68,19 @@ module _ (e : List ℕ) (from : ℕ) where
   step k b t = by (mayIn e from k) (ltb (x b) (x k)) refl refl
     where
       by : (m l : Bool) → mayIn e from k ≡ m → ltb (x b) (x k) ≡ l → Top e from (suc k) (cond (mayIn e from k && ltb (x b) (x k)) k b)
-      by true true p q = subst (λ (v : Bool). Top e from (suc k) (cond v k b)) (sym (ap (λ (v : Bool). v && ltb (x b) (x k)) p ∙ q)) (taken k b t p (ltb-true (x b) (x k) q))
-      by true false p q = subst (λ (v : Bool). Top e from (suc k) (cond v k b)) (sym (ap (λ (v : Bool). v && ltb (x b) (x k)) p ∙ q)) (kept k b t (λ a. ltb-false (x b) (x k) q))
-      by false l p q = subst (λ (v : Bool). Top e from (suc k) (cond v k b)) (sym (ap (λ (v : Bool). v && ltb (x b) (x k)) p)) (kept k b t (λ a. absurd (subst T (sym a ∙ p) tt)))
+      by true true p q =
+          subst (λ (v : Bool). Top e from (suc k) (cond v k b)) (sym (ap (λ (v : Bool). v && ltb (x b) (x k)) p ∙ q))
+          (taken k b t p (ltb-true (x b) (x k) q))
+      by true false p q =
+          subst (λ (v : Bool). Top e from (suc k) (cond v k b)) (sym (ap (λ (v : Bool). v && ltb (x b) (x k)) p ∙ q))
+          (kept k b t (λ a. ltb-false (x b) (x k) q))
+      by false l p q =
+          subst (λ (v : Bool). Top e from (suc k) (cond v k b)) (sym (ap (λ (v : Bool). v && ltb (x b) (x k)) p))
+          (kept k b t (λ a. absurd (subst T (sym a ∙ p) tt)))
 
   tops : (k : ℕ) → Top e from k (bestBelow e from k)
-  tops zero = record { within = omega arith; may = no-byte e from; most = λ m l a. absurd (omega arith); first = λ m l a q. absurd (omega arith) }
+  tops zero =
+      record { within = omega arith; may = no-byte e from; most = λ m l a. absurd (omega arith); first = λ m l a q. absurd (omega arith) }
   tops (suc k) = step k (bestBelow e from k) (tops k)
 
   top : Top e from 32 (bestIn e from)
@@ -91,13 +100,16 @@ pub record Best (e : List ℕ) (c : Choice) : Type 0 where
   pub least : (d : Choice) → allowed e d ≡ true → total e d ≡ total e c → number c ≤ number d
 
 -- what is known of a choice that is allowed, group by group
-group : (e : List ℕ) (from b : ℕ) → mayIn e from b ≡ true → (excessIn e from b ≤ excessIn e from (bestIn e from)) × (excessIn e from b ≡ excessIn e from (bestIn e from) → bestIn e from ≤ b)
+group : (e : List ℕ) (from b : ℕ) → mayIn e from b ≡ true
+    → (excessIn e from b ≤ excessIn e from (bestIn e from)) × (excessIn e from b ≡ excessIn e from (bestIn e from) → bestIn e from ≤ b)
 group e from b h = (top e from .most b (five e from b h) h, top e from .first b (five e from b h) h)
 
-may-each : (e : List ℕ) (c : Choice) → allowed e c ≡ true → (mayIn e 0 (c .one) ≡ true) × (mayIn e 5 (c .two) ≡ true) × (mayIn e 10 (c .three) ≡ true)
+may-each : (e : List ℕ) (c : Choice) → allowed e c ≡ true
+    → (mayIn e 0 (c .one) ≡ true) × (mayIn e 5 (c .two) ≡ true) × (mayIn e 10 (c .three) ≡ true)
 unfolding allowed
 may-each e c a =
-    let two : (mayIn e 0 (c .one) && mayIn e 5 (c .two)) ≡ true = left-of (mayIn e 0 (c .one) && mayIn e 5 (c .two)) (mayIn e 10 (c .three)) a in (
+    let two : (mayIn e 0 (c .one) && mayIn e 5 (c .two)) ≡ true =
+    left-of (mayIn e 0 (c .one) && mayIn e 5 (c .two)) (mayIn e 10 (c .three)) a in (
       left-of (mayIn e 0 (c .one)) (mayIn e 5 (c .two)) two,
       right-of (mayIn e 0 (c .one)) (mayIn e 5 (c .two)) two,
       right-of (mayIn e 0 (c .one) && mayIn e 5 (c .two)) (mayIn e 10 (c .three)) a,
@@ -135,10 +147,14 @@ neither x y f g = by (ltb x y) (ltb y x) refl refl
     by false true p q = absurd (g (ltb-true y x q))
     by false false p q = let a : y ≤ x = ltb-false x y p in let b : x ≤ y = ltb-false y x q in omega arith
 
-told : (c d : Choice) → number c ≡ number d → (c .one < 32) × (c .two < 32) × (c .three < 32) → (d .one < 32) × (d .two < 32) × (d .three < 32) → c ≡ d
+told : (c d : Choice) → number c ≡ number d → (c .one < 32) × (c .two < 32) × (c .three < 32)
+    → (d .one < 32) × (d .two < 32) × (d .three < 32) → c ≡ d
 told c d n p q =
-    let k : c .three ≡ d .three = neither (c .three) (d .three) (λ h. omega (arith, h, n, p .0, p .1, q .0, q .1)) (λ h. omega (arith, h, n, p .0, p .1, q .0, q .1)) in
-    let j : c .two ≡ d .two = neither (c .two) (d .two) (λ h. omega (arith, h, k, n, p .0, q .0)) (λ h. omega (arith, h, k, n, p .0, q .0)) in
+    let k : c .three ≡ d .three =
+    neither (c .three) (d .three) (λ h. omega (arith, h, n, p .0, p .1, q .0, q .1))
+    (λ h. omega (arith, h, n, p .0, p .1, q .0, q .1)) in
+    let j : c .two ≡ d .two =
+    neither (c .two) (d .two) (λ h. omega (arith, h, k, n, p .0, q .0)) (λ h. omega (arith, h, k, n, p .0, q .0)) in
     let i : c .one ≡ d .one = omega (arith, n, j, k) in
     ap (λ (n : ℕ). made n (c .two) (c .three)) i ∙ ap (λ (n : ℕ). made (d .one) n (c .three)) j ∙ ap (made (d .one) (d .two)) k
 

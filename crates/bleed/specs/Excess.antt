@@ -1,5 +1,5 @@
--- Request M-110, "Which cells to bleed": the lowest connected cell, which cells may be bled, and how far each stands above the lowest. Inputs are counted
--- from 0. Assumes nothing.
+-- Request M-110, "Which cells to bleed": the lowest connected cell, which cells may be bled, and how far each stands above the lowest.
+-- Inputs are counted from 0. Assumes nothing.
 use mathlib.Core.Path.{_≡_, refl}
 use mathlib.Core.Bool.{Bool, true, _&&_, cond}
 use mathlib.Core.List.{List, [], _∷_}

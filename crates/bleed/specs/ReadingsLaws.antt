@@ -1,5 +1,5 @@
--- Request M-110 read in its words: the lowest connected cell is the lowest, only what may be bled has an excess, and where nothing may be bled the
--- proposal is three zero bytes. Assumes nothing.
+-- Request M-110 read in its words: the lowest connected cell is the lowest, only what may be bled has an excess, and where nothing may be
+-- bled the proposal is three zero bytes. Assumes nothing.
 use mathlib.Core.Path.{_≡_, refl, sym, ap, subst, _∙_}
 use mathlib.Core.Bool.{Bool, true, false, not, _&&_, cond}
 use mathlib.Core.Logic.{_⊎_, inl, inr}
@@ -86,29 +86,46 @@ unfolding lowest
 lowest-below cells linked i l h = below-all cells linked 15 i l h
 
 -- a connected cell's count has 16 bits, and so one of them is the lowest
-pub lowest-is : (cells : List ℕ) (linked i : ℕ) → i < 15 → linkedAt linked i ≡ true → getD cells i 0 ≤ 65535 → Has cells linked 15 (lowest cells linked)
+pub lowest-is : (cells : List ℕ) (linked i : ℕ) → i < 15 → linkedAt linked i ≡ true → getD cells i 0 ≤ 65535
+    → Has cells linked 15 (lowest cells linked)
 unfolding lowest
 lowest-is cells linked i l h w = by (found cells linked 15) (below-all cells linked 15 i l h)
   where
-    by : Found cells linked 15 (lowestBelow cells linked 15) → lowestBelow cells linked 15 ≤ getD cells i 0 → Has cells linked 15 (lowestBelow cells linked 15)
+    by : Found cells linked 15 (lowestBelow cells linked 15) → lowestBelow cells linked 15 ≤ getD cells i 0
+        → Has cells linked 15 (lowestBelow cells linked 15)
     by (inl e) b = record { at = i; below = l; is-linked = h; count = omega (arith, e, b, w) }
     by (inr f) b = f
 
 -- ── what may be bled has its excess, at least the margin; what may not has none ──
-pub may-excess : (cells : List ℕ) (linked low margin i : ℕ) → mayBleed cells linked low margin i ≡ true → margin ≤ excessAt cells linked low margin i
+pub may-excess : (cells : List ℕ) (linked low margin i : ℕ) → mayBleed cells linked low margin i ≡ true
+    → margin ≤ excessAt cells linked low margin i
 unfolding excessAt
 may-excess cells linked low margin i h =
-    let l : low + margin ≤ getD cells i 0 = leb-true (low + margin) (getD cells i 0) (right-of (linkedAt linked i) (leb (low + margin) (getD cells i 0)) h) in
+    let l : low + margin ≤ getD cells i 0 =
+    leb-true (low + margin) (getD cells i 0) (right-of (linkedAt linked i) (leb (low + margin) (getD cells i 0)) h) in
     subst (λ (t : Bool). margin ≤ cond t (getD cells i 0 - low) 0) (sym h) (omega arith)
 
-pub may-not : (cells : List ℕ) (linked low margin i : ℕ) → mayBleed cells linked low margin i ≡ false → excessAt cells linked low margin i ≡ 0
+pub may-not : (cells : List ℕ) (linked low margin i : ℕ) → mayBleed cells linked low margin i ≡ false
+    → excessAt cells linked low margin i ≡ 0
 unfolding excessAt
 may-not cells linked low margin i h = ap (λ (t : Bool). cond t (getD cells i 0 - low) 0) h
 
 -- ── no cell allowed: three zero bytes ──
 nothing : (e : List ℕ) (from b : ℕ) → ((i : ℕ) → getD e i 0 ≡ 0) → excessIn e from b ≡ 0
 unfolding excessIn
-nothing e from b h = rw (h from, h (from + 1), h (from + 2), h (from + 3), h (from + 4), none (bit b 1), none (bit b 2), none (bit b 4), none (bit b 8), none (bit b 16))
+nothing e from b h =
+    rw (
+      h from,
+      h (from + 1),
+      h (from + 2),
+      h (from + 3),
+      h (from + 4),
+      none (bit b 1),
+      none (bit b 2),
+      none (bit b 4),
+      none (bit b 8),
+      none (bit b 16),
+    )
   where
     none : (t : Bool) → weighed t 0 ≡ 0
     none true = refl

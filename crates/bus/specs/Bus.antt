@@ -1,5 +1,5 @@
--- Document 01, "Bus". It knows no register: OUT gives the acknowledgement and at most one accepted store, IN asks for a register and is told it.
--- `Line` moves by the host's bytes alone. What depends on what a register held stands apart, in `Owed`. Assumes nothing.
+-- Document 01, "Bus". It knows no register: OUT gives the acknowledgement and at most one accepted store, IN asks for a register and is
+-- told it. `Line` moves by the host's bytes alone. What depends on what a register held stands apart, in `Owed`. Assumes nothing.
 use mathlib.Core.Bool.{Bool, true, false, not, _&&_, cond}
 use Prim.Native.Nat.{ℕ, _+_, _*_, _/_, _%_}
 use lib.Dec.{eqb, leb}

@@ -20,7 +20,8 @@ use Rattle.bus.specs.declared.Store.the-variants.{Nothing, At}
 use Rattle.bus.specs.declared.Outed.{Outed}
 use Rattle.bus.specs.declared.Want.{Want}
 use Rattle.bus.specs.declared.Want.the-variants.{Register, Nothing as NoRegister}
-use Rattle.bus.specs.Bus.{lineOf, grown, started, goes, refuses, stores, addressed, fed, checked, outIn, outed, isHigh, afterData, afterSum, nextByte, inLine, taken, inByte, byteGiven, keeps, inOwed, owing, wantedIn, wanted, takes}
+use Rattle.bus.specs.Bus.{lineOf, grown, started, goes, refuses, stores, addressed, fed, checked, outIn, outed, isHigh, afterData}
+use Rattle.bus.specs.Bus.{afterSum, nextByte, inLine, taken, inByte, byteGiven, keeps, inOwed, owing, wantedIn, wanted, takes}
 
 -- ── the stores of bytes that the host sends one after the other ──
 abbrev pub sends : Setup → Line → List ℕ → List Store
@@ -51,7 +52,12 @@ pub first-write : (u : Setup) (l : Line) (p d c : ℕ) → u .crc ≡ true → u
     ≡ (Nothing ∷ Nothing ∷ Nothing ∷ cond (eqb c (crc (u .address * 2 ∷ p ∷ d ∷ []))) (At p d) Nothing ∷ [])
 unfolding outed
 first-write u l p d c on h hp hd =
-    simp (called u (l .pointer), fed-on u (byteOn (byteOn 0 (u .address * 2)) p) p d on, crc-is (u .address * 2 ∷ p ∷ d ∷ []) (omega arith, (hp, (hd, tt))), decided)
+    simp (
+      called u (l .pointer),
+      fed-on u (byteOn (byteOn 0 (u .address * 2)) p) p d on,
+      crc-is (u .address * 2 ∷ p ∷ d ∷ []) (omega arith, (hp, (hd, tt))),
+      decided,
+    )
 
 -- and a later one where it is the CRC of the data alone
 pub later-write : (u : Setup) (a d c : ℕ) → u .crc ≡ true → d < 256
@@ -110,7 +116,8 @@ told-nothing u here low nack (Reading s k) a o e = cc
 told-nothing u here low nack (Summing k) a o e = refl
 
 -- the same of any bus; and one that asks for a register asks for the one at its pointer
-pub wants-nothing : (u : Setup) (here low : ℕ) (nack : Bool) (b : Bus) → wanted b ≡ NoRegister → takes u here low nack b ≡ takes u 0 0 nack b
+pub wants-nothing : (u : Setup) (here low : ℕ) (nack : Bool) (b : Bus) → wanted b ≡ NoRegister
+    → takes u here low nack b ≡ takes u 0 0 nack b
 unfolding wanted
 wants-nothing u here low nack b e = told-nothing u here low nack (b .line .phase) (b .line .pointer) (b .owed) e
 
@@ -146,7 +153,8 @@ unfolding taken byteGiven owing afterData keeps
 followed u s a here low h₁ l₁ k n o on = simp on
 
 -- which is the read address byte's for the first data byte since START ..
-pub first-read : (u : Setup) (l : Line) → outed u (started l) (u .address * 2 + 1) .line ≡ lineOf (Reading (byteOn 0 (u .address * 2 + 1)) false) (l .pointer)
+pub first-read : (u : Setup) (l : Line)
+    → outed u (started l) (u .address * 2 + 1) .line ≡ lineOf (Reading (byteOn 0 (u .address * 2 + 1)) false) (l .pointer)
 unfolding outed addressed
 first-read u l = simp (ne-eqb (u .address * 2 + 1) (u .address * 2) (omega arith), eq-eqb (u .address * 2 + 1) (u .address * 2 + 1) refl)
 

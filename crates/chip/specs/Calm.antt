@@ -1,5 +1,5 @@
--- Document 02, M-103: from SHIP on, over any events, the outside level 1 and SYS_STAT 0 never stand together; so the level does something only after a
--- clearing write and after its own event. Assumes nothing.
+-- Document 02, M-103: from SHIP on, over any events, the outside level 1 and SYS_STAT 0 never stand together; so the level does something
+-- only after a clearing write and after its own event. Assumes nothing.
 use mathlib.Core.Path.{_≡_, sym, ap}
 use mathlib.Core.List.{List}
 use Prim.Native.Nat.{ℕ}
@@ -29,7 +29,8 @@ ship-calm u = reset-calm
 -- any event leaves a chip so that it found so
 pub calm-next : (e : Event) (c : Chip) → Calmed c → Calmed (next e c)
 calm-next e c k =
-    next-by Calmed e c (λ f a. level-calm (normally e c .chip .registers)) (λ f a. asleep-by Calmed e c (ship-calm (c .setup)) (λ w. level-calm (c .registers)) k) (λ f. k)
+    next-by Calmed e c (λ f a. level-calm (normally e c .chip .registers))
+    (λ f a. asleep-by Calmed e c (ship-calm (c .setup)) (λ w. level-calm (c .registers)) k) (λ f. k)
 
 -- there the level does nothing ..
 pub calm-watched : (c : Chip) → Calmed c → watched c ≡ c
@@ -44,7 +45,8 @@ calm-bus b c k = sym (calm-watched (withBus b c) k)
 
 pub calm-scan : (xs : List ℕ) (c : Chip) → Calmed c → normally (Scan xs) c ≡ settled (normally (Scan xs) c)
 calm-scan xs c k =
-    sym (settles (normally (Scan xs) c) (raised-calm (risen (c .setup .floor) (c .registers .settings) (c .runs) (Scan xs)) (scanned xs (c .registers)) k))
+    sym (settles (normally (Scan xs) c)
+    (raised-calm (risen (c .setup .floor) (c .registers .settings) (c .runs) (Scan xs)) (scanned xs (c .registers)) k))
 
 pub calm-tick : (f : Faults) (n : Runs) (c : Chip) → Calmed c → raisedBy f (withRuns n c) ≡ watched (raisedBy f (withRuns n c))
 calm-tick f n c k = sym (calm-watched (raisedBy f (withRuns n c)) (raised-calm (among f) (c .registers) k))

@@ -10,7 +10,8 @@ use Rattle.events.specs.declared.Counts.{Counts}
 use Rattle.events.specs.declared.BusEvent.{BusEvent}
 use Rattle.events.specs.declared.BusEvent.the-variants.{Start, Stop, Out, In}
 use Rattle.events.specs.declared.Event.{Event as Coded}
-use Rattle.events.specs.Event.{Event, Por, Boot, Pin, Xready, Scan, Temp, Count, Sense, Load, OnBus, Level, fits, ticksFit, Meant, means, ticks, unfit, eventOf, meantOf}
+use Rattle.events.specs.Event.{Event, Por, Boot, Pin, Xready, Scan, Temp, Count, Sense, Load, OnBus, Level, fits, ticksFit, Meant}
+use Rattle.events.specs.Event.{means, ticks, unfit, eventOf, meantOf}
 use Rattle.events.specs.Fault.{Fault}
 use Rattle.bus.specs.declared.Line.{Line}
 use Rattle.bus.specs.declared.Bus.{Bus}
@@ -61,7 +62,8 @@ inShip u = record { setup = u; normal = false; bus = idleBus; registers = reset;
 abbrev pub judged : Event → Chip → Chip
 judged e c =
     withRuns (counted (c .setup .floor) (c .registers .settings) (c .runs) e)
-    (withRegisters (withShown (raised (risen (c .setup .floor) (c .registers .settings) (c .runs) e) (c .registers .shown)) (c .registers)) c)
+    (withRegisters
+    (withShown (raised (risen (c .setup .floor) (c .registers .settings) (c .runs) e) (c .registers .shown)) (c .registers)) c)
 
 -- ── Bus: an accepted store; the byte that ships is acknowledged, then the bus is idle and the pointer 0 ──
 abbrev pub lineMoved : Line → Chip → Chip
@@ -99,7 +101,8 @@ onBus Stop c = numbered DONE (lineMoved (stopped (c .bus .line)) c)
 onBus (Out b) c = sent (outed (c .setup) (c .bus .line) b) c
 onBus (In nack) c = fetched nack c
 
--- ── document 02, M-103: after any event that leaves the chip in NORMAL and is not refused, if the outside level is 1 and SYS_STAT is 0, OVRD_ALERT
+-- ── document 02, M-103: after any event that leaves the chip in NORMAL and is not refused, if the outside level is 1 and SYS_STAT is 0,
+-- OVRD_ALERT
 -- rises and both drives go off. In SHIP the level is 0, so an event that enters SHIP is left as it is ──
 abbrev pub watched : Chip → Chip
 watched c = withRegisters (pulledByLevel (c .registers)) c

@@ -1,5 +1,5 @@
--- What verdicts depend on: the mode, the bus's line and the settings. They move by the events alone: `coreNext` asks the chip that has nothing else.
--- Assumes nothing.
+-- What verdicts depend on: the mode, the bus's line and the settings. They move by the events alone: `coreNext` asks the chip that has
+-- nothing else. Assumes nothing.
 use mathlib.Core.Bool.{Bool}
 use Rattle.events.specs.declared.Setup.{Setup}
 use Rattle.events.specs.Event.{Event}
@@ -23,7 +23,8 @@ coreOf c = record { normal = c .normal; line = c .bus .line; settings = c .regis
 
 -- the chip with this core, and with every bit, drive, count, owed byte and run as after a reset
 abbrev pub bare : Setup → Core → Chip
-bare u k = record { setup = u; normal = k .normal; bus = withLine (k .line) idleBus; registers = withSettings (k .settings) reset; runs = noRuns }
+bare u k =
+    record { setup = u; normal = k .normal; bus = withLine (k .line) idleBus; registers = withSettings (k .settings) reset; runs = noRuns }
 
 abbrev pub coreNext : Setup → Event → Core → Core
 coreNext u e k = coreOf (next e (bare u k))

@@ -1,5 +1,5 @@
--- What the chip owes, of its definitions: SHIP leaves the reset registers and the setup and nothing else, and the reading's total is the sum of the
--- voltages that the cells are asked for one by one. Assumes nothing.
+-- What the chip owes, of its definitions: SHIP leaves the reset registers and the setup and nothing else, and the reading's total is the
+-- sum of the voltages that the cells are asked for one by one. Assumes nothing.
 use mathlib.Core.Path.{_≡_, refl, sym, ap, ap₂, subst, _∙_}
 use mathlib.Core.Bool.{Bool, true, false, cond}
 use mathlib.Core.List.{List, [], _∷_, _++_, map, append-nil}
@@ -54,7 +54,8 @@ unfolding storedAt
 store-ships l a v c h = ap (λ (t : Bool). cond t (inShip (c .setup)) (accepted l a v c)) h
 
 -- a byte that stores is acknowledged
-stores-by : (t : Bool) (o p : Outed) (a v : ℕ) → (o .store ≡ At a v → o .byte ≡ 0) → (p .store ≡ At a v → p .byte ≡ 0) → cond t o p .store ≡ At a v → cond t o p .byte ≡ 0
+stores-by : (t : Bool) (o p : Outed) (a v : ℕ) → (o .store ≡ At a v → o .byte ≡ 0) → (p .store ≡ At a v → p .byte ≡ 0)
+    → cond t o p .store ≡ At a v → cond t o p .byte ≡ 0
 stores-by true o p a v h k s = h s
 stores-by false o p a v h k s = k s
 
@@ -65,8 +66,10 @@ stored-acked : (u : Setup) (p : Phase) (at b a v : ℕ) → outIn u p at b .stor
 unfolding addressed fed checked
 stored-acked u Idle at b a v s = no-store a v s
 stored-acked u Address at b a v s =
-    stores-by (eqb b (u .address * 2)) (goes (Pointing (byteOn 0 b)) at) (cond (eqb b (u .address * 2 + 1)) (goes (Reading (byteOn 0 b) false) at) (refuses at)) a v
-    (λ z. refl) (stores-by (eqb b (u .address * 2 + 1)) (goes (Reading (byteOn 0 b) false) at) (refuses at) a v (λ z. refl) (no-store a v)) s
+    stores-by (eqb b (u .address * 2)) (goes (Pointing (byteOn 0 b)) at)
+    (cond (eqb b (u .address * 2 + 1)) (goes (Reading (byteOn 0 b) false) at) (refuses at)) a v
+    (λ z. refl)
+    (stores-by (eqb b (u .address * 2 + 1)) (goes (Reading (byteOn 0 b) false) at) (refuses at) a v (λ z. refl) (no-store a v)) s
 stored-acked u (Pointing w) at b a v s = refl
 stored-acked u (Writing w) at b a v s = stores-by (u .crc) (goes (Checking b (byteOn w b)) at) (stores at b) a v (λ z. refl) (λ z. refl) s
 stored-acked u (Checking x w) at b a v s = stores-by (eqb b w) (stores at x) (refuses at) a v (λ z. refl) (no-store a v) s
@@ -74,12 +77,14 @@ stored-acked u (Reading w k) at b a v s = no-store a v s
 stored-acked u (Summing k) at b a v s = no-store a v s
 
 -- the byte that ships is acknowledged, and leaves the chip of SHIP
-pub out-ships : (b a v : ℕ) (c : Chip) → c .normal ≡ true → outed (c .setup) (c .bus .line) b .store ≡ At a v → ships a v (c .registers .settings) ≡ true
+pub out-ships : (b a v : ℕ) (c : Chip) → c .normal ≡ true → outed (c .setup) (c .bus .line) b .store ≡ At a v
+    → ships a v (c .registers .settings) ≡ true
     → stepped (OnBus (Out b)) c ≡ answered 0 (inShip (c .setup))
 unfolding fits outed
 out-ships b a v c on s h =
     normal-is (OnBus (Out b)) c refl on
-    ∙ ap (λ (t : ℕ). settled (answered t (stored (o .line) (o .store) c))) (stored-acked (c .setup) (c .bus .line .phase) (c .bus .line .pointer) b a v s)
+    ∙ ap (λ (t : ℕ). settled (answered t (stored (o .line) (o .store) c)))
+    (stored-acked (c .setup) (c .bus .line .phase) (c .bus .line .pointer) b a v s)
     ∙ ap (λ (t : Store). settled (answered 0 (stored (o .line) t c))) s
     ∙ ap (λ (d : Chip). settled (answered 0 d)) (store-ships (o .line) a v c h)
   where
@@ -118,13 +123,15 @@ module _ (g o : ℕ) (xs : List ℕ) (p : ℕ → Bool) where
   abbrev totalThose : List ℕ → ℤ
   totalThose is = fold _+ℤ_ (pos 0) (map (cellMicrovolts g o) (picked xs (those p is)))
 
-  those-last : (is : List ℕ) (i : ℕ) (t : Bool) → p i ≡ t → picked xs (those p (is ++ (i ∷ []))) ≡ picked xs (those p is) ++ cond t (getD xs (i - 1) 0 ∷ []) []
+  those-last : (is : List ℕ) (i : ℕ) (t : Bool) → p i ≡ t
+      → picked xs (those p (is ++ (i ∷ []))) ≡ picked xs (those p is) ++ cond t (getD xs (i - 1) 0 ∷ []) []
   those-last [] i true e = simp e
   those-last [] i false e = simp e
   those-last (j ∷ is) i t e = by (p j) (those-last is i t e)
     where
       by : (b : Bool) → picked xs (those p (is ++ (i ∷ []))) ≡ picked xs (those p is) ++ cond t (getD xs (i - 1) 0 ∷ []) []
-          → picked xs (cond b (j ∷ those p (is ++ (i ∷ []))) (those p (is ++ (i ∷ [])))) ≡ picked xs (cond b (j ∷ those p is) (those p is)) ++ cond t (getD xs (i - 1) 0 ∷ []) []
+          → picked xs (cond b (j ∷ those p (is ++ (i ∷ []))) (those p (is ++ (i ∷ []))))
+          ≡ picked xs (cond b (j ∷ those p is) (those p is)) ++ cond t (getD xs (i - 1) 0 ∷ []) []
       by true h = ap (λ (l : List ℕ). getD xs (j - 1) 0 ∷ l) h
       by false h = h
 
@@ -135,7 +142,8 @@ module _ (g o : ℕ) (xs : List ℕ) (p : ℕ → Bool) where
       ∙ fold-last (pos 0) (cellMicrovolts g o (getD xs (i - 1) 0)) (map (cellMicrovolts g o) (picked xs (those p is)))
 
   total-past : (is : List ℕ) (i : ℕ) → p i ≡ false → totalThose (is ++ (i ∷ [])) ≡ totalThose is
-  total-past is i e = ap (λ (l : List ℕ). fold _+ℤ_ (pos 0) (map (cellMicrovolts g o) l)) (those-last is i false e ∙ append-nil (picked xs (those p is)))
+  total-past is i e =
+      ap (λ (l : List ℕ). fold _+ℤ_ (pos 0) (map (cellMicrovolts g o) l)) (those-last is i false e ∙ append-nil (picked xs (those p is)))
 
 module _ (c : Chip) (on : c .normal ≡ true) where
   abbrev u : Setup
@@ -148,15 +156,19 @@ module _ (c : Chip) (on : c .normal ≡ true) where
   abbrev sumTo : ℕ → ℤ
   sumTo n = totalThose (u .«gain_code») (u .offset) xs (connected u xs) (take n (wiredInputs u))
 
-  sums-by : (n : ℕ) → n < packCells u → Comes c n (sumTo n) → (t : Bool) → connected u xs (inputOf u (suc n)) ≡ t → Comes c (suc n) (sumTo (suc n))
+  sums-by : (n : ℕ) → n < packCells u → Comes c n (sumTo n) → (t : Bool) → connected u xs (inputOf u (suc n)) ≡ t
+      → Comes c (suc n) (sumTo (suc n))
   sums-by n h k true e =
       subst (Comes c (suc n))
-      (sym (ap (totalThose (u .«gain_code») (u .offset) xs (connected u xs)) (take-suc (wiredInputs u) n 0 h) ∙ total-more (u .«gain_code») (u .offset) xs (connected u xs) (take n (wiredInputs u)) (inputOf u (suc n)) e))
+      (sym (ap (totalThose (u .«gain_code») (u .offset) xs (connected u xs)) (take-suc (wiredInputs u) n 0 h)
+      ∙ total-more (u .«gain_code») (u .offset) xs (connected u xs) (take n (wiredInputs u)) (inputOf u (suc n)) e))
       (more (cellMicrovolts (u .«gain_code») (u .offset) (getD xs (inputOf u (suc n) - 1) 0)) k
-      (sym (cell-said (suc n) c on (omega arith) (omega arith) e) ∙ ap (λ (x : ℕ). gives (cellMicrovolts (u .«gain_code») (u .offset) x)) (cell-holds (suc n) c on (omega arith) (omega arith))))
+      (sym (cell-said (suc n) c on (omega arith) (omega arith) e)
+      ∙ ap (λ (x : ℕ). gives (cellMicrovolts (u .«gain_code») (u .offset) x)) (cell-holds (suc n) c on (omega arith) (omega arith))))
   sums-by n h k false e =
       subst (Comes c (suc n))
-      (sym (ap (totalThose (u .«gain_code») (u .offset) xs (connected u xs)) (take-suc (wiredInputs u) n 0 h) ∙ total-past (u .«gain_code») (u .offset) xs (connected u xs) (take n (wiredInputs u)) (inputOf u (suc n)) e))
+      (sym (ap (totalThose (u .«gain_code») (u .offset) xs (connected u xs)) (take-suc (wiredInputs u) n 0 h)
+      ∙ total-past (u .«gain_code») (u .offset) xs (connected u xs) (take n (wiredInputs u)) (inputOf u (suc n)) e))
       (past k (sym (apart-said (suc n) c on (omega arith) (omega arith) e)))
 
   sums : (n : ℕ) → n ≤ packCells u → Comes c n (sumTo n)

@@ -13,7 +13,8 @@ use Rattle.bus.specs.Bus.{outed}
 use Rattle.settings.specs.Write.{ships}
 use Rattle.chip.specs.declared.Chip.{Chip}
 use Rattle.chip.specs.declared.Stepped.{Stepped}
-use Rattle.chip.specs.Chip.{numbered, withNormal, inShip, lineMoved, accepted, storedAt, stored, sent, onBus, watched, settled, normally, asleep, busAsleep, happened, stepped, next}
+use Rattle.chip.specs.Chip.{numbered, withNormal, inShip, lineMoved, accepted, storedAt, stored, sent, onBus, watched, settled}
+use Rattle.chip.specs.Chip.{normally, asleep, busAsleep, happened, stepped, next}
 use Rattle.chip.specs.Core.{Core, coreOf, bare, coreNext}
 
 -- ── an accepted event in NORMAL; in SHIP; a value out of range ──
@@ -30,7 +31,8 @@ pub next-by : (P : Chip → Type 0) (e : Event) (c : Chip)
 unfolding stepped happened
 next-by P e c n s r = by (fits e) (c .normal) n s r
   where
-    by : (f a : Bool) → (f ≡ true → a ≡ true → P (watched (normally e c .chip))) → (f ≡ true → a ≡ false → P (asleep e c .chip)) → (f ≡ false → P c)
+    by : (f a : Bool) → (f ≡ true → a ≡ true → P (watched (normally e c .chip))) → (f ≡ true → a ≡ false → P (asleep e c .chip))
+        → (f ≡ false → P c)
         → P (cond f (cond a (settled (normally e c)) (asleep e c)) (numbered 3 c) .chip)
     by true true n s r = n refl refl
     by true false n s r = s refl refl
@@ -46,7 +48,8 @@ unfolding storedAt
 stored-by P l Nothing c n s k = n refl
 stored-by P l (At a v) c n s k = by (ships a v (c .registers .settings)) (s a v refl) (k a v refl)
   where
-    by : (b : Bool) → (b ≡ true → P (inShip (c .setup))) → (b ≡ false → P (accepted l a v c)) → P (cond b (inShip (c .setup)) (accepted l a v c))
+    by : (b : Bool) → (b ≡ true → P (inShip (c .setup))) → (b ≡ false → P (accepted l a v c))
+        → P (cond b (inShip (c .setup)) (accepted l a v c))
     by true s k = s refl
     by false s k = k refl
 
@@ -73,7 +76,8 @@ setup-normal (OnBus b) c = setup-bus b c
 setup-normal (Level l) c = refl
 
 -- in SHIP the chip enters SHIP anew, wakes, or stays as it is
-pub asleep-by : (P : Chip → Type 0) (e : Event) (c : Chip) → P (inShip (c .setup)) → (e ≡ Boot → P (watched (withNormal true c))) → P c → P (asleep e c .chip)
+pub asleep-by : (P : Chip → Type 0) (e : Event) (c : Chip) → P (inShip (c .setup)) → (e ≡ Boot → P (watched (withNormal true c))) → P c
+    → P (asleep e c .chip)
 asleep-by P Por c i w s = i
 asleep-by P Boot c i w s = w refl
 asleep-by P Pin c i w s = s
@@ -91,7 +95,8 @@ asleep-by P (Level l) c i w s = s
 
 pub setup-next : (e : Event) (c : Chip) → next e c .setup ≡ c .setup
 setup-next e c =
-    next-by (λ d. d .setup ≡ c .setup) e c (λ f a. setup-normal e c) (λ f a. asleep-by (λ d. d .setup ≡ c .setup) e c refl (λ w. refl) refl) (λ f. refl)
+    next-by (λ d. d .setup ≡ c .setup) e c (λ f a. setup-normal e c)
+    (λ f a. asleep-by (λ d. d .setup ≡ c .setup) e c refl (λ w. refl) refl) (λ f. refl)
 
 -- ── the core moves by itself: two chips with one setup and one core go on with one core ──
 abbrev Agree : Chip → Chip → Type 0
@@ -102,7 +107,8 @@ unfolding storedAt
 core-stored l Nothing c = refl
 core-stored l (At a v) c = by (ships a v (c .registers .settings))
   where
-    by : (b : Bool) → Agree (cond b (inShip (c .setup)) (accepted l a v c)) (cond b (inShip (c .setup)) (accepted l a v (bare (c .setup) (coreOf c))))
+    by : (b : Bool)
+        → Agree (cond b (inShip (c .setup)) (accepted l a v c)) (cond b (inShip (c .setup)) (accepted l a v (bare (c .setup) (coreOf c))))
     by true = refl
     by false = refl
 
@@ -145,7 +151,9 @@ core-next e c = by (fits e) (c .normal)
     alone : Chip
     alone = bare (c .setup) (coreOf c)
 
-    by : (f a : Bool) → Agree (cond f (cond a (settled (normally e c)) (asleep e c)) (numbered 3 c) .chip) (cond f (cond a (settled (normally e alone)) (asleep e alone)) (numbered 3 alone) .chip)
+    by : (f a : Bool)
+        → Agree (cond f (cond a (settled (normally e c)) (asleep e c)) (numbered 3 c) .chip)
+        (cond f (cond a (settled (normally e alone)) (asleep e alone)) (numbered 3 alone) .chip)
     by true true = core-normal e c
     by true false = core-asleep e c
     by false a = refl

@@ -23,7 +23,8 @@ use Rattle.chip.specs.declared.outward.ForecastAnswer.the-variants as Fo
 
 -- ALERT 4, CHG 2, DSG 1
 abbrev pub pinsOf : Chip → ℕ
-pinsOf c = weighed (alert (c .registers .shown .status)) 4 + weighed (c .registers .shown .«chg_on») 2 + weighed (c .registers .shown .«dsg_on») 1
+pinsOf c =
+    weighed (alert (c .registers .shown .status)) 4 + weighed (c .registers .shown .«chg_on») 2 + weighed (c .registers .shown .«dsg_on») 1
 
 -- requests M-107 and M-108: the counts of the connected cells, the lowest first
 abbrev pub linkedCounts : Chip → List ℕ
@@ -35,7 +36,8 @@ voltageSaid n c =
     cond (c .normal)
     (cond (leb 1 n && leb n (packCells (c .setup)))
     (cond (connected (c .setup) (c .registers .measured .cells) (inputOf (c .setup) n))
-    (gives (cellMicrovolts (c .setup .«gain_code») (c .setup .offset) (cellAt (c .setup) (c .registers .measured) (inputOf (c .setup) n - 1))))
+    (gives (cellMicrovolts (c .setup .«gain_code») (c .setup .offset)
+    (cellAt (c .setup) (c .registers .measured) (inputOf (c .setup) n - 1))))
     (refuses 10))
     (refuses 6))
     (refuses 4)

@@ -28,7 +28,8 @@ module _ (code offset : ℕ) (xs : List ℕ) (few : length xs ≤ 15) where
   first : cellMicrovolts code offset (getD (padded 15 xs) 0 0) ≡ cellMicrovolts code offset (getD xs 0 0)
   first = ap (cellMicrovolts code offset) (padded-at 15 xs 0 (omega arith))
 
-  folded : (f : ℤ → ℤ → ℤ) → fold f (cellMicrovolts code offset (getD (padded 15 xs) 0 0)) (voltages code offset (take (length xs) (padded 15 xs)))
+  folded : (f : ℤ → ℤ → ℤ)
+      → fold f (cellMicrovolts code offset (getD (padded 15 xs) 0 0)) (voltages code offset (take (length xs) (padded 15 xs)))
       ≡ fold f (cellMicrovolts code offset (getD xs 0 0)) (voltages code offset (take (length xs) xs))
   folded f =
       ap (λ (z : ℤ). fold f z (voltages code offset (take (length xs) (padded 15 xs)))) first
@@ -47,11 +48,18 @@ module _ (code offset : ℕ) (xs : List ℕ) (few : length xs ≤ 15) where
 pub pack-reads : (c : Chip) (k : Counts) (r : Reading) → k ≡ countsOf (linkedCounts c)
     → IsReading (c .setup .«gain_code») (c .setup .offset) (k .many) (k .of) (c .registers .measured .cc) r → Reads c r
 pack-reads c k r q p =
-    unpadded (c .setup .«gain_code») (c .setup .offset) (linkedCounts c) (omega (arith, few-linked (c .setup) (c .registers .measured .cells), picked-many (c .registers .measured .cells) (linkedInputs (c .setup) (c .registers .measured .cells)))) (c .registers .measured .cc) r
+    unpadded (c .setup .«gain_code») (c .setup .offset) (linkedCounts c)
+    (omega (
+      arith,
+      few-linked (c .setup) (c .registers .measured .cells),
+      picked-many (c .registers .measured .cells) (linkedInputs (c .setup) (c .registers .measured .cells)),
+    ))
+    (c .registers .measured .cc) r
     (subst (λ (k : Counts). IsReading (c .setup .«gain_code») (c .setup .offset) (k .many) (k .of) (c .registers .measured .cc) r) q p)
 
 -- and whether there is one
-forecast-by : (c : Chip) (a t : Bool) → c .normal ≡ a → eqb (length (linkedCounts c)) 0 ≡ t → _≡_ {A = ℕ} (cond a (cond t 10 0) 4) (forecastNumber c)
+forecast-by : (c : Chip) (a t : Bool) → c .normal ≡ a → eqb (length (linkedCounts c)) 0 ≡ t
+    → _≡_ {A = ℕ} (cond a (cond t 10 0) 4) (forecastNumber c)
 forecast-by c a t e f = sym (ap₂ (λ a t. cond a (cond t 10 0) 4) e f)
 
 pub asleep-number : (c : Chip) → c .normal ≡ false → 4 ≡ forecastNumber c

@@ -1,4 +1,5 @@
--- The parts that an event in NORMAL moves, one by one: the bus with its answer and then the store; the runs and then what rises. Assumes nothing.
+-- The parts that an event in NORMAL moves, one by one: the bus with its answer and then the store; the runs and then what rises. Assumes
+-- nothing.
 use mathlib.Core.Path.{_≡_, refl, ap}
 use mathlib.Core.Bool.{Bool, true, false, cond, _||_, true≢false}
 use Prim.Native.Nat.{ℕ}
@@ -26,7 +27,8 @@ use Rattle.protection.specs.Judged.{tickJudged, tick-judged}
 use Rattle.chip.specs.declared.Chip.{Chip}
 use Rattle.chip.specs.declared.Heard.{Heard}
 use Rattle.chip.specs.declared.Stepped.{Stepped}
-use Rattle.chip.specs.Chip.{numbered, answered, withBus, withRegisters, withRuns, inShip, lineMoved, accepted, watched, settled, storedAt, stored, sent, takenBy, onBus, normally}
+use Rattle.chip.specs.Chip.{numbered, answered, withBus, withRegisters, withRuns, inShip, lineMoved, accepted, watched, settled}
+use Rattle.chip.specs.Chip.{storedAt, stored, sent, takenBy, onBus, normally}
 
 -- ── the bus: what is heard at once ──
 abbrev pub unheard : Line → Bus → Heard
@@ -46,7 +48,8 @@ heardOf (In nack) c = handedOver (takenBy nack c)
 
 -- ── then the store: an accepted write, after which the outside level is looked at, or SHIP ──
 unfoldable pub wrote : ℕ → ℕ → Chip → Chip
-wrote a v c = cond (ships a v (c .registers .settings)) (inShip (c .setup)) (watched (withRegisters (written (c .setup) a v (c .registers)) c))
+wrote a v c =
+    cond (ships a v (c .registers .settings)) (inShip (c .setup)) (watched (withRegisters (written (c .setup) a v (c .registers)) c))
 
 abbrev pub landed : Store → Chip → Chip
 landed Nothing c = watched c
@@ -59,11 +62,14 @@ sent-parts : (o : Outed) (c : Chip) → told (sentOn o (c .bus)) c ≡ settled (
 unfolding wrote storedAt
 sent-parts o c = by (o .store)
   where
-    or-ships : (a v : ℕ) (t : Bool) → cond t (inShip (c .setup)) (watched (accepted (o .line) a v c)) ≡ watched (cond t (inShip (c .setup)) (accepted (o .line) a v c))
+    or-ships : (a v : ℕ) (t : Bool)
+        → cond t (inShip (c .setup)) (watched (accepted (o .line) a v c)) ≡ watched (cond t (inShip (c .setup)) (accepted (o .line) a v c))
     or-ships a v true = refl
     or-ships a v false = refl
 
-    by : (t : Store) → _≡_ {A = Stepped} (record { chip = landed t (lineMoved (o .line) c); number = 0; flag = true; byte = o .byte }) (settled (answered (o .byte) (stored (o .line) t c)))
+    by : (t : Store)
+        → _≡_ {A = Stepped} (record { chip = landed t (lineMoved (o .line) c); number = 0; flag = true; byte = o .byte })
+        (settled (answered (o .byte) (stored (o .line) t c)))
     by Nothing = refl
     by (At a v) = ap (answered (o .byte)) (or-ships a v (ships a v (c .registers .settings)))
 
@@ -79,7 +85,9 @@ abbrev pub raisedBy : Faults → Chip → Chip
 raisedBy f c = withRegisters (withShown (raised (among f) (c .registers .shown)) (c .registers)) c
 
 pub tick-parts : (v : ℤ) (c : Chip)
-    → numbered 0 (raisedBy (tickJudged (c .registers .settings) v (c .runs) .risen) (withRuns (tickJudged (c .registers .settings) v (c .runs) .runs) c))
+    → numbered 0
+    (raisedBy (tickJudged (c .registers .settings) v (c .runs) .risen)
+    (withRuns (tickJudged (c .registers .settings) v (c .runs) .runs) c))
     ≡ normally (Sense v) c
 tick-parts v c = simp (tick-judged (c .setup .floor))
 
@@ -96,4 +104,5 @@ pub still-tick : (s : Settings) (v : ℤ) (n : Runs) (c : Chip) → (tickJudged 
 unfolding tickJudged
 still-tick s v n c h =
     let q = neither (tickJudged s v n .risen .scd) (tickJudged s v n .risen .ocd) h in
-    ap (λ (w : Shown). withRegisters (withShown w (c .registers)) c) (none-raised (tickJudged s v n .risen) (c .registers .shown) refl refl (q .0) (q .1))
+    ap (λ (w : Shown). withRegisters (withShown w (c .registers)) c)
+    (none-raised (tickJudged s v n .risen) (c .registers .shown) refl refl (q .0) (q .1))

@@ -1,6 +1,6 @@
--- Requests M-100 and M-109: what ticks of one value leave, said once over their number: m and then n are m + n, they are as many SENSE, and the chip after
--- them has the runs by their number and shows what is due at the last; the outside level is looked at after each, and finds nothing to raise after the
--- first. Assumes nothing.
+-- Requests M-100 and M-109: what ticks of one value leave, said once over their number: m and then n are m + n, they are as many SENSE,
+-- and the chip after them has the runs by their number and shows what is due at the last; the outside level is looked at after each, and
+-- finds nothing to raise after the first. Assumes nothing.
 use mathlib.Core.Path.{_≡_, refl, sym, ap, subst, _∙_}
 use mathlib.Core.Bool.{Bool, true, false, cond, _&&_, true≢false}
 use Prim.Native.Nat.{ℕ, zero, suc, _+_}
@@ -21,7 +21,8 @@ use Rattle.protection.specs.Judged.{tickJudged}
 use Rattle.protection.specs.Repeat.{ticksJudged, scd-stays, ocd-stays}
 use Rattle.chip.specs.declared.Chip.{Chip}
 use Rattle.chip.specs.declared.Stepped.{Stepped}
-use Rattle.chip.specs.Chip.{numbered, withRegisters, withRuns, watched, settled, normally, asleep, happened, stepped, next, ticking, ticked, steppedAs}
+use Rattle.chip.specs.Chip.{numbered, withRegisters, withRuns, watched, settled, normally, asleep, happened, stepped, next}
+use Rattle.chip.specs.Chip.{ticking, ticked, steppedAs}
 use Rattle.chip.specs.MovesLaws.{setup-next}
 use Rattle.chip.specs.Parts.{raisedBy, tick-parts}
 use Rattle.chip.specs.Calm.{Calmed, calm-next, calm-tick}
@@ -46,7 +47,8 @@ ticking-mode (suc n) v c = tick-mode v (ticking n v c) (c .normal) (ticking-mode
 
 pub ticking-asleep : (n : ℕ) (v : ℤ) (c : Chip) → c .normal ≡ false → ticking n v c ≡ c
 ticking-asleep zero v c a = refl
-ticking-asleep (suc n) v c a = ap (λ (d : Chip). happened (Sense v) d .chip) (ticking-asleep n v c a) ∙ ap (λ (s : Stepped). s .chip) (tick-asleep v c a)
+ticking-asleep (suc n) v c a =
+    ap (λ (d : Chip). happened (Sense v) d .chip) (ticking-asleep n v c a) ∙ ap (λ (s : Stepped). s .chip) (tick-asleep v c a)
 
 -- the setup never moves, whatever the code's event means
 tick-setup : (v : ℤ) (c : Chip) → happened (Sense v) c .chip .setup ≡ c .setup
@@ -105,15 +107,19 @@ ticking-more m (suc n) v c =
 pub ticked-more : (m n : ℕ) (v : ℤ) (c : Chip) → ticked n v (ticked m v c .chip) ≡ ticked (m + n) v c
 ticked-more m n v c = by (c .normal) refl
   where
-    by : (t : Bool) → c .normal ≡ t → ticked n v (cond t (numbered 0 (ticking m v c)) (numbered 4 c) .chip) ≡ cond t (numbered 0 (ticking (m + n) v c)) (numbered 4 c)
+    by : (t : Bool) → c .normal ≡ t
+        → ticked n v (cond t (numbered 0 (ticking m v c)) (numbered 4 c) .chip) ≡ cond t (numbered 0 (ticking (m + n) v c)) (numbered 4 c)
     by true a =
-        ap (λ (t : Bool). cond t (numbered 0 (ticking n v (ticking m v c))) (numbered 4 (ticking m v c))) (ticking-mode m v c ∙ a) ∙ ap (numbered 0) (ticking-more m n v c)
+        ap (λ (t : Bool). cond t (numbered 0 (ticking n v (ticking m v c))) (numbered 4 (ticking m v c))) (ticking-mode m v c ∙ a)
+        ∙ ap (numbered 0) (ticking-more m n v c)
     by false a = ap (λ (t : Bool). cond t (numbered 0 (ticking n v c)) (numbered 4 c)) a
 
-pub records-more : (most some all m n : ℕ) (v : ℤ) (c : Chip) → ticksFit most v m ≡ true → ticksFit some v n ≡ true → ticksFit all v (m + n) ≡ true
+pub records-more : (most some all m n : ℕ) (v : ℤ) (c : Chip) → ticksFit most v m ≡ true → ticksFit some v n ≡ true
+    → ticksFit all v (m + n) ≡ true
     → steppedAs (ticks some v n) (steppedAs (ticks most v m) c .chip) ≡ steppedAs (ticks all v (m + n)) c
 records-more most some all m n v c f g h =
-    ap (λ (t : Bool). cond t (ticked n v d) (numbered 3 d)) g ∙ ap (λ (t : Bool). ticked n v (cond t (ticked m v c) (numbered 3 c) .chip)) f ∙ ticked-more m n v c
+    ap (λ (t : Bool). cond t (ticked n v d) (numbered 3 d)) g
+    ∙ ap (λ (t : Bool). ticked n v (cond t (ticked m v c) (numbered 3 c) .chip)) f ∙ ticked-more m n v c
     ∙ ap (λ (t : Bool). cond t (ticked (m + n) v c) (numbered 3 c)) (sym h)
   where
     d : Chip
@@ -181,7 +187,8 @@ abbrev pub tickedBy : Judged → Chip → Chip
 tickedBy j c = raisedBy (j .risen) (withRuns (j .runs) c)
 
 tick-on : (n : ℕ) (v : ℤ) (c : Chip)
-    → tickedBy (tickJudged (c .registers .settings) v (ticksJudged n (c .registers .settings) v (c .runs) .runs)) (tickedBy (ticksJudged n (c .registers .settings) v (c .runs)) c)
+    → tickedBy (tickJudged (c .registers .settings) v (ticksJudged n (c .registers .settings) v (c .runs) .runs))
+    (tickedBy (ticksJudged n (c .registers .settings) v (c .runs)) c)
     ≡ tickedBy (ticksJudged (suc n) (c .registers .settings) v (c .runs)) c
 unfolding ticksJudged tickJudged
 tick-on zero v c = refl
@@ -190,10 +197,12 @@ tick-on (suc n) v c =
     let j : Judged = ticksJudged (suc n) s v (c .runs) in
     let k : Judged = ticksJudged (suc (suc n)) s v (c .runs) in
     ap (λ (w : Shown). withRegisters (withShown w (c .registers)) (withRuns (k .runs) c))
-    (raised-again (j .risen .scd) (j .risen .ocd) (k .risen .scd) (k .risen .ocd) (c .registers .shown) (scd-stays (suc n) s v (c .runs)) (ocd-stays (suc n) s v (c .runs)))
+    (raised-again (j .risen .scd) (j .risen .ocd) (k .risen .scd) (k .risen .ocd) (c .registers .shown) (scd-stays (suc n) s v (c .runs))
+    (ocd-stays (suc n) s v (c .runs)))
 
 -- where the outside level has nothing to raise: all of them at once
-ticking-is : (n : ℕ) (v : ℤ) (c : Chip) → c .normal ≡ true → Calmed c → ticking n v c ≡ tickedBy (ticksJudged n (c .registers .settings) v (c .runs)) c
+ticking-is : (n : ℕ) (v : ℤ) (c : Chip) → c .normal ≡ true → Calmed c
+    → ticking n v c ≡ tickedBy (ticksJudged n (c .registers .settings) v (c .runs)) c
 unfolding ticksJudged
 ticking-is zero v c a k = refl
 ticking-is (suc n) v c a k =

@@ -36,8 +36,10 @@ module _ (u : Setup) where
   low-resets : (a : ℕ) → a < 12 → Resets a
   unfolding controlByte cellbalByte settingsByte fixedByte resetByte
   low-resets a h =
-      last-or Resets 11 a refl (last-or Resets 10 a refl (last-or Resets 9 a refl (last-or Resets 8 a refl (last-or Resets 7 a refl (last-or Resets 6 a refl
-      (last-or Resets 5 a refl (last-or Resets 4 a refl (last-or Resets 3 a (same (leb 3 (groups u)) 0) (last-or Resets 2 a (same (leb 2 (groups u)) 0)
+      last-or Resets 11 a refl
+      (last-or Resets 10 a refl (last-or Resets 9 a refl (last-or Resets 8 a refl (last-or Resets 7 a refl (last-or Resets 6 a refl
+      (last-or Resets 5 a refl
+      (last-or Resets 4 a refl (last-or Resets 3 a (same (leb 3 (groups u)) 0) (last-or Resets 2 a (same (leb 2 (groups u)) 0)
       (last-or Resets 1 a (same (leb 1 (groups u)) 0) (last-or Resets 0 a refl (λ z. absurd (omega arith))))))))))))) h
 
   zeros : (n k : ℕ) → _≡_ {A = ℕ} (getD (replicate n 0) k 0) 0
@@ -54,7 +56,8 @@ module _ (u : Setup) where
   no-word : (a : ℕ) → wordAt u nothing a ≡ 0
   unfolding wordAt
   no-word a =
-      ap (λ (x : ℕ). cond (ltb a 0x2A) x (cond (ltb a 0x2C) 0 (cond (ltb a 0x32) (tsAt u nothing ((a - 0x2C) / 2)) 0))) (no-cell ((a - 0x0C) / 2))
+      ap (λ (x : ℕ). cond (ltb a 0x2A) x (cond (ltb a 0x2C) 0 (cond (ltb a 0x32) (tsAt u nothing ((a - 0x2C) / 2)) 0)))
+      (no-cell ((a - 0x0C) / 2))
       ∙ ap (λ (x : ℕ). cond (ltb a 0x2A) 0 (cond (ltb a 0x2C) 0 (cond (ltb a 0x32) x 0))) (no-ts ((a - 0x2C) / 2))
       ∙ ap (λ (x : ℕ). cond (ltb a 0x2A) 0 (cond (ltb a 0x2C) 0 x)) (same (ltb a 0x32) 0)
       ∙ ap (λ (x : ℕ). cond (ltb a 0x2A) 0 x) (same (ltb a 0x2C) 0)
@@ -66,7 +69,13 @@ module _ (u : Setup) where
 
   fixed-only : (a : ℕ) → 12 ≤ a → fixedByte u a ≡ resetByte u a
   unfolding resetByte
-  fixed-only a h = simp (ne-eqb a 0x04 (λ e. omega arith), ne-eqb a 0x09 (λ e. omega arith), ne-eqb a 0x0A (λ e. omega arith), ne-eqb a 0x0B (λ e. omega arith))
+  fixed-only a h =
+      simp (
+        ne-eqb a 0x04 (λ e. omega arith),
+        ne-eqb a 0x09 (λ e. omega arith),
+        ne-eqb a 0x0A (λ e. omega arith),
+        ne-eqb a 0x0B (λ e. omega arith),
+      )
 
   no-fixed : (a : ℕ) → a < 0x34 → fixedByte u a ≡ 0
   unfolding fixedByte
@@ -76,7 +85,8 @@ module _ (u : Setup) where
   unfolding readAt
   ship-reads a = by (ltb a 0x0C) (ltb a 0x34) refl refl
     where
-      by : (s t : Bool) → ltb a 0x0C ≡ s → ltb a 0x34 ≡ t → cond s (controlByte u reset a) (cond t (half a (wordAt u nothing a)) (fixedByte u a)) ≡ resetByte u a
+      by : (s t : Bool) → ltb a 0x0C ≡ s → ltb a 0x34 ≡ t
+          → cond s (controlByte u reset a) (cond t (half a (wordAt u nothing a)) (fixedByte u a)) ≡ resetByte u a
       by true t e f = low-resets a (ltb-true a 0x0C e)
       by false true e f = no-half a ∙ sym (no-fixed a (ltb-true a 0x34 f)) ∙ fixed-only a (ltb-false a 0x0C e)
       by false false e f = fixed-only a (ltb-false a 0x0C e)

@@ -24,14 +24,18 @@ abbrev said : Chip → ℕ → Bool → Bool → Bool → Bool → Said ℤ
 said c n a l h k =
     cond a
     (cond (l && h)
-    (cond k (gives (cellMicrovolts (c .setup .«gain_code») (c .setup .offset) (cellAt (c .setup) (c .registers .measured) (inputOf (c .setup) n - 1)))) (refuses 10))
+    (cond k (gives
+    (cellMicrovolts (c .setup .«gain_code») (c .setup .offset)
+    (cellAt (c .setup) (c .registers .measured) (inputOf (c .setup) n - 1)))) (refuses 10))
     (refuses 6))
     (refuses 4)
 
-by-tests : (n : ℕ) (c : Chip) (a l h k : Bool) → c .normal ≡ a → leb 1 n ≡ l → leb n (packCells (c .setup)) ≡ h → isLinked c n ≡ k → said c n a l h k ≡ voltageSaid n c
+by-tests : (n : ℕ) (c : Chip) (a l h k : Bool) → c .normal ≡ a → leb 1 n ≡ l → leb n (packCells (c .setup)) ≡ h → isLinked c n ≡ k
+    → said c n a l h k ≡ voltageSaid n c
 unfolding voltageSaid
 by-tests n c a l h k ea el eh ek =
-    ap (λ (t : Bool). said c n t l h k) (sym ea) ∙ ap (λ (t : Bool). said c n (c .normal) t h k) (sym el) ∙ ap (λ (t : Bool). said c n (c .normal) (leb 1 n) t k) (sym eh)
+    ap (λ (t : Bool). said c n t l h k) (sym ea) ∙ ap (λ (t : Bool). said c n (c .normal) t h k) (sym el)
+    ∙ ap (λ (t : Bool). said c n (c .normal) (leb 1 n) t k) (sym eh)
     ∙ ap (said c n (c .normal) (leb 1 n) (leb n (packCells (c .setup)))) (sym ek)
 
 pub asleep-said : (n : ℕ) (c : Chip) → c .normal ≡ false → refuses 4 ≡ voltageSaid n c
@@ -47,14 +51,18 @@ module _ (n : ℕ) (c : Chip) (a : c .normal ≡ true) (l : 1 ≤ n) (h : n ≤ 
   pub apart-said : isLinked c n ≡ false → refuses 10 ≡ voltageSaid n c
   apart-said k = by-tests n c true true true false a (le-leb 1 n l) (le-leb n (packCells (c .setup)) h) k
 
-  pub cell-said : isLinked c n ≡ true → gives (cellMicrovolts (c .setup .«gain_code») (c .setup .offset) (cellAt (c .setup) (c .registers .measured) (inputOf (c .setup) n - 1))) ≡ voltageSaid n c
+  pub cell-said : isLinked c n ≡ true
+      → gives (cellMicrovolts (c .setup .«gain_code») (c .setup .offset)
+      (cellAt (c .setup) (c .registers .measured) (inputOf (c .setup) n - 1))) ≡ voltageSaid n c
   cell-said k = by-tests n c true true true true a (le-leb 1 n l) (le-leb n (packCells (c .setup)) h) k
 
   -- what the register of its input holds
-  pub cell-holds : cellAt (c .setup) (c .registers .measured) (inputOf (c .setup) n - 1) ≡ getD (c .registers .measured .cells) (inputOf (c .setup) n - 1) 0
+  pub cell-holds : cellAt (c .setup) (c .registers .measured) (inputOf (c .setup) n - 1)
+      ≡ getD (c .registers .measured .cells) (inputOf (c .setup) n - 1) 0
   cell-holds =
       let w = numbers (c .setup) .wired n l h in
-      ap (λ (t : Bool). cond t (getD (c .registers .measured .cells) (inputOf (c .setup) n - 1) 0) 0) (lt-ltb (inputOf (c .setup) n - 1) (inputs (c .setup)) (omega (arith, w .from, w .below)))
+      ap (λ (t : Bool). cond t (getD (c .registers .measured .cells) (inputOf (c .setup) n - 1) 0) 0)
+      (lt-ltb (inputOf (c .setup) n - 1) (inputs (c .setup)) (omega (arith, w .from, w .below)))
 
   pub holds-linked : converts (c .setup) (cellAt (c .setup) (c .registers .measured) (inputOf (c .setup) n - 1)) ≡ isLinked c n
   holds-linked = ap (converts (c .setup)) cell-holds ∙ cell-converts (c .setup) (c .registers .measured .cells) n l h

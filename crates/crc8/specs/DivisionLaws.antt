@@ -55,7 +55,9 @@ xor-swap =
     (λ a ih b c. xor-step (bitXor a b) c
     ∙ ap₂ (λ (x y : ℕ). x * 2 + y)
     (ap (λ (x : ℕ). bitXor x (c / 2)) (half a b) ∙ ih (b / 2) (c / 2) ∙ ap (λ (x : ℕ). bitXor x (b / 2)) (sym (half a c)))
-    (ap (λ (x : ℕ). differ x (c % 2)) (low a b) ∙ differ-swap (bit (a % 2) (omega arith)) (bit (b % 2) (omega arith)) (bit (c % 2) (omega arith)) ∙ ap (λ (x : ℕ). differ x (b % 2)) (sym (low a c)))
+    (ap (λ (x : ℕ). differ x (c % 2)) (low a b)
+    ∙ differ-swap (bit (a % 2) (omega arith)) (bit (b % 2) (omega arith)) (bit (c % 2) (omega arith))
+    ∙ ap (λ (x : ℕ). differ x (b % 2)) (sym (low a c)))
     ∙ sym (xor-step (bitXor a c) b))
 
 -- what is added to a polynomial without x^8 goes into its remainder as it is
@@ -81,7 +83,8 @@ turn-lt x h true e = simp e (ltb-true (2 * x) 256 e)
 turn-lt x h false e =
     let g : 256 ≤ 2 * x = ltb-false (2 * x) 256 e in
     let s : 2 * x ≡ 1 * 2 ^ 8 + (2 * x - 256) = omega arith in
-    let b : bitXor (2 * x) 263 ≡ 0 * 2 ^ 8 + bitXor (2 * x - 256) 7 = ap (λ (n : ℕ). bitXor n 263) s ∙ xor-block 8 1 1 (2 * x - 256) 7 (omega arith) (omega arith) in
+    let b : bitXor (2 * x) 263 ≡ 0 * 2 ^ 8 + bitXor (2 * x - 256) 7 =
+    ap (λ (n : ℕ). bitXor n 263) s ∙ xor-block 8 1 1 (2 * x - 256) 7 (omega arith) (omega arith) in
     let l : bitXor (2 * x - 256) 7 < 2 ^ 8 = xor-lt 8 (2 * x - 256) 7 (omega arith) (omega arith) in
     simp e (omega arith)
 
@@ -89,7 +92,8 @@ turned : (x : ℕ) → x < 256 → turn x < 256
 turned x h = turn-lt x h (ltb (2 * x) 256) refl
 
 -- the next coefficient is brought down
-next : (x y e z : ℕ) (bs : List ℕ) → x < 256 → y < 128 → e < 2 → 2 * y + e ≡ z → remainder (bitXor x y) (e ∷ bs) ≡ remainder (bitXor (turn x) z) bs
+next : (x y e z : ℕ) (bs : List ℕ) → x < 256 → y < 128 → e < 2 → 2 * y + e ≡ z
+    → remainder (bitXor x y) (e ∷ bs) ≡ remainder (bitXor (turn x) z) bs
 next x y e z bs hx hy he q = ap (λ (n : ℕ). remainder n bs) (down x y e hx hy he ∙ ap (bitXor (turn x)) q)
 
 -- the eight bits of a byte
@@ -103,13 +107,21 @@ byte r b bs hr hb =
     let h6 : turn (turn (turn (turn (turn (turn r))))) < 256 = turned (turn (turn (turn (turn (turn r))))) h5 in
     let h7 : turn (turn (turn (turn (turn (turn (turn r)))))) < 256 = turned (turn (turn (turn (turn (turn (turn r)))))) h6 in
     ap (λ (n : ℕ). remainder n (bits (b ∷ []) ++ bs)) (sym (xor-zero-r r))
-    ∙ next r 0 (b / 128 % 2) (b / 128) ((b / 64 % 2) ∷ (b / 32 % 2) ∷ (b / 16 % 2) ∷ (b / 8 % 2) ∷ (b / 4 % 2) ∷ (b / 2 % 2) ∷ (b % 2) ∷ bs) hr (omega arith) (omega arith) (omega arith)
-    ∙ next (turn r) (b / 128) (b / 64 % 2) (b / 64) ((b / 32 % 2) ∷ (b / 16 % 2) ∷ (b / 8 % 2) ∷ (b / 4 % 2) ∷ (b / 2 % 2) ∷ (b % 2) ∷ bs) h1 (omega arith) (omega arith) (omega arith)
-    ∙ next (turn (turn r)) (b / 64) (b / 32 % 2) (b / 32) ((b / 16 % 2) ∷ (b / 8 % 2) ∷ (b / 4 % 2) ∷ (b / 2 % 2) ∷ (b % 2) ∷ bs) h2 (omega arith) (omega arith) (omega arith)
-    ∙ next (turn (turn (turn r))) (b / 32) (b / 16 % 2) (b / 16) ((b / 8 % 2) ∷ (b / 4 % 2) ∷ (b / 2 % 2) ∷ (b % 2) ∷ bs) h3 (omega arith) (omega arith) (omega arith)
-    ∙ next (turn (turn (turn (turn r)))) (b / 16) (b / 8 % 2) (b / 8) ((b / 4 % 2) ∷ (b / 2 % 2) ∷ (b % 2) ∷ bs) h4 (omega arith) (omega arith) (omega arith)
-    ∙ next (turn (turn (turn (turn (turn r))))) (b / 8) (b / 4 % 2) (b / 4) ((b / 2 % 2) ∷ (b % 2) ∷ bs) h5 (omega arith) (omega arith) (omega arith)
-    ∙ next (turn (turn (turn (turn (turn (turn r)))))) (b / 4) (b / 2 % 2) (b / 2) ((b % 2) ∷ bs) h6 (omega arith) (omega arith) (omega arith)
+    ∙ next r 0 (b / 128 % 2) (b / 128)
+    ((b / 64 % 2) ∷ (b / 32 % 2) ∷ (b / 16 % 2) ∷ (b / 8 % 2) ∷ (b / 4 % 2) ∷ (b / 2 % 2) ∷ (b % 2) ∷ bs) hr (omega arith)
+    (omega arith) (omega arith)
+    ∙ next (turn r) (b / 128) (b / 64 % 2) (b / 64)
+    ((b / 32 % 2) ∷ (b / 16 % 2) ∷ (b / 8 % 2) ∷ (b / 4 % 2) ∷ (b / 2 % 2) ∷ (b % 2) ∷ bs) h1 (omega arith) (omega arith) (omega arith)
+    ∙ next (turn (turn r)) (b / 64) (b / 32 % 2) (b / 32) ((b / 16 % 2) ∷ (b / 8 % 2) ∷ (b / 4 % 2) ∷ (b / 2 % 2) ∷ (b % 2) ∷ bs) h2
+    (omega arith) (omega arith) (omega arith)
+    ∙ next (turn (turn (turn r))) (b / 32) (b / 16 % 2) (b / 16) ((b / 8 % 2) ∷ (b / 4 % 2) ∷ (b / 2 % 2) ∷ (b % 2) ∷ bs) h3 (omega arith)
+    (omega arith) (omega arith)
+    ∙ next (turn (turn (turn (turn r)))) (b / 16) (b / 8 % 2) (b / 8) ((b / 4 % 2) ∷ (b / 2 % 2) ∷ (b % 2) ∷ bs) h4 (omega arith)
+    (omega arith) (omega arith)
+    ∙ next (turn (turn (turn (turn (turn r))))) (b / 8) (b / 4 % 2) (b / 4) ((b / 2 % 2) ∷ (b % 2) ∷ bs) h5 (omega arith) (omega arith)
+    (omega arith)
+    ∙ next (turn (turn (turn (turn (turn (turn r)))))) (b / 4) (b / 2 % 2) (b / 2) ((b % 2) ∷ bs) h6 (omega arith) (omega arith)
+    (omega arith)
     ∙ next (turn (turn (turn (turn (turn (turn (turn r))))))) (b / 2) (b % 2) b (bs) h7 (omega arith) (omega arith) (omega arith)
 
 -- all elements are bytes
@@ -124,7 +136,8 @@ whole : (r : ℕ) (s : List ℕ) → r < 256 → Bytes s → remainder r (bits s
 unfolding byteOn
 whole r [] hr hs = zeros r
 whole r (b ∷ s) hr hs =
-    let h : bitXor (turns r) b < 256 = xor-lt 8 (turns r) b (turned _ (turned _ (turned _ (turned _ (turned _ (turned _ (turned _ (turned _ hr)))))))) (hs .0) in
+    let h : bitXor (turns r) b < 256 =
+    xor-lt 8 (turns r) b (turned _ (turned _ (turned _ (turned _ (turned _ (turned _ (turned _ (turned _ hr)))))))) (hs .0) in
     byte r b (bits s ++ replicate 8 0) hr (hs .0) ∙ whole (bitXor (turns r) b) s h (hs .1)
 
 -- the CRC of the document is what the code's turns give from 0

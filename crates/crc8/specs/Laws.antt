@@ -19,7 +19,8 @@ turn-low c h = simp (lt-ltb (2 * c) 256 (omega arith)) (omega arith)
 pub turn-high : (c : ℕ) → 128 ≤ c → c < 256 → bitXor ((c - 128) * 2) 7 ≡ turn c
 turn-high c h k =
     let e : 2 * c ≡ 1 * 2 ^ 8 + (c - 128) * 2 = omega arith in
-    simp (le-ltb (2 * c) 256 (omega arith)) (sym (ap (λ (n : ℕ). bitXor n 263) e ∙ xor-block 8 1 1 ((c - 128) * 2) 7 (omega arith) (omega arith) ∙ zero-add _))
+    simp (le-ltb (2 * c) 256 (omega arith))
+    (sym (ap (λ (n : ℕ). bitXor n 263) e ∙ xor-block 8 1 1 ((c - 128) * 2) 7 (omega arith) (omega arith) ∙ zero-add _))
 
 pub crcOn-append : (c : ℕ) (a b : List ℕ) → crcOn c (a ++ b) ≡ crcOn (crcOn c a) b
 crcOn-append c [] b = refl

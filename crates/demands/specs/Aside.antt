@@ -1,5 +1,5 @@
--- DEMAND 3, refused events left aside: the events that were done, by themselves, leave the same chip and the same verdicts. And the same of the
--- code's events, whose counts may not fit. Assumes nothing.
+-- DEMAND 3, refused events left aside: the events that were done, by themselves, leave the same chip and the same verdicts. And the same
+-- of the code's events, whose counts may not fit. Assumes nothing.
 use mathlib.Core.Path.{_≡_, refl, sym, ap, _∙_}
 use mathlib.Core.Bool.{Bool, true, false, cond, true≢false}
 use mathlib.Core.List.{List, [], _∷_, _++_}
@@ -41,7 +41,8 @@ module _ (u : Setup) where
   aside [] = refl
   aside (e ∷ past) = by (isDone past e) refl (aside past)
     where
-      by : (b : Bool) → isDone past e ≡ b → chip u (done past) ≡ chip u past → chip u (cond b (e ∷ done past) (done past)) ≡ next e (chip u past)
+      by : (b : Bool) → isDone past e ≡ b → chip u (done past) ≡ chip u past
+          → chip u (cond b (e ∷ done past) (done past)) ≡ next e (chip u past)
       by true h same = ap (next e) same
       by false h same = same ∙ sym (refused e (chip u past) (refuses past e h))
 
@@ -50,7 +51,8 @@ module _ (u : Setup) where
 
   -- a refused event adds no verdict and ends no spell
   done-awake : (past : List Event) (e : Event) → isDone past e ≡ false → core u past .normal ≡ true → fits e ≡ true → ⊥
-  done-awake past e h a f = refuses past e h (ap (λ s. s .number) (normal-is e (chip u past) f (awake-is u past ∙ a)) ∙ normal-done e (chip u past))
+  done-awake past e h a f =
+      refuses past e h (ap (λ s. s .number) (normal-is e (chip u past) f (awake-is u past ∙ a)) ∙ normal-done e (chip u past))
 
   refused-core : (past : List Event) (e : Event) → isDone past e ≡ false → core u (e ∷ past) ≡ core u past
   unfolding chip
@@ -73,7 +75,8 @@ module _ (u : Setup) where
     where
       said-aside : verdicts u k (done past) ≡ verdicts u k past → verdicts u k (e ∷ done past) ≡ verdicts u k (e ∷ past)
       said-aside same =
-          λ i. cond (coreNext u e (core-aside past i) .normal) (cond (fits e) (opinion k (u .floor) (rule k (core-aside past i .settings)) e) [] ++ same i) []
+          λ i. cond (coreNext u e (core-aside past i) .normal)
+          (cond (fits e) (opinion k (u .floor) (rule k (core-aside past i .settings)) e) [] ++ same i) []
 
       by : (b : Bool) → isDone past e ≡ b → verdicts u k (done past) ≡ verdicts u k past
           → verdicts u k (cond b (e ∷ done past) (done past)) ≡ verdicts u k (e ∷ past)
@@ -102,7 +105,8 @@ module _ (u : Setup) where
   heard-as (means e) past = refl
   heard-as (ticks most v n) past = by (ticksFit most v n) refl
     where
-      by : (t : Bool) → ticksFit most v n ≡ t → steppedAs (ticks most v n) (chip u past) .chip ≡ chip u (cond t (replicate n (Sense v)) [] ++ past)
+      by : (t : Bool) → ticksFit most v n ≡ t
+          → steppedAs (ticks most v n) (chip u past) .chip ≡ chip u (cond t (replicate n (Sense v)) [] ++ past)
       by true f = record-senses most n v (chip u past) f ∙ ticks-heard n v past
       by false f = ap (λ (t : Bool). cond t (ticked n v (chip u past)) (numbered 3 (chip u past)) .chip) f
   heard-as unfit past = refl

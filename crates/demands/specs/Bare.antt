@@ -1,5 +1,5 @@
--- DEMAND 2, bare counts: no event looks at the gain code or the offset. Two chips whose setups differ in these alone have, after any events, the same
--- registers, runs, mode and bus line, and read the same at every address but the three that hold them. Assumes nothing.
+-- DEMAND 2, bare counts: no event looks at the gain code or the offset. Two chips whose setups differ in these alone have, after any
+-- events, the same registers, runs, mode and bus line, and read the same at every address but the three that hold them. Assumes nothing.
 use mathlib.Core.Path.{_≡_, refl, sym, ap, _∙_}
 use mathlib.Core.Bool.{Bool, true, false, cond}
 use mathlib.Core.List.{List, [], _∷_}
@@ -24,16 +24,25 @@ use Rattle.registers.specs.Write.{cellbalWith}
 use Rattle.registers.specs.Read.{cellbalByte, controlByte, wordAt, fixedByte, readAt}
 use Rattle.chip.specs.declared.Chip.{Chip}
 use Rattle.chip.specs.declared.Stepped.{Stepped}
-use Rattle.chip.specs.Chip.{numbered, inShip, accepted, storedAt, stored, reads, onBus, watched, settled, normally, asleep, happened, stepped, next}
+use Rattle.chip.specs.Chip.{numbered, inShip, accepted, storedAt, stored, reads, onBus, watched, settled, normally, asleep, happened}
+use Rattle.chip.specs.Chip.{stepped, next}
 use Rattle.demands.specs.Demand.{chip}
 use Rattle.demands.specs.History.{setup-is}
 
 abbrev pub calibrated : ℕ → ℕ → Setup → Setup
-calibrated gain offset u = record { part = u .part; crc = u .crc; address = u .address; «gain_code» = gain; offset = offset; floor = u .floor; cells = u .cells }
+calibrated gain offset u =
+    record { part = u .part; crc = u .crc; address = u .address; «gain_code» = gain; offset = offset; floor = u .floor; cells = u .cells }
 
 -- the chip without gain code and offset, and without the two bytes that the bus owes of what it read
 abbrev pub bared : Chip → Chip
-bared c = record { setup = calibrated 0 0 (c .setup); normal = c .normal; bus = withLine (c .bus .line) idleBus; registers = c .registers; runs = c .runs }
+bared c =
+    record {
+      setup = calibrated 0 0 (c .setup);
+      normal = c .normal;
+      bus = withLine (c .bus .line) idleBus;
+      registers = c .registers;
+      runs = c .runs;
+    }
 
 -- ── the bus ──
 out-bare : (u : Setup) (p : Phase) (a b : ℕ) → outIn u p a b ≡ outIn (calibrated 0 0 u) p a b
@@ -60,7 +69,9 @@ unfolding storedAt cellbalWith groups
 stored-bare l Nothing c = refl
 stored-bare l (At a v) c = by (ships a v (c .registers .settings))
   where
-    by : (b : Bool) → bared (cond b (inShip (c .setup)) (accepted l a v c)) ≡ bared (cond b (inShip (calibrated 0 0 (c .setup))) (accepted l a v (bared c)))
+    by : (b : Bool)
+        → bared (cond b (inShip (c .setup)) (accepted l a v c))
+        ≡ bared (cond b (inShip (calibrated 0 0 (c .setup))) (accepted l a v (bared c)))
     by true = refl
     by false = refl
 
@@ -72,7 +83,13 @@ bus-bare (Out b) c =
     stored-bare (outed (c .setup) (c .bus .line) b .line) (outed (c .setup) (c .bus .line) b .store) c
     ∙ ap (λ o. bared (stored (o .line) (o .store) (bared c))) (out-bare (c .setup) (c .bus .line .phase) (c .bus .line .pointer) b)
 bus-bare (In nack) c =
-    ap (λ l. record { setup = calibrated 0 0 (c .setup); normal = c .normal; bus = withLine l idleBus; registers = c .registers; runs = c .runs })
+    ap (λ l. record {
+      setup = calibrated 0 0 (c .setup);
+      normal = c .normal;
+      bus = withLine l idleBus;
+      registers = c .registers;
+      runs = c .runs;
+    })
     (in-bare (c .setup) (c .bus .line) (c .bus .line .phase) nack)
 
 -- ── each event ──
@@ -144,13 +161,16 @@ module _ (u : Setup) (gain offset : ℕ) where
 
   same-read : (past : List Event) (a : ℕ) → fixedByte u a ≡ fixedByte other a → reads (chip u past) a ≡ reads (chip other past) a
   same-read past a h =
-      (λ i. readAt (setup-is u past i) (same-registers past i) a) ∙ read-bare (chip other past .registers) a h ∙ sym (λ i. readAt (setup-is other past i) (chip other past .registers) a)
+      (λ i. readAt (setup-is u past i) (same-registers past i) a) ∙ read-bare (chip other past .registers) a h
+      ∙ sym (λ i. readAt (setup-is other past i) (chip other past .registers) a)
 
-  pub reads-no-calibration : (past : List Event) (a : ℕ) → eqb a 0x50 ≡ false → eqb a 0x51 ≡ false → eqb a 0x59 ≡ false → reads (chip u past) a ≡ reads (chip other past) a
+  pub reads-no-calibration : (past : List Event) (a : ℕ) → eqb a 0x50 ≡ false → eqb a 0x51 ≡ false → eqb a 0x59 ≡ false
+      → reads (chip u past) a ≡ reads (chip other past) a
   unfolding fixedByte
   reads-no-calibration past a h i j = same-read past a (rw (h, i, j))
 
 -- with the gain code the same, 0x51 alone tells the offset
-pub reads-no-offset : (u : Setup) (offset : ℕ) (past : List Event) (a : ℕ) → eqb a 0x51 ≡ false → reads (chip u past) a ≡ reads (chip (calibrated (u .«gain_code») offset u) past) a
+pub reads-no-offset : (u : Setup) (offset : ℕ) (past : List Event) (a : ℕ) → eqb a 0x51 ≡ false
+    → reads (chip u past) a ≡ reads (chip (calibrated (u .«gain_code») offset u) past) a
 unfolding fixedByte
 reads-no-offset u offset past a h = same-read u (u .«gain_code») offset past a (rw h)

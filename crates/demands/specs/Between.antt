@@ -1,5 +1,5 @@
--- DEMAND 3, not postponed over several scans or ticks: host traffic put in anywhere, that leaves the rule of a fault (that it is measured, its
--- limit, its delay) and the mode as they were, leaves every verdict on it, and so what is due. Assumes nothing.
+-- DEMAND 3, not postponed over several scans or ticks: host traffic put in anywhere, that leaves the rule of a fault (that it is
+-- measured, its limit, its delay) and the mode as they were, leaves every verdict on it, and so what is due. Assumes nothing.
 use mathlib.Core.Path.{_≡_, refl, sym, ap, _∙_}
 use mathlib.Core.Bool.{Bool, true, false, cond, true≢false}
 use mathlib.Core.List.{List, [], _∷_, _++_}
@@ -43,7 +43,8 @@ module _ (u : Setup) (k : Fault) where
     -- traffic of the second alone leaves rule and mode
     put-in : (b : BusEvent) (p q : List Event) → Alike (core u (OnBus b ∷ q)) (core u q) → PutIn p q → PutIn p (OnBus b ∷ q)
     -- traffic of both does the same to them
-    shared : (b : BusEvent) (p q : List Event) → Alike (core u (OnBus b ∷ p)) (core u (OnBus b ∷ q)) → PutIn p q → PutIn (OnBus b ∷ p) (OnBus b ∷ q)
+    shared : (b : BusEvent) (p q : List Event) → Alike (core u (OnBus b ∷ p)) (core u (OnBus b ∷ q)) → PutIn p q
+        → PutIn (OnBus b ∷ p) (OnBus b ∷ q)
 
   -- ── what comes from outside keeps two cores alike ──
   abbrev Kept : Core → Chip → Type 0
@@ -58,20 +59,30 @@ module _ (u : Setup) (k : Fault) where
 
   boot-is : (c : Core) → (coreNext u Boot c .settings ≡ c .settings) × (coreNext u Boot c .normal ≡ true)
   unfolding fits
-  boot-is c = next-by (λ d. (d .registers .settings ≡ c .settings) × (d .normal ≡ true)) Boot (bare u c) (λ f a. (refl, a)) (λ f a. (refl, refl)) (λ f. absurd (true≢false f))
+  boot-is c =
+      next-by (λ d. (d .registers .settings ≡ c .settings) × (d .normal ≡ true)) Boot (bare u c) (λ f a. (refl, a)) (λ f a. (refl, refl))
+      (λ f. absurd (true≢false f))
 
   alike-next : (e : Event) → Outside e → (c d : Core) → Alike c d → Alike (coreNext u e c) (coreNext u e d)
   alike-next Por o c d a = (ap (λ x. rule k (x .settings)) (por-is c ∙ sym (por-is d)), ap (λ x. x .normal) (por-is c ∙ sym (por-is d)))
   alike-next Boot o c d a = (ap (rule k) (boot-is c .0) ∙ a .0 ∙ sym (ap (rule k) (boot-is d .0)), boot-is c .1 ∙ sym (boot-is d .1))
-  alike-next Pin o c d a = settled Pin c d a (λ c. next-by (Kept c) Pin (bare u c) (λ f a. (refl, refl)) (λ f a. (refl, refl)) (λ f. (refl, refl)))
-  alike-next Xready o c d a = settled Xready c d a (λ c. next-by (Kept c) Xready (bare u c) (λ f a. (refl, refl)) (λ f a. (refl, refl)) (λ f. (refl, refl)))
-  alike-next (Scan xs) o c d a = settled (Scan xs) c d a (λ c. next-by (Kept c) (Scan xs) (bare u c) (λ f a. (refl, refl)) (λ f a. (refl, refl)) (λ f. (refl, refl)))
-  alike-next (Temp xs) o c d a = settled (Temp xs) c d a (λ c. next-by (Kept c) (Temp xs) (bare u c) (λ f a. (refl, refl)) (λ f a. (refl, refl)) (λ f. (refl, refl)))
-  alike-next (Count n) o c d a = settled (Count n) c d a (λ c. next-by (Kept c) (Count n) (bare u c) (λ f a. (refl, refl)) (λ f a. (refl, refl)) (λ f. (refl, refl)))
-  alike-next (Sense v) o c d a = settled (Sense v) c d a (λ c. next-by (Kept c) (Sense v) (bare u c) (λ f a. (refl, refl)) (λ f a. (refl, refl)) (λ f. (refl, refl)))
-  alike-next (Load l) o c d a = settled (Load l) c d a (λ c. next-by (Kept c) (Load l) (bare u c) (λ f a. (refl, refl)) (λ f a. (refl, refl)) (λ f. (refl, refl)))
+  alike-next Pin o c d a =
+      settled Pin c d a (λ c. next-by (Kept c) Pin (bare u c) (λ f a. (refl, refl)) (λ f a. (refl, refl)) (λ f. (refl, refl)))
+  alike-next Xready o c d a =
+      settled Xready c d a (λ c. next-by (Kept c) Xready (bare u c) (λ f a. (refl, refl)) (λ f a. (refl, refl)) (λ f. (refl, refl)))
+  alike-next (Scan xs) o c d a =
+      settled (Scan xs) c d a (λ c. next-by (Kept c) (Scan xs) (bare u c) (λ f a. (refl, refl)) (λ f a. (refl, refl)) (λ f. (refl, refl)))
+  alike-next (Temp xs) o c d a =
+      settled (Temp xs) c d a (λ c. next-by (Kept c) (Temp xs) (bare u c) (λ f a. (refl, refl)) (λ f a. (refl, refl)) (λ f. (refl, refl)))
+  alike-next (Count n) o c d a =
+      settled (Count n) c d a (λ c. next-by (Kept c) (Count n) (bare u c) (λ f a. (refl, refl)) (λ f a. (refl, refl)) (λ f. (refl, refl)))
+  alike-next (Sense v) o c d a =
+      settled (Sense v) c d a (λ c. next-by (Kept c) (Sense v) (bare u c) (λ f a. (refl, refl)) (λ f a. (refl, refl)) (λ f. (refl, refl)))
+  alike-next (Load l) o c d a =
+      settled (Load l) c d a (λ c. next-by (Kept c) (Load l) (bare u c) (λ f a. (refl, refl)) (λ f a. (refl, refl)) (λ f. (refl, refl)))
   alike-next (OnBus b) o c d a = absurd o
-  alike-next (Level l) o c d a = settled (Level l) c d a (λ c. next-by (Kept c) (Level l) (bare u c) (λ f a. (refl, refl)) (λ f a. (refl, refl)) (λ f. (refl, refl)))
+  alike-next (Level l) o c d a =
+      settled (Level l) c d a (λ c. next-by (Kept c) (Level l) (bare u c) (λ f a. (refl, refl)) (λ f a. (refl, refl)) (λ f. (refl, refl)))
 
   -- ── the verdicts ──
   pub alike : {p q : List Event} → PutIn p q → Alike (core u p) (core u q)
@@ -82,7 +93,8 @@ module _ (u : Setup) (k : Fault) where
   alike (shared b p q a h) = a
 
   -- one event of both
-  both-say : (e : Event) (p q : List Event) → Alike (core u p) (core u q) → core u (e ∷ p) .normal ≡ core u (e ∷ q) .normal → verdicts u k p ≡ verdicts u k q
+  both-say : (e : Event) (p q : List Event) → Alike (core u p) (core u q) → core u (e ∷ p) .normal ≡ core u (e ∷ q) .normal
+      → verdicts u k p ≡ verdicts u k q
       → verdicts u k (e ∷ p) ≡ verdicts u k (e ∷ q)
   unfolding verdicts
   both-say e p q a w same = λ i. cond (w i) (cond (fits e) (opinion k (u .floor) (a .0 i) e) [] ++ same i) []

@@ -1,5 +1,5 @@
--- M-106: clearing twice. With the outside level at 0, bus traffic whose accepted writes are all of SYS_STAT lowers every bit that one of them has, and
--- does nothing else to the registers, the mode and the runs. So order and repetition do not matter. Assumes nothing.
+-- M-106: clearing twice. With the outside level at 0, bus traffic whose accepted writes are all of SYS_STAT lowers every bit that one of
+-- them has, and does nothing else to the registers, the mode and the runs. So order and repetition do not matter. Assumes nothing.
 use mathlib.Core.Path.{_≡_, refl, sym, ap, subst, _∙_}
 use mathlib.Core.Bool.{Bool, true, false, not, _&&_, _||_, or-comm}
 use mathlib.Core.List.{List, [], _∷_}
@@ -82,7 +82,15 @@ and-not-or false a b = refl
 
 without-none : (t : Status) → without noStatus t ≡ t
 without-none t =
-    λ i. record { «cc_ready» = and-true (t .«cc_ready») i; xready = and-true (t .xready) i; «ovrd_alert» = and-true (t .«ovrd_alert») i; uv = and-true (t .uv) i; ov = and-true (t .ov) i; scd = and-true (t .scd) i; ocd = and-true (t .ocd) i }
+    λ i. record {
+      «cc_ready» = and-true (t .«cc_ready») i;
+      xready = and-true (t .xready) i;
+      «ovrd_alert» = and-true (t .«ovrd_alert») i;
+      uv = and-true (t .uv) i;
+      ov = and-true (t .ov) i;
+      scd = and-true (t .scd) i;
+      ocd = and-true (t .ocd) i;
+    }
 
 without-both : (a b t : Status) → without b (without a t) ≡ without (either a b) t
 without-both a b t =
@@ -119,23 +127,35 @@ bus-lowers (In nack) c h = (lowered-none (c .registers), refl, refl)
 
 -- after which the outside level, at 0, does nothing
 level-lowers : (s : Status) (c d : Chip) → c .registers .«outside_level» ≡ false → Lowers s c d → Lowers s c (watched d)
-level-lowers s c d l h = subst (Lowers s c) (sym (ap (λ (r : Registers). withRegisters r d) (let-go (d .registers) (ap (λ (r : Registers). r .«outside_level») (h .0) ∙ l)))) h
+level-lowers s c d l h =
+    subst (Lowers s c)
+    (sym (ap (λ (r : Registers). withRegisters r d) (let-go (d .registers) (ap (λ (r : Registers). r .«outside_level») (h .0) ∙ l)))) h
 
-next-lowers : (b : BusEvent) (c : Chip) → c .normal ≡ true → c .registers .«outside_level» ≡ false → isClearing (storeOf b c) ≡ true → Lowers (onesOf (storeOf b c)) c (next (OnBus b) c)
+next-lowers : (b : BusEvent) (c : Chip) → c .normal ≡ true → c .registers .«outside_level» ≡ false → isClearing (storeOf b c) ≡ true
+    → Lowers (onesOf (storeOf b c)) c (next (OnBus b) c)
 unfolding fits
-next-lowers b c a l h = subst (λ s. Lowers (onesOf (storeOf b c)) c (s .chip)) (sym (normal-is (OnBus b) c refl a)) (level-lowers (onesOf (storeOf b c)) c (onBus b c .chip) l (bus-lowers b c h))
+next-lowers b c a l h =
+    subst (λ s. Lowers (onesOf (storeOf b c)) c (s .chip)) (sym (normal-is (OnBus b) c refl a))
+    (level-lowers (onesOf (storeOf b c)) c (onBus b c .chip) l (bus-lowers b c h))
 
 -- ── and all of them ──
-pub clearing : (c : Chip) (es : List BusEvent) → c .normal ≡ true → c .registers .«outside_level» ≡ false → Clearings c es → Lowers (ones c es) c (ran c es)
+pub clearing : (c : Chip) (es : List BusEvent) → c .normal ≡ true → c .registers .«outside_level» ≡ false → Clearings c es
+    → Lowers (ones c es) c (ran c es)
 unfolding ran Clearings ones
 clearing c [] a l h = (lowered-none (c .registers), refl, refl)
 clearing c (b ∷ es) a l h =
     let f : Lowers (onesOf (storeOf b c)) c (next (OnBus b) c) = next-lowers b c a l (h .0) in
-    let g : Lowers (ones (next (OnBus b) c) es) (next (OnBus b) c) (ran (next (OnBus b) c) es) = clearing (next (OnBus b) c) es (f .1 ∙ a) (ap (λ (r : Registers). r .«outside_level») (f .0) ∙ l) (h .1) in
-    (g .0 ∙ ap (lowered (ones (next (OnBus b) c) es)) (f .0) ∙ lowered-both (onesOf (storeOf b c)) (ones (next (OnBus b) c) es) (c .registers), g .1 ∙ f .1, g .2 ∙ f .2)
+    let g : Lowers (ones (next (OnBus b) c) es) (next (OnBus b) c) (ran (next (OnBus b) c) es) =
+    clearing (next (OnBus b) c) es (f .1 ∙ a) (ap (λ (r : Registers). r .«outside_level») (f .0) ∙ l) (h .1) in (
+      g .0 ∙ ap (lowered (ones (next (OnBus b) c) es)) (f .0)
+          ∙ lowered-both (onesOf (storeOf b c)) (ones (next (OnBus b) c) es) (c .registers),
+      g .1 ∙ f .1,
+      g .2 ∙ f .2,
+    )
 
 -- Traffic that clears the same bits, in whatever order, at once or in parts, once or again, leaves the same registers, mode and runs.
-pub same-clearing : (c : Chip) (es fs : List BusEvent) → c .normal ≡ true → c .registers .«outside_level» ≡ false → Clearings c es → Clearings c fs → ones c es ≡ ones c fs
+pub same-clearing : (c : Chip) (es fs : List BusEvent) → c .normal ≡ true → c .registers .«outside_level» ≡ false → Clearings c es
+    → Clearings c fs → ones c es ≡ ones c fs
     → (ran c es .registers ≡ ran c fs .registers) × (ran c es .normal ≡ ran c fs .normal) × (ran c es .runs ≡ ran c fs .runs)
 same-clearing c es fs a l h k e =
     let f : Lowers (ones c es) c (ran c es) = clearing c es a l h in
@@ -143,18 +163,22 @@ same-clearing c es fs a l h k e =
     (f .0 ∙ ap (λ s. lowered s (c .registers)) e ∙ sym (g .0), f .1 ∙ sym (g .1), f .2 ∙ sym (g .2))
 
 -- .. and clearing none leaves them as they were
-pub clears-none : (c : Chip) (es : List BusEvent) → c .normal ≡ true → c .registers .«outside_level» ≡ false → Clearings c es → ones c es ≡ noStatus
+pub clears-none : (c : Chip) (es : List BusEvent) → c .normal ≡ true → c .registers .«outside_level» ≡ false → Clearings c es
+    → ones c es ≡ noStatus
     → (ran c es .registers ≡ c .registers) × (ran c es .normal ≡ c .normal) × (ran c es .runs ≡ c .runs)
 clears-none c es a l h e =
     let f : Lowers (ones c es) c (ran c es) = clearing c es a l h in
     (f .0 ∙ ap (λ s. lowered s (c .registers)) e ∙ sym (lowered-none (c .registers)), f .1, f .2)
 
 -- clearing the same bits again, or some of them, changes none of the three
-pub again : (c : Chip) (es fs : List BusEvent) → c .normal ≡ true → c .registers .«outside_level» ≡ false → Clearings c es → Clearings (ran c es) fs → either (ones c es) (ones (ran c es) fs) ≡ ones c es
-    → (ran (ran c es) fs .registers ≡ ran c es .registers) × (ran (ran c es) fs .normal ≡ ran c es .normal) × (ran (ran c es) fs .runs ≡ ran c es .runs)
+pub again : (c : Chip) (es fs : List BusEvent) → c .normal ≡ true → c .registers .«outside_level» ≡ false → Clearings c es
+    → Clearings (ran c es) fs → either (ones c es) (ones (ran c es) fs) ≡ ones c es
+    → (ran (ran c es) fs .registers ≡ ran c es .registers) × (ran (ran c es) fs .normal ≡ ran c es .normal)
+    × (ran (ran c es) fs .runs ≡ ran c es .runs)
 again c es fs a l h k e =
     let f : Lowers (ones c es) c (ran c es) = clearing c es a l h in
-    let g : Lowers (ones (ran c es) fs) (ran c es) (ran (ran c es) fs) = clearing (ran c es) fs (f .1 ∙ a) (ap (λ (r : Registers). r .«outside_level») (f .0) ∙ l) k in (
+    let g : Lowers (ones (ran c es) fs) (ran c es) (ran (ran c es) fs) =
+    clearing (ran c es) fs (f .1 ∙ a) (ap (λ (r : Registers). r .«outside_level») (f .0) ∙ l) k in (
       g .0
           ∙ ap (lowered (ones (ran c es) fs)) (f .0)
           ∙ lowered-both (ones c es) (ones (ran c es) fs) (c .registers)

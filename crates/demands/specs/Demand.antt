@@ -1,6 +1,6 @@
--- DEMAND 3 as it is read: the events from power-up, what each says of a fault, what is due, and the claims that Theorem proves of every setup.
--- Said of the events alone, as they come: bus bytes and CRCs, counts, ticks. No run and no counter is named here. Events stand newest first:
--- `e ∷ past` is `past` and then `e`; `later ++ past` is `past` and then `later`. Assumes nothing.
+-- DEMAND 3 as it is read: the events from power-up, what each says of a fault, what is due, and the claims that Theorem proves of every
+-- setup. Said of the events alone, as they come: bus bytes and CRCs, counts, ticks. No run and no counter is named here. Events stand
+-- newest first: `e ∷ past` is `past` and then `e`; `later ++ past` is `past` and then `later`. Assumes nothing.
 use mathlib.Core.Path.{_≡_}
 use mathlib.Core.Bool.{Bool, true, false, not, _&&_, cond}
 use mathlib.Core.List.{List, [], _∷_, _++_}
@@ -167,8 +167,9 @@ module _ (u : Setup) where
     pub finds-down : up k (older ++ past) ≡ false
 
   -- ── THE CLAIMS ──
-  -- 1. Rising. After an accepted SCAN the bit OV (UV) is up exactly when it was up before, or the newest verdicts of this waking spell, this scan's
-  -- included and as many as the delay now set, are there and all true, each by the settings that stood at its scan. SCD and OCD at a tick likewise.
+  -- 1. Rising. After an accepted SCAN the bit OV (UV) is up exactly when it was up before, or the newest verdicts of this waking spell,
+  -- this scan's included and as many as the delay now set, are there and all true, each by the settings that stood at its scan. SCD and
+  -- OCD at a tick likewise.
   abbrev pub Rises : Type 0
   Rises = (k : Fault) (past : List Event) (e : Event) → judges k e ≡ true → Accepted past e
       → (up k (e ∷ past) ≡ true) ↔ ((up k past ≡ true) ∨₁ Due k (e ∷ past))
@@ -177,8 +178,8 @@ module _ (u : Setup) where
   abbrev pub NothingElseRaises : Type 0
   NothingElseRaises = (k : Fault) (past : List Event) (e : Event) → judges k e ≡ false → up k past ≡ false → up k (e ∷ past) ≡ false
 
-  -- 2. Not postponed. Events that do not judge k, and do not ship or reset, leave its verdicts; so where they leave its rule as it was (that it
-  -- is measured, its limit, its delay) the next scan or tick finds due what it would have found due without them.
+  -- 2. Not postponed. Events that do not judge k, and do not ship or reset, leave its verdicts; so where they leave its rule as it was
+  -- (that it is measured, its limit, its delay) the next scan or tick finds due what it would have found due without them.
   abbrev pub NotPostponed : Type 0
   NotPostponed = (k : Fault) (later past : List Event) (e : Event) → judges k e ≡ true → Accepted past e
       → Unjudged k later → StaysAwake later past → rule k (standing (later ++ past)) ≡ rule k (standing past)
@@ -190,7 +191,8 @@ module _ (u : Setup) where
       → Awake (traffic bs ++ past) → rule k (standing (traffic bs ++ past)) ≡ rule k (standing past)
       → Due k (e ∷ traffic bs ++ past) ↔ Due k (e ∷ past)
 
-  -- 3. Latched. A bit that is up stays up, keeps ALERT up and its drive off, over any events that neither write a one to it nor ship nor reset.
+  -- 3. Latched. A bit that is up stays up, keeps ALERT up and its drive off, over any events that neither write a one to it nor ship nor
+  -- reset.
   abbrev pub Latches : Type 0
   Latches = (k : Fault) (later past : List Event) → up k past ≡ true → StaysAwake later past → Uncleared k later past
       → (up k (later ++ past) ≡ true) × (alerted (later ++ past) ≡ true) × (drive k (later ++ past) ≡ false)

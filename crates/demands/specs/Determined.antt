@@ -1,5 +1,5 @@
--- DEMAND 3 leaves nothing open: any four bits that keep its claims over all events are the chip's. So a stand-in that judges only the first scan and
--- then pretends, or that starts a run again when its bit is cleared, breaks one of them. Assumes nothing.
+-- DEMAND 3 leaves nothing open: any four bits that keep its claims over all events are the chip's. So a stand-in that judges only the
+-- first scan and then pretends, or that starts a run again when its bit is cleared, breaks one of them. Assumes nothing.
 use mathlib.Core.Path.{_≡_, refl, sym, ap, subst, _∙_}
 use mathlib.Core.Bool.{Bool, true, false}
 use mathlib.Core.List.{List, [], _∷_}
@@ -23,7 +23,8 @@ module _ (u : Setup) where
     pub rises : (k : Fault) (past : List Event) (e : Event) → judges k e ≡ true → Accepted u past e
         → (b k (e ∷ past) ≡ true) ↔ ((b k past ≡ true) ∨₁ Due u k (e ∷ past))
     pub nothing-else-raises : (k : Fault) (past : List Event) (e : Event) → judges k e ≡ false → b k past ≡ false → b k (e ∷ past) ≡ false
-    pub stays : (k : Fault) (past : List Event) (e : Event) → core u (e ∷ past) .normal ≡ true → b k past ≡ true → clears k (wrote u (core u past) e) ≡ false → b k (e ∷ past) ≡ true
+    pub stays : (k : Fault) (past : List Event) (e : Event) → core u (e ∷ past) .normal ≡ true → b k past ≡ true
+        → clears k (wrote u (core u past) e) ≡ false → b k (e ∷ past) ≡ true
     pub lowers : (k : Fault) (past : List Event) (e : Event) → clears k (wrote u (core u past) e) ≡ true → b k (e ∷ past) ≡ false
     pub down-in-ship : (k : Fault) (past : List Event) → core u past .normal ≡ false → b k past ≡ false
     pub refused-aside : (k : Fault) (past : List Event) (e : Event) → (Accepted u past e → ⊥) → b k (e ∷ past) ≡ b k past
@@ -60,7 +61,8 @@ module _ (u : Setup) where
       judged j false h =
           mb .refused-aside k past e (refuses u past e h) ∙ before ∙ sym (md .refused-aside k past e (refuses u past e h))
 
-      unjudged : judges k e ≡ false → core u (e ∷ past) .normal ≡ true → (c x : Bool) → clears k (wrote u (core u past) e) ≡ c → b k past ≡ x → b k (e ∷ past) ≡ d k (e ∷ past)
+      unjudged : judges k e ≡ false → core u (e ∷ past) .normal ≡ true → (c x : Bool) → clears k (wrote u (core u past) e) ≡ c
+          → b k past ≡ x → b k (e ∷ past) ≡ d k (e ∷ past)
       unjudged j a true x h y = mb .lowers k past e h ∙ sym (md .lowers k past e h)
       unjudged j a false true h y = mb .stays k past e a y h ∙ sym (md .stays k past e a (sym before ∙ y) h)
       unjudged j a false false h y = mb .nothing-else-raises k past e j y ∙ sym (md .nothing-else-raises k past e j (sym before ∙ y))

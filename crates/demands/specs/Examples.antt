@@ -166,7 +166,8 @@ delays =
 abbrev pub pins : List Case
 pins = (Pin ∷ [], 0x10) ∷ (times 4 (cell 10953) ++ Pin ∷ [], 4) ∷ []
 
--- the outside level: with SYS_STAT 0, and with OV up; cleared in vain while it is 1, with another bit left, and once it is 0; it does not outlive SHIP
+-- the outside level: with SYS_STAT 0, and with OV up; cleared in vain while it is 1, with another bit left, and once it is 0; it does not
+-- outlive SHIP
 abbrev pub levels : List Case
 levels =
     (Level true ∷ [], 0x10)
@@ -192,13 +193,16 @@ unfolding stepped happened fits outed settingsWith shownWith cellbalWith byteOn 
 guarded-writes = (refl, refl, refl)
 
 -- ── a pair's low byte is of the value whose high byte was given: 1F 10, though 0 is stored between ──
-pub pairs : entries (ran (inShip plain) (Boot ∷ cell 0x1F10 ∷ OnBus Start ∷ out 0x10 ∷ out 0x0C ∷ OnBus Start ∷ out 0x11 ∷ [])) (read ∷ cell 0 ∷ read ∷ [])
+pub pairs : entries (ran (inShip plain) (Boot ∷ cell 0x1F10 ∷ OnBus Start ∷ out 0x10 ∷ out 0x0C ∷ OnBus Start ∷ out 0x11 ∷ []))
+    (read ∷ cell 0 ∷ read ∷ [])
     ≡ gave 0x1F ∷ quietly 0 ∷ gave 0x10 ∷ []
-unfolding stepped happened fits outed taken byteGiven owing readAt controlByte cellbalByte half wordAt fixedByte settingsByte groups inputs byteOn rule over under addressed fed checked afterData afterSum keeps storedAt
+unfolding stepped happened fits outed taken byteGiven owing readAt controlByte cellbalByte half wordAt fixedByte settingsByte groups
+    inputs byteOn rule over under addressed fed checked afterData afterSum keeps storedAt
 pairs = refl
 
 -- ── the byte that ships is acknowledged; then the bus is idle and XREADY is refused with 4 ──
-pub shipping : entries (ran (inShip plain) (Boot ∷ write 0x04 0x11 ++ OnBus Start ∷ out 0x10 ∷ out 0x04 ∷ [])) (out 0x12 ∷ out 0x00 ∷ Xready ∷ [])
+pub shipping : entries (ran (inShip plain) (Boot ∷ write 0x04 0x11 ++ OnBus Start ∷ out 0x10 ∷ out 0x04 ∷ []))
+    (out 0x12 ∷ out 0x00 ∷ Xready ∷ [])
     ≡ gave 0 ∷ gave 1 ∷ quietly 4 ∷ []
 unfolding stepped happened fits outed settingsWith shownWith cellbalWith byteOn addressed fed checked storedAt
 shipping = refl

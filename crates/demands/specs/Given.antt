@@ -26,7 +26,8 @@ abbrev pub reading : ℕ → Chip → Chip
 reading s c = lineMoved (lineOf (Reading s false) (c .bus .line .pointer)) c
 
 -- IN gives the register at the pointer ..
-pub gives : (c : Chip) (s : ℕ) (nack : Bool) → c .normal ≡ true → stepped (OnBus (In nack)) (reading s c) .byte ≡ reads c (c .bus .line .pointer)
+pub gives : (c : Chip) (s : ℕ) (nack : Bool) → c .normal ≡ true
+    → stepped (OnBus (In nack)) (reading s c) .byte ≡ reads c (c .bus .line .pointer)
 unfolding fits byteGiven
 gives c s nack on = ap (λ t. t .byte) (normal-is (OnBus (In nack)) (reading s c) refl on)
 
@@ -40,22 +41,28 @@ gives-its-crc c s nack k on =
     ∙ (rw k)
 
 -- ── from START on ──
-called : (c : Chip) (a : ℕ) → outed (c .setup) (lineOf Address a) (c .setup .address * 2 + 1) ≡ goes (Reading (byteOn 0 (c .setup .address * 2 + 1)) false) a
+called : (c : Chip) (a : ℕ)
+    → outed (c .setup) (lineOf Address a) (c .setup .address * 2 + 1) ≡ goes (Reading (byteOn 0 (c .setup .address * 2 + 1)) false) a
 unfolding outed addressed
 called c a =
-    simp (ne-eqb (c .setup .address * 2 + 1) (c .setup .address * 2) (omega arith), eq-eqb (c .setup .address * 2 + 1) (c .setup .address * 2 + 1) refl)
+    simp (
+      ne-eqb (c .setup .address * 2 + 1) (c .setup .address * 2) (omega arith),
+      eq-eqb (c .setup .address * 2 + 1) (c .setup .address * 2 + 1) refl,
+    )
 
 pub begins : (c : Chip) → Calmed c → c .normal ≡ true
     → ran c (OnBus Start ∷ OnBus (Out (c .setup .address * 2 + 1)) ∷ []) ≡ reading (byteOn 0 (c .setup .address * 2 + 1)) c
 begins c m on =
     ap (next (OnBus (Out w))) (one-start c m on)
-    ∙ one-goes c (lineOf Address (c .bus .line .pointer)) w (Reading (byteOn 0 w) false) (c .bus .line .pointer) m on (called c (c .bus .line .pointer))
+    ∙ one-goes c (lineOf Address (c .bus .line .pointer)) w (Reading (byteOn 0 w) false) (c .bus .line .pointer) m on
+    (called c (c .bus .line .pointer))
   where
     w : ℕ
     w = c .setup .address * 2 + 1
 
 -- the first CRC of a read has the address byte and the data
-pub first-crc : (c : Chip) (nack : Bool) → Calmed c → c .setup .crc ≡ true → c .normal ≡ true → c .setup .address < 127 → reads c (c .bus .line .pointer) < 256
+pub first-crc : (c : Chip) (nack : Bool) → Calmed c → c .setup .crc ≡ true → c .normal ≡ true → c .setup .address < 127
+    → reads c (c .bus .line .pointer) < 256
     → stepped (OnBus (In nack)) (ran c (OnBus Start ∷ OnBus (Out (c .setup .address * 2 + 1)) ∷ OnBus (In false) ∷ [])) .byte
     ≡ crc ((c .setup .address * 2 + 1) ∷ reads c (c .bus .line .pointer) ∷ [])
 first-crc c nack m k on ha hr =

@@ -1,4 +1,5 @@
--- DEMAND 3, the rising: over any events from power-up the mode, the settings and the runs of the chip are what the events say. Assumes nothing.
+-- DEMAND 3, the rising: over any events from power-up the mode, the settings and the runs of the chip are what the events say. Assumes
+-- nothing.
 use mathlib.Core.Path.{_≡_, refl, sym, ap, _∙_}
 use mathlib.Core.Bool.{true, false, _||_, cond}
 use mathlib.Core.List.{List, [], _∷_, _++_}
@@ -89,5 +90,7 @@ module _ (u : Setup) where
   unfolding chip
   rises k past e j n =
       rising k (verdicts u k past) e (chip u past) (told k past) (accepted-fits k past e j n) (accepted-judged k e (chip u past) j n .1) j
-      ∙ (λ i. up u k past || lastAll (rule k (core-is past i .settings) .need) (opinion k (setup-is past i .floor) (rule k (core-is past i .settings)) e ++ verdicts u k past))
+      ∙ (λ i. up u k past
+      || lastAll (rule k (core-is past i .settings) .need)
+      (opinion k (setup-is past i .floor) (rule k (core-is past i .settings)) e ++ verdicts u k past))
       ∙ sym (λ i. up u k past || lastAll (delay-is k past e j n i) (verdicts-are k past e j n i))

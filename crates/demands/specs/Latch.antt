@@ -65,8 +65,8 @@ granted true false false i h = (refl, refl)
 granted false q u i h = (h, cc)
 
 -- ── what demand 3 asks of one event ──
--- The bit goes from u to u′ and its drive from d to d′; `jud`: the event judges the fault; `clr`: it writes a one to the bit; `ask`: it is a write
--- that asks for the drive; `on`: it leaves the chip in NORMAL.
+-- The bit goes from u to u′ and its drive from d to d′; `jud`: the event judges the fault; `clr`: it writes a one to the bit; `ask`: it
+-- is a write that asks for the drive; `on`: it leaves the chip in NORMAL.
 pub record Kept (jud clr ask on u d u′ d′ : Bool) : Type 0 where
   pub only : jud ≡ false → u ≡ false → u′ ≡ false
   pub stays : on ≡ true → u ≡ true → clr ≡ false → u′ ≡ true
@@ -85,9 +85,17 @@ module _ {jud clr ask on u d u′ d′ : Bool} where
   put-off n p q = record { only = λ x y. cc; stays = λ x y z. cc; down = λ x. cc; back = λ x y. (cc, cc); off = λ x. rw q (and-false u′) }
 
   cleared : u′ ≡ u && not clr → d′ ≡ d → Kept jud clr ask on u d u′ d′
-  cleared p q = record { only = λ x y. p ∙ rw y; stays = λ x y z. p ∙ rw (y, z); down = λ x. p ∙ rw x (and-false u); back = λ x y. (cc, cc); off = λ x. rw (p, q) (cut u clr d x) }
+  cleared p q =
+      record {
+        only = λ x y. p ∙ rw y;
+        stays = λ x y z. p ∙ rw (y, z);
+        down = λ x. p ∙ rw x (and-false u);
+        back = λ x y. (cc, cc);
+        off = λ x. rw (p, q) (cut u clr d x);
+      }
 
-  rose : (r q : Bool) → clr ≡ false → u′ ≡ r || u → d′ ≡ not q && d → (r ≡ true → q ≡ true) → (jud ≡ false → r ≡ false) → Kept jud clr ask on u d u′ d′
+  rose : (r q : Bool) → clr ≡ false → u′ ≡ r || u → d′ ≡ not q && d → (r ≡ true → q ≡ true) → (jud ≡ false → r ≡ false)
+      → Kept jud clr ask on u d u′ d′
   rose r q c p e i n =
       record {
         only = λ x y. p ∙ rw (n x, y);
@@ -99,10 +107,18 @@ module _ {jud clr ask on u d u′ d′ : Bool} where
 
   -- and then its drive off
   quieter : Kept jud clr ask on u d u′ d′ → Kept jud clr ask on u d u′ false
-  quieter h = record { only = h .only; stays = h .stays; down = h .down; back = λ x y. absurd (true≢false (sym y)); off = λ x. and-false u′ }
+  quieter h =
+      record { only = h .only; stays = h .stays; down = h .down; back = λ x y. absurd (true≢false (sym y)); off = λ x. and-false u′ }
 
   asked : (q : Bool) → clr ≡ false → u′ ≡ u → d′ ≡ ask && not q → (u ≡ true → q ≡ true) → Kept jud clr ask on u d u′ d′
-  asked q n p e i = record { only = λ x y. cc; stays = λ x y z. cc; down = λ x. cc; back = λ x y. granted ask q u i (sym e ∙ y); off = λ x. rw (p, e) (guard u ask q i) }
+  asked q n p e i =
+      record {
+        only = λ x y. cc;
+        stays = λ x y z. cc;
+        down = λ x. cc;
+        back = λ x y. granted ask q u i (sym e ∙ y);
+        off = λ x. rw (p, e) (guard u ask q i);
+      }
 
 -- ── and which of these each event does ──
 unfoldable pub Keeps : Fault → Event → Store → Bool → Shown → Shown → Type 0
@@ -120,7 +136,8 @@ darkens Uv x w s = ended refl refl refl
 darkens Scd x w s = ended refl refl refl
 darkens Ocd x w s = ended refl refl refl
 
-raises : (k : Fault) (x : Event) (on : Bool) (r : Fault → Bool) (s : Shown) → (judges k x ≡ false → r k ≡ false) → Keeps k x Nothing on s (raised r s)
+raises : (k : Fault) (x : Event) (on : Bool) (r : Fault → Bool) (s : Shown) → (judges k x ≡ false → r k ≡ false)
+    → Keeps k x Nothing on s (raised r s)
 unfolding Keeps
 raises Ov x on r s n = rose (r Ov) (r Ov) refl refl refl (λ h. h) n
 raises Uv x on r s n = rose (r Uv) (r Uv || r Scd || r Ocd) refl refl refl (λ h. search (or-left, or-right)) n
@@ -128,7 +145,8 @@ raises Scd x on r s n = rose (r Scd) (r Uv || r Scd || r Ocd) refl refl refl (λ
 raises Ocd x on r s n = rose (r Ocd) (r Uv || r Scd || r Ocd) refl refl refl (λ h. search (or-left, or-right)) n
 
 -- PIN, XREADY and COUNT
-puts-off : (k : Fault) (x : Event) (on : Bool) (s : Shown) → Keeps k x Nothing on s (overridden s) × Keeps k x Nothing on s (readied s) × Keeps k x Nothing on s (counting s)
+puts-off : (k : Fault) (x : Event) (on : Bool) (s : Shown)
+    → Keeps k x Nothing on s (overridden s) × Keeps k x Nothing on s (readied s) × Keeps k x Nothing on s (counting s)
 unfolding Keeps
 puts-off Ov x on s = (put-off refl refl refl, put-off refl refl refl, left refl refl refl)
 puts-off Uv x on s = (put-off refl refl refl, put-off refl refl refl, left refl refl refl)
@@ -136,7 +154,8 @@ puts-off Scd x on s = (put-off refl refl refl, put-off refl refl refl, left refl
 puts-off Ocd x on s = (put-off refl refl refl, put-off refl refl refl, left refl refl refl)
 
 -- the two writes
-clearing : (k : Fault) (x : Event) (a v : ℕ) (on : Bool) (s : Shown) → a ≡ 0x00 → Keeps k x (At a v) on s (withStatus (without (statusOf v) (s .status)) s)
+clearing : (k : Fault) (x : Event) (a v : ℕ) (on : Bool) (s : Shown) → a ≡ 0x00
+    → Keeps k x (At a v) on s (withStatus (without (statusOf v) (s .status)) s)
 unfolding Keeps
 clearing Ov x a v on s e = rw e (cleared refl refl)
 clearing Uv x a v on s e = rw e (cleared refl refl)
@@ -159,7 +178,8 @@ unfolding shownWith
 writes k x a v on s =
     by-cond (Keeps k x (At a v) on s) (eqb a 0x00) (withStatus (without (statusOf v) (s .status)) s) (cond (eqb a 0x05) (driven v s) s)
     (λ h. clearing k x a v on s (eqb-true a 0x00 h))
-    (λ h. by-cond (Keeps k x (At a v) on s) (eqb a 0x05) (driven v s) s (λ i. driving k x a v on s (eqb-true a 0x05 i)) (λ i. same k x (At a v) on s (rw h)))
+    (λ h. by-cond (Keeps k x (At a v) on s) (eqb a 0x05) (driven v s) s (λ i. driving k x a v on s (eqb-true a 0x05 i))
+    (λ i. same k x (At a v) on s (rw h)))
 
 -- ── and then the outside level ──
 over-keeps : (k : Fault) (x : Event) (w : Store) (on : Bool) (s t : Shown) → Keeps k x w on s t → Keeps k x w on s (overridden t)
@@ -190,21 +210,26 @@ module _ (k : Fault) (e : Event) (c : Chip) where
   stays-as : (w : Store) → clears k w ≡ false → Keeps k e w (c .normal) (c .registers .shown) (c .registers .shown)
   stays-as w n = same k e w (c .normal) (c .registers .shown) n
 
-  judged-keeps : Keeps k e Nothing (c .normal) (c .registers .shown) (raised (risen (c .setup .floor) (c .registers .settings) (c .runs) e) (c .registers .shown))
-  judged-keeps = raises k e (c .normal) (risen (c .setup .floor) (c .registers .settings) (c .runs) e) (c .registers .shown) (unjudged k e c)
+  judged-keeps : Keeps k e Nothing (c .normal) (c .registers .shown)
+      (raised (risen (c .setup .floor) (c .registers .settings) (c .runs) e) (c .registers .shown))
+  judged-keeps =
+      raises k e (c .normal) (risen (c .setup .floor) (c .registers .settings) (c .runs) e) (c .registers .shown) (unjudged k e c)
 
-  store-keeps : (o : Outed) → Keeps k e (o .store) (stored (o .line) (o .store) c .normal) (c .registers .shown) (stored (o .line) (o .store) c .registers .shown)
+  store-keeps : (o : Outed)
+      → Keeps k e (o .store) (stored (o .line) (o .store) c .normal) (c .registers .shown) (stored (o .line) (o .store) c .registers .shown)
   store-keeps o =
       stored-by (λ d. Keeps k e (o .store) (d .normal) (c .registers .shown) (d .registers .shown)) (o .line) (o .store) c
       (λ t. stays-as (o .store) (ap (clears k) t))
       (λ x v t s. darkens k e (o .store) (c .registers .shown))
-      (λ x v t s. subst (λ w. Keeps k e w (c .normal) (c .registers .shown) (shownWith x v (c .registers .shown))) (sym t) (writes k e x v (c .normal) (c .registers .shown)))
+      (λ x v t s. subst (λ w. Keeps k e w (c .normal) (c .registers .shown) (shownWith x v (c .registers .shown))) (sym t)
+      (writes k e x v (c .normal) (c .registers .shown)))
 
 bus-keeps : (k : Fault) (b : BusEvent) (c : Chip) → c .normal ≡ true → Holds k (OnBus b) c (onBus b c .chip)
 bus-keeps k Start c a = stays-as k (OnBus Start) c Nothing refl
 bus-keeps k Stop c a = stays-as k (OnBus Stop) c Nothing refl
 bus-keeps k (Out b) c a =
-    subst (λ w. Keeps k (OnBus (Out b)) w (stored (o .line) (o .store) c .normal) (c .registers .shown) (stored (o .line) (o .store) c .registers .shown))
+    subst (λ w. Keeps k (OnBus (Out b)) w (stored (o .line) (o .store) c .normal) (c .registers .shown)
+    (stored (o .line) (o .store) c .registers .shown))
     (sym (when-true (c .normal) (o .store) Nothing a)) (store-keeps k (OnBus (Out b)) c o)
   where
     o : Outed
@@ -215,13 +240,15 @@ normal-keeps : (k : Fault) (e : Event) (c : Chip) → c .normal ≡ true → Hol
 normal-keeps k Por c a = darkens k Por Nothing (c .registers .shown)
 normal-keeps k Boot c a = stays-as k Boot c Nothing refl
 normal-keeps k Pin c a =
-    by-cond (Keeps k Pin Nothing (c .normal) (c .registers .shown)) (alert (c .registers .shown .status)) (c .registers .shown) (overridden (c .registers .shown))
+    by-cond (Keeps k Pin Nothing (c .normal) (c .registers .shown)) (alert (c .registers .shown .status)) (c .registers .shown)
+    (overridden (c .registers .shown))
     (λ h. stays-as k Pin c Nothing refl) (λ h. puts-off k Pin (c .normal) (c .registers .shown) .0)
 normal-keeps k Xready c a = puts-off k Xready (c .normal) (c .registers .shown) .1
 normal-keeps k (Scan xs) c a = judged-keeps k (Scan xs) c
 normal-keeps k (Temp xs) c a = stays-as k (Temp xs) c Nothing refl
 normal-keeps k (Count n) c a =
-    by-cond (Keeps k (Count n) Nothing (c .normal) (c .registers .shown)) (c .registers .settings .«cc_en» || c .registers .shown .«cc_oneshot») (counting (c .registers .shown)) (c .registers .shown)
+    by-cond (Keeps k (Count n) Nothing (c .normal) (c .registers .shown))
+    (c .registers .settings .«cc_en» || c .registers .shown .«cc_oneshot») (counting (c .registers .shown)) (c .registers .shown)
     (λ h. puts-off k (Count n) (c .normal) (c .registers .shown) .2) (λ h. stays-as k (Count n) c Nothing refl)
 normal-keeps k (Sense v) c a = judged-keeps k (Sense v) c
 normal-keeps k (Load l) c a = stays-as k (Load l) c Nothing refl
@@ -262,9 +289,12 @@ wrote-unfit u c (Level l) f = refl
 pub next-keeps : (k : Fault) (e : Event) (c : Chip) → Holds k e c (next e c)
 next-keeps k e c =
     next-by (Holds k e c) e c
-    (λ f a. level-keeps k e w (normally e c .chip .normal) (normally e c .chip .registers .«outside_level») (c .registers .shown) (normally e c .chip .registers .shown) (normal-keeps k e c a))
+    (λ f a. level-keeps k e w (normally e c .chip .normal) (normally e c .chip .registers .«outside_level») (c .registers .shown)
+    (normally e c .chip .registers .shown) (normal-keeps k e c a))
     (λ f a. let n : clears k w ≡ false = ap (clears k) (wrote-asleep (c .setup) (coreOf c) e a) in
-    asleep-by (Holds k e c) e c (darkens k e w (c .registers .shown)) (λ b. level-keeps k e w true (c .registers .«outside_level») (c .registers .shown) (c .registers .shown) (same k e w true (c .registers .shown) n)) (stays-as k e c w n))
+    asleep-by (Holds k e c) e c (darkens k e w (c .registers .shown))
+    (λ b. level-keeps k e w true (c .registers .«outside_level») (c .registers .shown) (c .registers .shown)
+    (same k e w true (c .registers .shown) n)) (stays-as k e c w n))
     (λ f. stays-as k e c w (ap (clears k) (wrote-unfit (c .setup) (coreOf c) e f)))
   where
     w : Store

@@ -1,5 +1,5 @@
--- M-103 over any events from power-up: what the outside level is, when OVRD_ALERT is up by it, and how demand 3 reads a clearing write that finds it up
--- again. Assumes nothing.
+-- M-103 over any events from power-up: what the outside level is, when OVRD_ALERT is up by it, and how demand 3 reads a clearing write
+-- that finds it up again. Assumes nothing.
 use mathlib.Core.Path.{_≡_, refl, sym, ap, subst, _∙_}
 use mathlib.Core.Bool.{Bool, true, false, not, _&&_, _||_, cond, true≢false}
 use mathlib.Core.List.{List, [], _∷_, _++_}
@@ -82,7 +82,8 @@ bus-leveled Start c a = all (c .normal) (c .registers .«outside_level») a
 bus-leveled Stop c a = all (c .normal) (c .registers .«outside_level») a
 bus-leveled (Out b) c a =
     stored-by (Leveled (OnBus (Out b)) c) (outed (c .setup) (c .bus .line) b .line) (outed (c .setup) (c .bus .line) b .store) c
-    (λ t. all (c .normal) (c .registers .«outside_level») a) (λ x v t s. none (c .normal) (c .registers .«outside_level»)) (λ x v t s. all (c .normal) (c .registers .«outside_level») a)
+    (λ t. all (c .normal) (c .registers .«outside_level») a) (λ x v t s. none (c .normal) (c .registers .«outside_level»))
+    (λ x v t s. all (c .normal) (c .registers .«outside_level») a)
 bus-leveled (In nack) c a = all (c .normal) (c .registers .«outside_level») a
 
 normal-leveled : (e : Event) (c : Chip) → c .normal ≡ true → Leveled e c (normally e c .chip)
@@ -102,7 +103,8 @@ normal-leveled (Level l) c a = all (c .normal) l a
 next-leveled : (e : Event) (c : Chip) → (c .normal ≡ false → c .registers .«outside_level» ≡ false) → Leveled e c (next e c)
 next-leveled e c z =
     next-by (Leveled e c) e c (λ f a. normal-leveled e c a)
-    (λ f a. asleep-by (Leveled e c) e c (slept (c .normal) false (levelAfter e x) a) (λ b. z a ∙ slept (c .normal) true (levelAfter e x) a) (z a ∙ slept (c .normal) (c .normal) (levelAfter e x) a))
+    (λ f a. asleep-by (Leveled e c) e c (slept (c .normal) false (levelAfter e x) a)
+    (λ b. z a ∙ slept (c .normal) true (levelAfter e x) a) (z a ∙ slept (c .normal) (c .normal) (levelAfter e x) a))
     (λ f. stays (c .normal) refl ∙ ap (λ (y : Bool). c .normal && c .normal && y) (sym (unfit-level e x f)))
   where
     x : Bool
@@ -115,7 +117,8 @@ next-leveled e c z =
 -- ── what an event leaves shown ──
 -- the OUT that writes v to SYS_STAT
 clearing-shown : (b v : ℕ) (c : Chip) → c .normal ≡ true → outed (c .setup) (c .bus .line) b .store ≡ At 0x00 v
-    → next (OnBus (Out b)) c .registers .shown ≡ pulledAt (c .registers .«outside_level») (withStatus (without (statusOf v) (c .registers .shown .status)) (c .registers .shown))
+    → next (OnBus (Out b)) c .registers .shown
+    ≡ pulledAt (c .registers .«outside_level») (withStatus (without (statusOf v) (c .registers .shown .status)) (c .registers .shown))
 unfolding fits storedAt shownWith
 clearing-shown b v c a s =
     ap (λ (t : Stepped). t .chip .registers .shown) (normal-is (OnBus (Out b)) c refl a)
@@ -139,7 +142,8 @@ clash b p q = absurd (true≢false (sym q ∙ p))
 written-pins : (e : Event) (a v : ℕ) (s : Shown) → ovrdOf s ≡ false → ovrdOf (shownWith a v s) ≡ true → e ≡ Pin
 unfolding shownWith
 written-pins e a v s p =
-    by-cond (λ t. ovrdOf t ≡ true → e ≡ Pin) (eqb a 0x00) (withStatus (without (statusOf v) (s .status)) s) (cond (eqb a 0x05) (driven v s) s)
+    by-cond (λ t. ovrdOf t ≡ true → e ≡ Pin) (eqb a 0x00) (withStatus (without (statusOf v) (s .status)) s)
+    (cond (eqb a 0x05) (driven v s) s)
     (λ h q. clash (ovrdOf s) p (and-left (ovrdOf s) (not (bit v 16)) q))
     (λ h. by-cond (λ t. ovrdOf t ≡ true → e ≡ Pin) (eqb a 0x05) (driven v s) s (λ i q. clash (ovrdOf s) p q) (λ i q. clash (ovrdOf s) p q))
   where
@@ -152,7 +156,8 @@ bus-pins Start c p q = clash (ovrdOf (c .registers .shown)) p q
 bus-pins Stop c p q = clash (ovrdOf (c .registers .shown)) p q
 bus-pins (Out b) c p q =
     stored-by (Pinned (OnBus (Out b)) c) (outed (c .setup) (c .bus .line) b .line) (outed (c .setup) (c .bus .line) b .store) c
-    (λ t p q. clash (ovrdOf (c .registers .shown)) p q) (λ x v t s p q. absurd (true≢false (sym q))) (λ x v t s p q. written-pins (OnBus (Out b)) x v (c .registers .shown) p q) p q
+    (λ t p q. clash (ovrdOf (c .registers .shown)) p q) (λ x v t s p q. absurd (true≢false (sym q)))
+    (λ x v t s p q. written-pins (OnBus (Out b)) x v (c .registers .shown) p q) p q
 bus-pins (In nack) c p q = clash (ovrdOf (c .registers .shown)) p q
 
 normal-pins : (e : Event) (c : Chip) → Pinned e c (normally e c .chip)
@@ -163,7 +168,8 @@ normal-pins Xready c p q = clash (ovrdOf (c .registers .shown)) p q
 normal-pins (Scan xs) c p q = clash (ovrdOf (c .registers .shown)) p q
 normal-pins (Temp xs) c p q = clash (ovrdOf (c .registers .shown)) p q
 normal-pins (Count n) c p q =
-    by-cond (λ s. ovrdOf s ≡ true → Count n ≡ Pin) (c .registers .settings .«cc_en» || c .registers .shown .«cc_oneshot») (counting (c .registers .shown)) (c .registers .shown)
+    by-cond (λ s. ovrdOf s ≡ true → Count n ≡ Pin) (c .registers .settings .«cc_en» || c .registers .shown .«cc_oneshot»)
+    (counting (c .registers .shown)) (c .registers .shown)
     (λ h q. clash (ovrdOf (c .registers .shown)) p q) (λ h q. clash (ovrdOf (c .registers .shown)) p q) q
 normal-pins (Sense v) c p q = clash (ovrdOf (c .registers .shown)) p q
 normal-pins (Load l) c p q = clash (ovrdOf (c .registers .shown)) p q
@@ -176,19 +182,23 @@ Rose e c d = ovrdOf (c .registers .shown) ≡ false → ovrdOf (d .registers .sh
 level-rose : (e : Event) (c d : Chip) → Pinned e c d → Rose e c (watched d)
 level-rose e c d f p = by (d .registers .«outside_level») refl
   where
-    by : (l : Bool) → d .registers .«outside_level» ≡ l → ovrdOf (pulledAt l (d .registers .shown)) ≡ true → (e ≡ Pin) ⊎ (d .registers .«outside_level» ≡ true)
+    by : (l : Bool) → d .registers .«outside_level» ≡ l → ovrdOf (pulledAt l (d .registers .shown)) ≡ true
+        → (e ≡ Pin) ⊎ (d .registers .«outside_level» ≡ true)
     by true h q = inr h
     by false h q = inl (f p q)
 
 next-rose : (e : Event) (c : Chip) → Rose e c (next e c)
 next-rose e c =
     next-by (Rose e c) e c (λ f a. level-rose e c (normally e c .chip) (normal-pins e c))
-    (λ f a. asleep-by (Rose e c) e c (λ p q. absurd (true≢false (sym q))) (λ b. level-rose e c (withNormal true c) (λ p q. clash (ovrdOf (c .registers .shown)) p q)) (λ p q. clash (ovrdOf (c .registers .shown)) p q))
+    (λ f a. asleep-by (Rose e c) e c (λ p q. absurd (true≢false (sym q)))
+    (λ b. level-rose e c (withNormal true c) (λ p q. clash (ovrdOf (c .registers .shown)) p q))
+    (λ p q. clash (ovrdOf (c .registers .shown)) p q))
     (λ f p q. clash (ovrdOf (c .registers .shown)) p q)
 
 -- ── over any events from power-up ──
 module _ (u : Setup) where
-  -- THE LEVEL, of the events alone: the last one that came in this waking spell, and 0 before one came; an event that leaves the chip in SHIP ends the spell
+  -- THE LEVEL, of the events alone: the last one that came in this waking spell, and 0 before one came; an event that leaves the chip in
+  -- SHIP ends the spell
   unfoldable pub leveled : List Event → Bool
   leveled [] = false
   leveled (e ∷ past) = core u past .normal && core u (e ∷ past) .normal && levelAfter e (leveled past)
@@ -214,7 +224,8 @@ module _ (u : Setup) where
       → (upAt u OvrdAlert past ≡ true) × (shown u past .«chg_on» ≡ false) × (shown u past .«dsg_on» ≡ false)
   level-holds past h n =
       let t : Status = shown u past .status in
-      let o : upAt u OvrdAlert past ≡ true = alone (t .«cc_ready») (t .xready) (t .«ovrd_alert») (t .uv) (t .ov) (t .scd) (t .ocd) n (level-alerts past h) in
+      let o : upAt u OvrdAlert past ≡ true =
+      alone (t .«cc_ready») (t .xready) (t .«ovrd_alert») (t .uv) (t .ov) (t .scd) (t .ocd) n (level-alerts past h) in
       (o, ovrd-holds-both u past o .0, ovrd-holds-both u past o .1)
     where
       alone : (a b c d e f g : Bool) → (a || b || d || e || f || g) ≡ false → (a || b || c || d || e || f || g) ≡ true → c ≡ true
@@ -224,7 +235,8 @@ module _ (u : Setup) where
       alone false false false d e f g n h = absurd (true≢false (sym h ∙ n))
 
   -- OVRD_ALERT rises at PIN, or with the level at 1, and at nothing else
-  pub ovrd-rises-only : (past : List Event) (e : Event) → upAt u OvrdAlert past ≡ false → upAt u OvrdAlert (e ∷ past) ≡ true → (e ≡ Pin) ⊎ (outside u (e ∷ past) ≡ true)
+  pub ovrd-rises-only : (past : List Event) (e : Event) → upAt u OvrdAlert past ≡ false → upAt u OvrdAlert (e ∷ past) ≡ true
+      → (e ≡ Pin) ⊎ (outside u (e ∷ past) ≡ true)
   unfolding chip
   ovrd-rises-only past e p q = next-rose e (chip u past) p q
 
@@ -233,7 +245,8 @@ module _ (u : Setup) where
   unfolding chip
   level-comes l past a = level-shown l (chip u past) (awake-is u past ∙ a)
 
-  -- A CLEARING WRITE: the ones lower their bits; then, the level 1 and no bit left, OVRD_ALERT is up and both drives off at the end of its own event
+  -- A CLEARING WRITE: the ones lower their bits; then, the level 1 and no bit left, OVRD_ALERT is up and both drives off at the end of
+  -- its own event
   pub clears-to : (b v : ℕ) (past : List Event) → wrote u (core u past) (OnBus (Out b)) ≡ At 0x00 v
       → shown u (OnBus (Out b) ∷ past) ≡ pulledAt (outside u past) (withStatus (without (statusOf v) (shown u past .status)) (shown u past))
   unfolding chip
@@ -265,26 +278,34 @@ module _ (u : Setup) where
   -- UP THROUGHOUT. Each later write of a one to OVRD_ALERT finds it up again at the end of its own event
   unfoldable pub UpAgain : List Event → List Event → Type 0
   UpAgain [] past = Unit
-  UpAgain (e ∷ later) past = UpAgain later past × (clearsAt OvrdAlert (wrote u (core u (later ++ past)) e) ≡ true → upAt u OvrdAlert (e ∷ later ++ past) ≡ true)
+  UpAgain (e ∷ later) past =
+      UpAgain later past × (clearsAt OvrdAlert (wrote u (core u (later ++ past)) e) ≡ true → upAt u OvrdAlert (e ∷ later ++ past) ≡ true)
 
   awake-last : (later past : List Event) → StaysAwake u later past → Awake u (later ++ past)
   unfolding StaysAwake
   awake-last [] past a = a
   awake-last (e ∷ later) past a = a .1
 
-  stays-up : (later past : List Event) → upAt u OvrdAlert past ≡ true → StaysAwake u later past → UpAgain later past → upAt u OvrdAlert (later ++ past) ≡ true
+  stays-up : (later past : List Event) → upAt u OvrdAlert past ≡ true → StaysAwake u later past → UpAgain later past
+      → upAt u OvrdAlert (later ++ past) ≡ true
   unfolding StaysAwake UpAgain UnclearedAt
   stays-up [] past p a h = p
   stays-up (e ∷ later) past p a h = by (clearsAt OvrdAlert (wrote u (core u (later ++ past)) e)) refl (stays-up later past p (a .0) (h .0))
     where
-      by : (t : Bool) → clearsAt OvrdAlert (wrote u (core u (later ++ past)) e) ≡ t → upAt u OvrdAlert (later ++ past) ≡ true → upAt u OvrdAlert (e ∷ later ++ past) ≡ true
+      by : (t : Bool) → clearsAt OvrdAlert (wrote u (core u (later ++ past)) e) ≡ t → upAt u OvrdAlert (later ++ past) ≡ true
+          → upAt u OvrdAlert (e ∷ later ++ past) ≡ true
       by true c v = h .1 c
       by false c v = bit-latches u OvrdAlert (e ∷ []) (later ++ past) v (awake-last later past (a .0), a .1) (tt, c) .0
 
   -- .. so over these events ALERT is up and both drives are off, as if none had been written
   pub up-throughout : (later past : List Event) → upAt u OvrdAlert past ≡ true → StaysAwake u later past → UpAgain later past
-      → (upAt u OvrdAlert (later ++ past) ≡ true) × (alerted u (later ++ past) ≡ true) × (shown u (later ++ past) .«chg_on» ≡ false) × (shown u (later ++ past) .«dsg_on» ≡ false)
+      → (upAt u OvrdAlert (later ++ past) ≡ true) × (alerted u (later ++ past) ≡ true) × (shown u (later ++ past) .«chg_on» ≡ false)
+      × (shown u (later ++ past) .«dsg_on» ≡ false)
   unfolding StaysAwake UnclearedAt
   up-throughout later past p a h =
-      let v : upAt u OvrdAlert (later ++ past) ≡ true = stays-up later past p a h in
-      (v, bit-latches u OvrdAlert [] (later ++ past) v (awake-last later past a) tt .1, ovrd-holds-both u (later ++ past) v .0, ovrd-holds-both u (later ++ past) v .1)
+      let v : upAt u OvrdAlert (later ++ past) ≡ true = stays-up later past p a h in (
+        v,
+        bit-latches u OvrdAlert [] (later ++ past) v (awake-last later past a) tt .1,
+        ovrd-holds-both u (later ++ past) v .0,
+        ovrd-holds-both u (later ++ past) v .1,
+      )

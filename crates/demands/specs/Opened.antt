@@ -26,7 +26,8 @@ use Rattle.demands.specs.Spoiled.{Chips, sortOf, isSends, checks, waitin
 abbrev pub mapped : Phase → Stepped → Stepped
 mapped p s = record { chip = phased p (s .chip); number = s .number; flag = s .flag; byte = s .byte }
 
-apart-normal : (p : Phase) (e : Event) (c : Chip) → sortOf e ≡ Chips → (normally e (phased p c) ≡ mapped p (normally e c)) × (normally e c .chip .normal ≡ c .normal)
+apart-normal : (p : Phase) (e : Event) (c : Chip) → sortOf e ≡ Chips
+    → (normally e (phased p c) ≡ mapped p (normally e c)) × (normally e c .chip .normal ≡ c .normal)
 apart-normal p Por c h = (cc, cc)
 apart-normal p Boot c h = (refl, refl)
 apart-normal p Pin c h = (refl, refl)
@@ -42,12 +43,14 @@ apart-normal p (OnBus (Out b)) c h = (cc, cc)
 apart-normal p (OnBus (In nack)) c h = (cc, cc)
 apart-normal p (Level l) c h = (refl, refl)
 
-pub apart : (p : Phase) (e : Event) (c : Chip) → sortOf e ≡ Chips → c .normal ≡ true → (stepped e (phased p c) ≡ mapped p (stepped e c)) × (next e c .normal ≡ true)
+pub apart : (p : Phase) (e : Event) (c : Chip) → sortOf e ≡ Chips → c .normal ≡ true
+    → (stepped e (phased p c) ≡ mapped p (stepped e c)) × (next e c .normal ≡ true)
 unfolding stepped happened
 apart p e c h a = by (fits e) (c .normal) a
   where
     by : (f w : Bool) → w ≡ true
-        → (cond f (cond w (settled (normally e (phased p c))) (asleep e (phased p c))) (numbered 3 (phased p c)) ≡ mapped p (cond f (cond w (settled (normally e c)) (asleep e c)) (numbered 3 c)))
+        → (cond f (cond w (settled (normally e (phased p c))) (asleep e (phased p c))) (numbered 3 (phased p c))
+        ≡ mapped p (cond f (cond w (settled (normally e c)) (asleep e c)) (numbered 3 c)))
         × (cond f (cond w (settled (normally e c)) (asleep e c)) (numbered 3 c) .chip .normal ≡ true)
     by true true w = (ap settled (apart-normal p e c h .0), apart-normal p e c h .1 ∙ a)
     by true false w = (cc, cc)
@@ -96,11 +99,13 @@ unfolding spoiled
 spoiled-waits c [] h = cc
 spoiled-waits c (e ∷ es) h = and-left (waiting c) (cond (isSends (sortOf e)) (eqb (stepped e c .byte) 1) (spoiled (next e c) es)) h
 
-pub spoiled-on : (c : Chip) (e : Event) (es : List Event) → isSends (sortOf e) ≡ false → spoiled c (e ∷ es) ≡ true → spoiled (next e c) es ≡ true
+pub spoiled-on : (c : Chip) (e : Event) (es : List Event) → isSends (sortOf e) ≡ false → spoiled c (e ∷ es) ≡ true
+    → spoiled (next e c) es ≡ true
 unfolding spoiled
 spoiled-on c e es n h = rw n at (and-right (waiting c) (cond (isSends (sortOf e)) (eqb (stepped e c .byte) 1) (spoiled (next e c) es)) h)
 
-pub spoiled-out : (c : Chip) (b : ℕ) (es : List Event) → spoiled c (OnBus (Out b) ∷ es) ≡ true → eqb (stepped (OnBus (Out b)) c .byte) 1 ≡ true
+pub spoiled-out : (c : Chip) (b : ℕ) (es : List Event) → spoiled c (OnBus (Out b) ∷ es) ≡ true
+    → eqb (stepped (OnBus (Out b)) c .byte) 1 ≡ true
 unfolding spoiled
 spoiled-out c b es h = and-right (waiting c) (eqb (stepped (OnBus (Out b)) c .byte) 1) h
 
@@ -116,12 +121,18 @@ opening : (u : Setup) (p : Phase) (a b : ℕ) → Opens p a b (outIn u p a b)
 unfolding addressed fed checked
 opening u Idle a b = λ h. absurd (true≢false (sym h))
 opening u Address a b =
-    by-cond (Opens Address a b) (eqb b (u .address * 2)) (goes (Pointing (byteOn 0 b)) a) (cond (eqb b (u .address * 2 + 1)) (goes (Reading (byteOn 0 b) false) a) (refuses a))
+    by-cond (Opens Address a b) (eqb b (u .address * 2)) (goes (Pointing (byteOn 0 b)) a)
+    (cond (eqb b (u .address * 2 + 1)) (goes (Reading (byteOn 0 b) false) a) (refuses a))
     (λ t h. absurd (true≢false (sym h)))
-    (λ t. by-cond (Opens Address a b) (eqb b (u .address * 2 + 1)) (goes (Reading (byteOn 0 b) false) a) (refuses a) (λ t h. absurd (true≢false (sym h))) (λ t h. absurd (true≢false (sym h))))
+    (λ t. by-cond (Opens Address a b) (eqb b (u .address * 2 + 1)) (goes (Reading (byteOn 0 b) false) a) (refuses a)
+    (λ t h. absurd (true≢false (sym h))) (λ t h. absurd (true≢false (sym h))))
 opening u (Pointing s) a b = λ h. absurd (true≢false (sym h))
-opening u (Writing s) a b = by-cond (Opens (Writing s) a b) (u .crc) (goes (Checking b (byteOn s b)) a) (stores a b) (λ t h. (s, refl, refl)) (λ t h. absurd (true≢false (sym h)))
-opening u (Checking v s) a b = by-cond (Opens (Checking v s) a b) (eqb b s) (stores a v) (refuses a) (λ t h. absurd (true≢false (sym h))) (λ t h. absurd (true≢false (sym h)))
+opening u (Writing s) a b =
+    by-cond (Opens (Writing s) a b) (u .crc) (goes (Checking b (byteOn s b)) a) (stores a b) (λ t h. (s, refl, refl))
+    (λ t h. absurd (true≢false (sym h)))
+opening u (Checking v s) a b =
+    by-cond (Opens (Checking v s) a b) (eqb b s) (stores a v) (refuses a) (λ t h. absurd (true≢false (sym h)))
+    (λ t h. absurd (true≢false (sym h)))
 opening u (Reading s k) a b = λ h. absurd (true≢false (sym h))
 opening u (Summing k) a b = λ h. absurd (true≢false (sym h))
 
@@ -135,8 +146,13 @@ stored-waits l t c =
 pub opens : (b : ℕ) (c : Chip) → Calmed c → waiting (next (OnBus (Out b)) c) ≡ true
     → (s : ℕ) × (c ≡ phased (Writing s) c) × (next (OnBus (Out b)) c ≡ phased (Checking b (byteOn s b)) c) × (c .normal ≡ true)
 unfolding outed
-opens b c m h =
-    (f .0, λ i. phased-at (f .1 i), ap (λ s. s .chip) (bus-is (Out b) c a) ∙ ap (λ o. watched (stored (o .line) (o .store) c)) (f .2) ∙ calm-watched (phased-at (Checking b (byteOn (f .0) b))) m, a)
+opens b c m h = (
+  f .0,
+  λ i. phased-at (f .1 i),
+  ap (λ s. s .chip) (bus-is (Out b) c a) ∙ ap (λ o. watched (stored (o .line) (o .store) c)) (f .2)
+      ∙ calm-watched (phased-at (Checking b (byteOn (f .0) b))) m,
+  a,
+)
   where
     a : c .normal ≡ true
     a = by (c .normal) refl
@@ -149,7 +165,8 @@ opens b c m h =
     o = outIn (c .setup) (c .bus .line .phase) (c .bus .line .pointer) b
 
     f : (s : ℕ) × (c .bus .line .phase ≡ Writing s) × (o ≡ goes (Checking b (byteOn s b)) (c .bus .line .pointer))
-    f = opening (c .setup) (c .bus .line .phase) (c .bus .line .pointer) b (stored-waits (o .line) (o .store) c (subst (λ s. waiting (s .chip) ≡ true) (bus-is (Out b) c a) h))
+    f = opening (c .setup) (c .bus .line .phase) (c .bus .line .pointer) b
+        (stored-waits (o .line) (o .store) c (subst (λ s. waiting (s .chip) ≡ true) (bus-is (Out b) c a) h))
 
     phased-at : Phase → Chip
     phased-at p = phased p c

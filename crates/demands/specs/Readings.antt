@@ -1,4 +1,5 @@
--- DEMAND 3 read fault by fault, in document 01's words and numbers: what a verdict is, how many are needed, and when the bit is up. Assumes nothing.
+-- DEMAND 3 read fault by fault, in document 01's words and numbers: what a verdict is, how many are needed, and when the bit is up.
+-- Assumes nothing.
 use mathlib.Core.Path.{_≡_, refl}
 use mathlib.Core.Bool.{true, _&&_, cond}
 use mathlib.Core.List.{List, [], _∷_}
@@ -41,34 +42,43 @@ module _ (u : Setup) (past : List Event) where
   -- ── a tick: minus the value exceeds the threshold of the code that stands ──
   module _ (v : ℤ) where
     pub scd-verdict : said u Scd past (Sense v)
-        ≡ cond (senseFits v) (ltZ (pos (getD (scdLimit (bit (standing u past .protect1) 128)) (standing u past .protect1 % 8) 0)) (negℤ v) ∷ []) []
+        ≡ cond (senseFits v)
+        (ltZ (pos (getD (scdLimit (bit (standing u past .protect1) 128)) (standing u past .protect1 % 8) 0)) (negℤ v) ∷ []) []
     unfolding fits rule beyond
     scd-verdict = refl
 
     pub ocd-verdict : said u Ocd past (Sense v)
-        ≡ cond (senseFits v) (ltZ (pos (getD (ocdLimit (bit (standing u past .protect1) 128)) (standing u past .protect2 % 16) 0)) (negℤ v) ∷ []) []
+        ≡ cond (senseFits v)
+        (ltZ (pos (getD (ocdLimit (bit (standing u past .protect1) 128)) (standing u past .protect2 % 16) 0)) (negℤ v) ∷ []) []
     unfolding fits rule beyond
     ocd-verdict = refl
 
-    pub scd-after-tick : Accepted u past (Sense v) → (up u Scd (Sense v ∷ past) ≡ true) ↔ ((up u Scd past ≡ true) ∨₁ Due u Scd (Sense v ∷ past))
+    pub scd-after-tick : Accepted u past (Sense v)
+        → (up u Scd (Sense v ∷ past) ≡ true) ↔ ((up u Scd past ≡ true) ∨₁ Due u Scd (Sense v ∷ past))
     scd-after-tick n = rising u Scd past (Sense v) refl n
 
-    pub ocd-after-tick : Accepted u past (Sense v) → (up u Ocd (Sense v ∷ past) ≡ true) ↔ ((up u Ocd past ≡ true) ∨₁ Due u Ocd (Sense v ∷ past))
+    pub ocd-after-tick : Accepted u past (Sense v)
+        → (up u Ocd (Sense v ∷ past) ≡ true) ↔ ((up u Ocd past ≡ true) ∨₁ Due u Ocd (Sense v ∷ past))
     ocd-after-tick n = rising u Ocd past (Sense v) refl n
 
   -- ── the delays now set: scans and ticks, with DELAY_DIS one ──
-  pub ov-delay : delay u Ov past ≡ cond (standing u past .«delay_dis») 1 (getD (4 ∷ 8 ∷ 16 ∷ 32 ∷ []) (standing u past .protect3 / 16 % 4) 0)
+  pub ov-delay : delay u Ov past
+      ≡ cond (standing u past .«delay_dis») 1 (getD (4 ∷ 8 ∷ 16 ∷ 32 ∷ []) (standing u past .protect3 / 16 % 4) 0)
   unfolding rule
   ov-delay = refl
 
-  pub uv-delay : delay u Uv past ≡ cond (standing u past .«delay_dis») 1 (getD (4 ∷ 16 ∷ 32 ∷ 64 ∷ []) (standing u past .protect3 / 64 % 4) 0)
+  pub uv-delay : delay u Uv past
+      ≡ cond (standing u past .«delay_dis») 1 (getD (4 ∷ 16 ∷ 32 ∷ 64 ∷ []) (standing u past .protect3 / 64 % 4) 0)
   unfolding rule
   uv-delay = refl
 
-  pub scd-delay : delay u Scd past ≡ cond (standing u past .«delay_dis») 1 (getD (3 ∷ 4 ∷ 7 ∷ 13 ∷ []) (standing u past .protect1 / 8 % 4) 0)
+  pub scd-delay : delay u Scd past
+      ≡ cond (standing u past .«delay_dis») 1 (getD (3 ∷ 4 ∷ 7 ∷ 13 ∷ []) (standing u past .protect1 / 8 % 4) 0)
   unfolding rule
   scd-delay = refl
 
-  pub ocd-delay : delay u Ocd past ≡ cond (standing u past .«delay_dis») 1 (getD (256 ∷ 640 ∷ 1280 ∷ 2560 ∷ 5120 ∷ 10240 ∷ 20480 ∷ 40960 ∷ []) (standing u past .protect2 / 16 % 8) 0)
+  pub ocd-delay : delay u Ocd past
+      ≡ cond (standing u past .«delay_dis») 1
+      (getD (256 ∷ 640 ∷ 1280 ∷ 2560 ∷ 5120 ∷ 10240 ∷ 20480 ∷ 40960 ∷ []) (standing u past .protect2 / 16 % 8) 0)
   unfolding rule
   ocd-delay = refl

@@ -1,10 +1,12 @@
--- DEMAND 1: a refused event leaves the chip as it stood, whatever its number; of the definitions' events and of the code's. Assumes nothing.
+-- DEMAND 1: a refused event leaves the chip as it stood, whatever its number; of the definitions' events and of the code's. Assumes
+-- nothing.
 use mathlib.Core.Path.{_≡_, refl}
 use mathlib.Core.Bool.{Bool, true, false, cond}
 use Rattle.events.specs.declared.Counts.{Counts}
 use Rattle.events.specs.declared.BusEvent.the-variants.{Start, Stop, Out, In}
 use Rattle.events.specs.declared.Event.{Event as Coded}
-use Rattle.events.specs.Event.{Event, Por, Boot, Pin, Xready, Scan, Temp, Count, Sense, Load, OnBus, Level, fits, ticksFit, Meant, means, ticks, unfit, meantOf}
+use Rattle.events.specs.Event.{Event, Por, Boot, Pin, Xready, Scan, Temp, Count, Sense, Load, OnBus, Level, fits, ticksFit, Meant}
+use Rattle.events.specs.Event.{means, ticks, unfit, meantOf}
 use Rattle.chip.specs.declared.Chip.{Chip}
 use Rattle.chip.specs.declared.Stepped.{Stepped}
 use Rattle.chip.specs.Chip.{numbered, settled, normally, asleep, happened, stepped, next, ticking, steppedAs, steppedBy}
@@ -47,7 +49,8 @@ pub refused-happened : (e : Event) (c : Chip) → (happened e c .number ≡ 0 �
 unfolding happened
 refused-happened e c h = by (c .normal) h
   where
-    by : (a : Bool) → (cond a (settled (normally e c)) (asleep e c) .number ≡ 0 → ⊥) → cond a (settled (normally e c)) (asleep e c) .chip ≡ c
+    by : (a : Bool) → (cond a (settled (normally e c)) (asleep e c) .number ≡ 0 → ⊥)
+        → cond a (settled (normally e c)) (asleep e c) .chip ≡ c
     by true h = absurd (h (normal-done e c))
     by false h = asleep-refused e c h
 
@@ -69,7 +72,8 @@ pub refused-as : (m : Meant) (c : Chip) → (steppedAs m c .number ≡ 0 → ⊥
 refused-as (means e) c h = refused e c h
 refused-as (ticks most v n) c h = in-ticks (ticksFit most v n) (c .normal) h
   where
-    in-ticks : (f a : Bool) → (cond f (cond a (numbered 0 (ticking n v c)) (numbered 4 c)) (numbered 3 c) .number ≡ 0 → ⊥) → cond f (cond a (numbered 0 (ticking n v c)) (numbered 4 c)) (numbered 3 c) .chip ≡ c
+    in-ticks : (f a : Bool) → (cond f (cond a (numbered 0 (ticking n v c)) (numbered 4 c)) (numbered 3 c) .number ≡ 0 → ⊥)
+        → cond f (cond a (numbered 0 (ticking n v c)) (numbered 4 c)) (numbered 3 c) .chip ≡ c
     in-ticks true true h = absurd (h refl)
     in-ticks true false h = refl
     in-ticks false a h = refl

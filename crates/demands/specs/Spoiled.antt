@@ -123,7 +123,8 @@ remains m c (e ∷ es) =
 unfoldable pub remained : Mode → Chip → List Event → List Seen
 remained m c [] = []
 remained m c (e ∷ es) =
-    cond (drops m (sortOf e) (spoiled (next e c) es)) (remained (then m (sortOf e) (spoiled (next e c) es) (next e c .normal)) (next e c) es)
+    cond (drops m (sortOf e) (spoiled (next e c) es))
+    (remained (then m (sortOf e) (spoiled (next e c) es) (next e c .normal)) (next e c) es)
     (seen e c ∷ remained (then m (sortOf e) (spoiled (next e c) es) (next e c .normal)) (next e c) es)
 
 -- ── a worked case: 10 05 03 with a wrong CRC. The byte 03, its CRC and what follows go; the IN before the CRC, the scan and PIN remain ──
@@ -134,7 +135,9 @@ abbrev out : ℕ → Event
 out b = OnBus (Out b)
 
 pub cleaned : remains Whole (inShip guarded) (
-    Boot ∷ OnBus Start ∷ out 0x10 ∷ out 0x05 ∷ out 0x03 ∷ OnBus (In false) ∷ Scan (7000 ∷ []) ∷ out 0xEB ∷ out 0x01 ∷ OnBus (In false) ∷ Pin ∷ OnBus Stop ∷ []
+    Boot ∷ OnBus Start ∷ out 0x10 ∷ out 0x05 ∷ out 0x03 ∷ OnBus (In false) ∷ Scan (7000 ∷ []) ∷ out 0xEB ∷ out 0x01 ∷ OnBus
+    (In false) ∷ Pin ∷ OnBus Stop ∷ []
     ) ≡ Boot ∷ OnBus Start ∷ out 0x10 ∷ out 0x05 ∷ OnBus (In false) ∷ Scan (7000 ∷ []) ∷ Pin ∷ OnBus Stop ∷ []
-unfolding remains spoiled stepped happened fits outed taken byteGiven owing settingsWith shownWith cellbalWith byteOn rule over under addressed fed checked afterData afterSum keeps storedAt
+unfolding remains spoiled stepped happened fits outed taken byteGiven owing settingsWith shownWith cellbalWith byteOn rule over under
+    addressed fed checked afterData afterSum keeps storedAt
 cleaned = refl

@@ -52,13 +52,15 @@ wiredBy o t m c = cond o (wiredAs (cond t (With (withCells m (c .setup))) NoRow)
 
 wired-as : (o t : Bool) (n m : ℕ) (u : SetupValues) (c : Chip) → (o ≡ true → c ≡ inShip u)
     → (wiredBy o t m (celled n c) ≡ celledIn (wiredBy o t m (celled n c) .chip .setup .cells) (wiredBy o t m c))
-    × (celled (wiredBy o t m (celled n c) .chip .setup .cells) (wiredBy o t m c .chip) ≡ celled (wiredBy o t m (celled n c) .chip .setup .cells) c)
+    × (celled (wiredBy o t m (celled n c) .chip .setup .cells) (wiredBy o t m c .chip)
+    ≡ celled (wiredBy o t m (celled n c) .chip .setup .cells) c)
 wired-as true true n m u c h = (refl, ap (λ (d : Chip). celled m (inShip (withCells m (d .setup)))) (h refl) ∙ ap (celled m) (sym (h refl)))
 wired-as true false n m u c h = (refl, refl)
 wired-as false t n m u c h = (refl, refl)
 
 module _ (u : SetupValues) where
-  -- ── the events that records mean, newest first, once SETUP was read as u; a refused record means none, and one that is cut short ends them ──
+  -- ── the events that records mean, newest first, once SETUP was read as u; a refused record means none, and one that is cut short ends
+  -- them ──
   -- after what was read at the start of r
   abbrev pub heardNext : List ℕ → Read → List Event → List Event
   heardNext r (Record e next) past = withMeant u (meantOf u e (countsBeside r (Record e next))) past
@@ -68,14 +70,16 @@ module _ (u : SetupValues) where
   abbrev pub heardBy : ℕ → List ℕ → List Event → List Event
   heardBy zero r past = past
   heardBy (suc f) [] past = past
-  heardBy (suc f) (b ∷ r) past = heardBy f (restAfter (b ∷ r) (readOf (u .part) (b ∷ r))) (heardNext (b ∷ r) (readOf (u .part) (b ∷ r)) past)
+  heardBy (suc f) (b ∷ r) past =
+      heardBy f (restAfter (b ∷ r) (readOf (u .part) (b ∷ r))) (heardNext (b ∷ r) (readOf (u .part) (b ∷ r)) past)
 
   -- the events heard after each record, the first record first
   abbrev pub historiesBy : ℕ → List ℕ → List Event → List (List Event)
   historiesBy zero r past = []
   historiesBy (suc f) [] past = []
   historiesBy (suc f) (b ∷ r) past =
-      heardNext (b ∷ r) (readOf (u .part) (b ∷ r)) past ∷ historiesBy f (restAfter (b ∷ r) (readOf (u .part) (b ∷ r))) (heardNext (b ∷ r) (readOf (u .part) (b ∷ r)) past)
+      heardNext (b ∷ r) (readOf (u .part) (b ∷ r)) past ∷ historiesBy f (restAfter (b ∷ r) (readOf (u .part) (b ∷ r)))
+      (heardNext (b ∷ r) (readOf (u .part) (b ∷ r)) past)
 
   -- ── what each is answered; `o` says that since SETUP only refused records came, so that a wiring record is taken (request M-107) ──
   abbrev pub answered : Bool → Coded → Counts → List Event → Stepped
@@ -95,7 +99,8 @@ module _ (u : SetupValues) where
 
   -- the number of cells after it, 0 for none
   abbrev pub cellsNext : Bool → List ℕ → Read → List Event → ℕ → ℕ
-  cellsNext o r (Record e next) past n = cond (isWires e) (acted o e (countsBeside r (Record e next)) (celled n (chip u past)) .chip .setup .cells) n
+  cellsNext o r (Record e next) past n =
+      cond (isWires e) (acted o e (countsBeside r (Record e next)) (celled n (chip u past)) .chip .setup .cells) n
   cellsNext o r (Refused k next) past n = n
   cellsNext o r Cut past n = n
 
@@ -128,47 +133,59 @@ module _ (u : SetupValues) where
         → (o ≡ true → (s .number ≡ 0 → ⊥) → chip u after ≡ inShip u) → Took o n r past (Record e next)
     took-by o n m r past after e next s is left said cells heard still =
         record {
-          chip-is = ap (λ (t : Stepped). t .chip) is ∙ left ∙ ap (λ (m : ℕ). celled m (chip u after)) (sym cells) ∙ ap (λ (l : List Event). celled (cellsNext o r (Record e next) past n) (chip u l)) (sym heard);
-          fresh-is = ap (λ (t : Stepped). staysFresh o (celled n (chip u past)) t) is ∙ ap (λ (b : Bool). b || (o && not (eqb (s .number) 0))) (goes-on n past) ∙ ap (λ (t : Stepped). o && not (eqb (t .number) 0)) (sym said);
+          chip-is =
+              ap (λ (t : Stepped). t .chip) is ∙ left ∙ ap (λ (m : ℕ). celled m (chip u after)) (sym cells)
+              ∙ ap (λ (l : List Event). celled (cellsNext o r (Record e next) past n) (chip u l)) (sym heard);
+          fresh-is =
+              ap (λ (t : Stepped). staysFresh o (celled n (chip u past)) t) is
+              ∙ ap (λ (b : Bool). b || (o && not (eqb (s .number) 0))) (goes-on n past)
+              ∙ ap (λ (t : Stepped). o && not (eqb (t .number) 0)) (sym said);
           entry-is = ap entryOf is ∙ ap entryOf (sym said);
           untouched = λ h.
               let w = both-true o (eqb (s .number) 0) (ap (λ (t : Stepped). o && not (eqb (t .number) 0)) (sym said) ∙ h) in
               ap (chip u) heard ∙ still (w .0) (λ z. true≢false (sym (eq-eqb (s .number) 0 z) ∙ w .1));
         }
 
-    took-wires : (o : Bool) (n : ℕ) (r : List ℕ) (past : List Event) → Untouched o past → (m next : ℕ) → Took o n r past (Record (Wires m) next)
+    took-wires : (o : Bool) (n : ℕ) (r : List ℕ) (past : List Event) → Untouched o past → (m next : ℕ)
+        → Took o n r past (Record (Wires m) next)
     unfolding acted wiredWith meantOf
     took-wires o n r past h m next =
         let t : Bool = hasRow (chip u past .setup .part) m in
         let w = wired-as o t n m u (chip u past) h in
-        took-by o n (wiredBy o t m (celled n (chip u past)) .chip .setup .cells) r past past (Wires m) next (wiredBy o t m (chip u past)) (w .0) (w .1) refl refl (unheard (countsFit 0 (countsBeside r (Record (Wires m) next)))) (λ e z. h e)
+        took-by o n (wiredBy o t m (celled n (chip u past)) .chip .setup .cells) r past past (Wires m) next (wiredBy o t m (chip u past))
+        (w .0) (w .1) refl refl (unheard (countsFit 0 (countsBeside r (Record (Wires m) next)))) (λ e z. h e)
       where
         unheard : (t : Bool) → withMeant u (cond t unfit unfit) past ≡ past
         unheard true = refl
         unheard false = refl
 
-    took-other : (o : Bool) (n : ℕ) (r : List ℕ) (past : List Event) → Untouched o past → (e : Coded) (next : ℕ) → isWires e ≡ false → readOf (u .part) r ≡ Record e next → Took o n r past (Record e next)
+    took-other : (o : Bool) (n : ℕ) (r : List ℕ) (past : List Event) → Untouched o past → (e : Coded) (next : ℕ) → isWires e ≡ false
+        → readOf (u .part) r ≡ Record e next → Took o n r past (Record e next)
     unfolding chip
     took-other o n r past h e next w q =
         let k : Counts = countsBeside r (Record e next) in
         let m : Meaning u e k = later-means u r e next p q w in
-        let same : meantOf (withCells n (chip u past .setup)) e k ≡ meantOf u e k = ap (λ (v : SetupValues). meantOf (withCells n v) e k) (setup-is u past) ∙ meant-cells n u e k in
+        let same : meantOf (withCells n (chip u past .setup)) e k ≡ meantOf u e k =
+        ap (λ (v : SetupValues). meantOf (withCells n v) e k) (setup-is u past) ∙ meant-cells n u e k in
         took-by o n n r past (withMeant u (meantOf u e k) past) e next (steppedAs (meantOf u e k) (chip u past))
-        (acted-is o e k (celled n (chip u past)) (subst (λ (x : Meant). inRange x ≡ true) (sym same) m) ∙ ap (λ (x : Meant). steppedAs x (celled n (chip u past))) same ∙ as-cells n (meantOf u e k) (chip u past))
+        (acted-is o e k (celled n (chip u past)) (subst (λ (x : Meant). inRange x ≡ true) (sym same) m)
+        ∙ ap (λ (x : Meant). steppedAs x (celled n (chip u past))) same ∙ as-cells n (meantOf u e k) (chip u past))
         (ap (celled n) (heard-as u (meantOf u e k) past))
         (ap (λ (b : Bool). cond b (acted o e k (chip u past)) (steppedAs (meantOf u e k) (chip u past))) w)
         (ap (λ (b : Bool). cond b (acted o e k (celled n (chip u past)) .chip .setup .cells) n) w)
         refl
         (λ o z. sym (heard-as u (meantOf u e k) past) ∙ refused-as (meantOf u e k) (chip u past) z ∙ h o)
 
-    pub took : (o : Bool) (n : ℕ) (r : List ℕ) (past : List Event) → Untouched o past → (x : Read) → readOf (u .part) r ≡ x → Took o n r past x
+    pub took : (o : Bool) (n : ℕ) (r : List ℕ) (past : List Event) → Untouched o past → (x : Read) → readOf (u .part) r ≡ x
+        → Took o n r past x
     took o n r past h (Record e next) q =
         wires-by (λ (e : Coded). readOf (u .part) r ≡ Record e next → Took o n r past (Record e next))
         (λ m q. took-wires o n r past h m next) (λ e w q. took-other o n r past h e next w q) e q
     took o n r past h (Refused k next) q = record { chip-is = refl; fresh-is = refl; entry-is = refl; untouched = h }
     took o n r past h Cut q = record { chip-is = refl; fresh-is = refl; entry-is = refl; untouched = h }
 
-    pub turn-is : (o : Bool) (n : ℕ) (r : List ℕ) (past : List Event) → turnOf o (celled n (chip u past)) r ≡ turned o (celled n (chip u past)) r (readOf (u .part) r)
+    pub turn-is : (o : Bool) (n : ℕ) (r : List ℕ) (past : List Event)
+        → turnOf o (celled n (chip u past)) r ≡ turned o (celled n (chip u past)) r (readOf (u .part) r)
     unfolding turnOf
     turn-is o n r past = ap (λ (v : SetupValues). turned o (celled n (chip u past)) r (readOf (v .part) r)) (setup-is u past)
 
@@ -186,15 +203,19 @@ module _ (u : SetupValues) where
 
     -- ── the chip at the end ──
     abbrev StandsAre : ℕ → Type 0
-    StandsAre f = (o : Bool) (n : ℕ) (r : List ℕ) (past : List Event) → Untouched o past → stands f o (celled n (chip u past)) r ≡ celled (cellsBy f o n r past) (chip u (heardBy f r past))
+    StandsAre f = (o : Bool) (n : ℕ) (r : List ℕ) (past : List Event) → Untouched o past
+        → stands f o (celled n (chip u past)) r ≡ celled (cellsBy f o n r past) (chip u (heardBy f r past))
 
     stands-turned : (f : ℕ) → StandsAre f → (o : Bool) (n : ℕ) (r : List ℕ) (past : List Event) (x : Read) → Took o n r past x
         → cond (turned o (celled n (chip u past)) r x .last) (turned o (celled n (chip u past)) r x .chip)
-        (stands f (turned o (celled n (chip u past)) r x .fresh) (turned o (celled n (chip u past)) r x .chip) (drop (turned o (celled n (chip u past)) r x .next) r))
-        ≡ celled (cellsBy f (freshNext o r x past) (cellsNext o r x past n) (restAfter r x) (heardNext r x past)) (chip u (heardBy f (restAfter r x) (heardNext r x past)))
+        (stands f (turned o (celled n (chip u past)) r x .fresh) (turned o (celled n (chip u past)) r x .chip)
+        (drop (turned o (celled n (chip u past)) r x .next) r))
+        ≡ celled (cellsBy f (freshNext o r x past) (cellsNext o r x past n) (restAfter r x) (heardNext r x past))
+        (chip u (heardBy f (restAfter r x) (heardNext r x past)))
     stands-turned f ih o n r past (Record e next) t =
         ap₂ (λ (b : Bool) (c : Chip). stands f b c (drop next r)) (t .fresh-is) (t .chip-is)
-        ∙ ih (freshNext o r (Record e next) past) (cellsNext o r (Record e next) past n) (drop next r) (heardNext r (Record e next) past) (t .untouched)
+        ∙ ih (freshNext o r (Record e next) past) (cellsNext o r (Record e next) past n) (drop next r) (heardNext r (Record e next) past)
+        (t .untouched)
     stands-turned f ih o n r past (Refused k next) t = simp (goes-on n past) (ih o n (drop next r) past (t .untouched))
     stands-turned f ih o n r past Cut t = sym (ap₂ celled (none-wired f o n past) (ap (chip u) (none-heard f past)))
 
@@ -203,7 +224,8 @@ module _ (u : SetupValues) where
     stands-are (suc f) o n [] past h = refl
     stands-are (suc f) o n (b ∷ r) past h =
         ap (λ (t : Turn). cond (t .last) (t .chip) (stands f (t .fresh) (t .chip) (drop (t .next) (b ∷ r)))) (turn-is o n (b ∷ r) past)
-        ∙ stands-turned f (λ o n r past h. stands-are f o n r past h) o n (b ∷ r) past (readOf (u .part) (b ∷ r)) (took o n (b ∷ r) past h (readOf (u .part) (b ∷ r)) refl)
+        ∙ stands-turned f (λ o n r past h. stands-are f o n r past h) o n (b ∷ r) past (readOf (u .part) (b ∷ r))
+        (took o n (b ∷ r) past h (readOf (u .part) (b ∷ r)) refl)
 
 -- ── what an entry shows, and what a chip has to show: SYS_STAT and pins ──
 abbrev pub shows : Entry → ℕ × ℕ
@@ -217,24 +239,32 @@ module _ (u : SetupValues) (p : u .part ≢ 0) where
   said past = toShow (chip u past)
 
   abbrev RunsShow : ℕ → Type 0
-  RunsShow f = (o : Bool) (n : ℕ) (r : List ℕ) (past : List Event) → Untouched u o past → map shows (runs f o (celled n (chip u past)) r) ≡ map said (historiesBy u f r past)
+  RunsShow f = (o : Bool) (n : ℕ) (r : List ℕ) (past : List Event) → Untouched u o past
+      → map shows (runs f o (celled n (chip u past)) r) ≡ map said (historiesBy u f r past)
 
   runs-turned : (f : ℕ) → RunsShow f → (o : Bool) (n : ℕ) (r : List ℕ) (past : List Event) (x : Read) → Took u o n r past x
-      → map shows (turned o (celled n (chip u past)) r x .entry ∷ cond (turned o (celled n (chip u past)) r x .last) [] (runs f (turned o (celled n (chip u past)) r x .fresh) (turned o (celled n (chip u past)) r x .chip) (drop (turned o (celled n (chip u past)) r x .next) r)))
+      → map shows
+      (turned o (celled n (chip u past)) r x .entry ∷ cond (turned o (celled n (chip u past)) r x .last) []
+      (runs f (turned o (celled n (chip u past)) r x .fresh) (turned o (celled n (chip u past)) r x .chip)
+      (drop (turned o (celled n (chip u past)) r x .next) r)))
       ≡ said (heardNext u r x past) ∷ map said (historiesBy u f (restAfter r x) (heardNext u r x past))
   runs-turned f ih o n r past (Record e next) t =
       ap₂ (λ (b : Bool) (c : Chip). toShow c ∷ map shows (runs f b c (drop next r))) (t .fresh-is) (t .chip-is)
       ∙ ap (λ (l : List (ℕ × ℕ)). said (heardNext u r (Record e next) past) ∷ l)
-      (ih (freshNext u o r (Record e next) past) (cellsNext u o r (Record e next) past n) (drop next r) (heardNext u r (Record e next) past) (t .untouched))
-  runs-turned f ih o n r past (Refused k next) t = simp (goes-on u p n past) (ap (λ (l : List (ℕ × ℕ)). said past ∷ l) (ih o n (drop next r) past (t .untouched)))
+      (ih (freshNext u o r (Record e next) past) (cellsNext u o r (Record e next) past n) (drop next r)
+      (heardNext u r (Record e next) past) (t .untouched))
+  runs-turned f ih o n r past (Refused k next) t =
+      simp (goes-on u p n past) (ap (λ (l : List (ℕ × ℕ)). said past ∷ l) (ih o n (drop next r) past (t .untouched)))
   runs-turned f ih o n r past Cut t = sym (ap (λ (l : List (List Event)). said past ∷ map said l) (none-after u p f past))
 
   pub runs-show : (f : ℕ) → RunsShow f
   runs-show zero o n r past h = refl
   runs-show (suc f) o n [] past h = refl
   runs-show (suc f) o n (b ∷ r) past h =
-      ap (λ (t : Turn). map shows (t .entry ∷ cond (t .last) [] (runs f (t .fresh) (t .chip) (drop (t .next) (b ∷ r))))) (turn-is u p o n (b ∷ r) past)
-      ∙ runs-turned f (λ o n r past h. runs-show f o n r past h) o n (b ∷ r) past (readOf (u .part) (b ∷ r)) (took u p o n (b ∷ r) past h (readOf (u .part) (b ∷ r)) refl)
+      ap (λ (t : Turn). map shows (t .entry ∷ cond (t .last) [] (runs f (t .fresh) (t .chip) (drop (t .next) (b ∷ r)))))
+      (turn-is u p o n (b ∷ r) past)
+      ∙ runs-turned f (λ o n r past h. runs-show f o n r past h) o n (b ∷ r) past (readOf (u .part) (b ∷ r))
+      (took u p o n (b ∷ r) past h (readOf (u .part) (b ∷ r)) refl)
 
 -- ── a stream whose first record is a SETUP, read with success as u, up to the place next ──
 -- the events that the records after it mean
@@ -263,4 +293,6 @@ module _ (s : List ℕ) (u : SetupValues) (next : ℕ) (first : readOf 0 s ≡ R
   -- THE ENTRIES: each shows the SYS_STAT and the pins of the events heard so far
   pub entries-show : map shows (entries s) ≡ map (λ past. toShow (chip u past)) (histories u next s)
   unfolding chip
-  entries-show = ap (map shows) (first-entries s u next first) ∙ ap (λ (l : List (ℕ × ℕ)). toShow (inShip u) ∷ l) (runs-show u a-part (length s - 1) true (u .cells) (drop next s) [] (λ e. refl))
+  entries-show =
+      ap (map shows) (first-entries s u next first)
+      ∙ ap (λ (l : List (ℕ × ℕ)). toShow (inShip u) ∷ l) (runs-show u a-part (length s - 1) true (u .cells) (drop next s) [] (λ e. refl))

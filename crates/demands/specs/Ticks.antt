@@ -1,5 +1,5 @@
--- DEMAND 3 of repeated ticks (requests M-100 and M-109): every tick of a record is a verdict, by the settings that stand, and after the record a current bit
--- is up exactly when it was up before or is due by these verdicts. Assumes nothing.
+-- DEMAND 3 of repeated ticks (requests M-100 and M-109): every tick of a record is a verdict, by the settings that stand, and after the
+-- record a current bit is up exactly when it was up before or is due by these verdicts. Assumes nothing.
 use mathlib.Core.Path.{_≡_, refl, sym, ap, ap₂, _∙_}
 use mathlib.Core.Bool.{Bool, true, false, _&&_, _||_}
 use mathlib.Core.List.{List, [], _∷_, _++_}
@@ -30,7 +30,8 @@ one-more : (d : ℕ) (b : Bool) (l : List Bool) → lastAll (suc d) (b ∷ l) �
 one-more d true l h = fewer d (true ∷ l) h
 one-more d false l h = h
 
-stays : (d n : ℕ) (b : Bool) (l : List Bool) → 1 ≤ d → lastAll d (replicate (suc n) b ++ l) ≡ true → lastAll d (replicate (suc (suc n)) b ++ l) ≡ true
+stays : (d n : ℕ) (b : Bool) (l : List Bool) → 1 ≤ d → lastAll d (replicate (suc n) b ++ l) ≡ true
+    → lastAll d (replicate (suc (suc n)) b ++ l) ≡ true
 stays zero n b l h q = absurd (omega arith)
 stays (suc d) n b l h q = one-more d b (replicate n b ++ l) q
 
@@ -39,7 +40,8 @@ absorbs true b c h = refl
 absorbs false true c h = sym (h refl)
 absorbs false false c h = refl
 
-module _ (u : Setup) (k : Fault) (v : ℤ) (past : List Event) (current : ofCells k ≡ false) (awake : Awake u past) (fit : senseFits v ≡ true) where
+module _ (u : Setup) (k : Fault) (v : ℤ) (past : List Event) (current : ofCells k ≡ false) (awake : Awake u past)
+    (fit : senseFits v ≡ true) where
   abbrev after : ℕ → List Event
   after n = replicate n (Sense v) ++ past
 
@@ -56,7 +58,8 @@ module _ (u : Setup) (k : Fault) (v : ℤ) (past : List Event) (current : ofCell
       by Scd h = refl
       by Ocd h = refl
 
-  said-of : (k : Fault) → ofCells k ≡ false → (c : Core) → opinion k (u .floor) (rule k (c .settings)) (Sense v) ≡ beyond (rule k (c .settings)) v ∷ []
+  said-of : (k : Fault) → ofCells k ≡ false → (c : Core)
+      → opinion k (u .floor) (rule k (c .settings)) (Sense v) ≡ beyond (rule k (c .settings)) v ∷ []
   said-of Ov h c = cc
   said-of Uv h c = cc
   said-of Scd h c = refl
@@ -65,7 +68,9 @@ module _ (u : Setup) (k : Fault) (v : ℤ) (past : List Event) (current : ofCell
   -- each is accepted, and moves no setting
   taken-at : (later : List Event) → core u later ≡ core u past → Accepted u later (Sense v)
   unfolding fits
-  taken-at later same = ap (λ (s : Stepped). s .number) (normal-is (Sense v) (chip u later) fit (awake-is u later ∙ ap (λ (c : Core). c .normal) same ∙ awake))
+  taken-at later same =
+      ap (λ (s : Stepped). s .number)
+      (normal-is (Sense v) (chip u later) fit (awake-is u later ∙ ap (λ (c : Core). c .normal) same ∙ awake))
 
   same-core : (n : ℕ) → core u (after n) ≡ core u past
   same-core zero = refl
@@ -79,7 +84,9 @@ module _ (u : Setup) (k : Fault) (v : ℤ) (past : List Event) (current : ofCell
   each-tick zero = refl
   each-tick (suc n) =
       verdicts-are u k (after n) (Sense v) judged (accepted n)
-      ∙ ap₂ _++_ (ap (λ (c : Core). opinion k (u .floor) (rule k (c .settings)) (Sense v)) (same-core n) ∙ said-of k current (core u past)) (each-tick n)
+      ∙ ap₂ _++_
+      (ap (λ (c : Core). opinion k (u .floor) (rule k (c .settings)) (Sense v)) (same-core n) ∙ said-of k current (core u past))
+      (each-tick n)
 
   -- AFTER THE RECORD: the bit is up exactly when it was up before, or the newest verdicts, every tick counted, are all true
   same-delay : (n : ℕ) → delay u k (after n) ≡ delay u k past
@@ -89,10 +96,13 @@ module _ (u : Setup) (k : Fault) (v : ℤ) (past : List Event) (current : ofCell
   due n = lastAll (delay u k past) (replicate n verdict ++ verdicts u k past)
 
   one-tick : (n : ℕ) → up u k (after (suc n)) ≡ up u k (after n) || due (suc n)
-  one-tick n = rises u k (after n) (Sense v) judged (accepted n) ∙ ap₂ (λ d l. up u k (after n) || lastAll d l) (same-delay (suc n)) (each-tick (suc n))
+  one-tick n =
+      rises u k (after n) (Sense v) judged (accepted n)
+      ∙ ap₂ (λ d l. up u k (after n) || lastAll d l) (same-delay (suc n)) (each-tick (suc n))
 
   pub record-rises : (n : ℕ) → up u k (after (suc n)) ≡ up u k past || due (suc n)
   record-rises zero = one-tick 0
   record-rises (suc n) =
       one-tick (suc n) ∙ ap (λ (t : Bool). t || due (suc (suc n))) (record-rises n)
-      ∙ absorbs (up u k past) (due (suc n)) (due (suc (suc n))) (stays (delay u k past) n verdict (verdicts u k past) (need-fair k (standing u past) .least))
+      ∙ absorbs (up u k past) (due (suc n)) (due (suc (suc n)))
+      (stays (delay u k past) n verdict (verdicts u k past) (need-fair k (standing u past) .least))

@@ -103,7 +103,8 @@ module _ (k : Fault) (l : List Bool) where
   next-told e c h =
       next-by (λ d. Tells d (heard k e c ++ l)) e c
       (λ f a. rw f (normal-told e c h a))
-      (λ f a. asleep-by (λ d. Tells d (heard k e c ++ l)) e c (none-told (c .setup) (heard k e c ++ l)) (λ w. rw (f, w) (h .0)) (sleeps c (heard k e c ++ l) h a))
+      (λ f a. asleep-by (λ d. Tells d (heard k e c ++ l)) e c (none-told (c .setup) (heard k e c ++ l)) (λ w. rw (f, w) (h .0))
+      (sleeps c (heard k e c ++ l) h a))
       (λ f. rw f (still-told c h))
 
 -- ── an accepted event that judges k says one thing of it, moves no setting, and raises ──
@@ -140,7 +141,8 @@ judged-asleep k (Load l) c j = refl
 judged-asleep k (OnBus b) c j = cc
 judged-asleep k (Level l) c j = refl
 
-pub accepted-judged : (k : Fault) (e : Event) (c : Chip) → judges k e ≡ true → stepped e c .number ≡ 0 → (fits e ≡ true) × (c .normal ≡ true)
+pub accepted-judged : (k : Fault) (e : Event) (c : Chip) → judges k e ≡ true → stepped e c .number ≡ 0
+    → (fits e ≡ true) × (c .normal ≡ true)
 unfolding stepped happened
 accepted-judged k e c j n = by (fits e) (c .normal) n
   where
@@ -167,7 +169,8 @@ judging k (Level l) c j = (cc, cc)
 -- so the bit of k is then up exactly if it was, or if the newest verdicts, as many as are needed, are all true
 pub rising : (k : Fault) (l : List Bool) (e : Event) (c : Chip) → Told k l c → fits e ≡ true → c .normal ≡ true → judges k e ≡ true
     → bitOf k (next e c .registers .shown .status)
-    ≡ bitOf k (c .registers .shown .status) || lastAll (rule k (c .registers .settings) .need) (opinion k (c .setup .floor) (rule k (c .registers .settings)) e ++ l)
+    ≡ bitOf k (c .registers .shown .status)
+    || lastAll (rule k (c .registers .settings) .need) (opinion k (c .setup .floor) (rule k (c .registers .settings)) e ++ l)
 rising k l e c h f a j =
     ap (λ s. bitOf k (s .chip .registers .shown .status)) (normal-is e c f a)
     ∙ level-bit k (normally e c .chip .registers .«outside_level») (normally e c .chip .registers .shown)

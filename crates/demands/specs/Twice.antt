@@ -1,4 +1,5 @@
--- M-106 in the request's words: clearing a and then b, b and then a, every bit in either at once, the same bits again, and none. Assumes nothing.
+-- M-106 in the request's words: clearing a and then b, b and then a, every bit in either at once, the same bits again, and none. Assumes
+-- nothing.
 use mathlib.Core.Path.{_≡_, refl, sym, ap, subst, _∙_}
 use mathlib.Core.Bool.{Bool, true, false, _||_}
 use mathlib.Core.List.{List}
@@ -35,7 +36,15 @@ or-same false = refl
 
 either-same : (a : Status) → either a a ≡ a
 either-same a =
-    λ i. record { «cc_ready» = or-same (a .«cc_ready») i; xready = or-same (a .xready) i; «ovrd_alert» = or-same (a .«ovrd_alert») i; uv = or-same (a .uv) i; ov = or-same (a .ov) i; scd = or-same (a .scd) i; ocd = or-same (a .ocd) i }
+    λ i. record {
+      «cc_ready» = or-same (a .«cc_ready») i;
+      xready = or-same (a .xready) i;
+      «ovrd_alert» = or-same (a .«ovrd_alert») i;
+      uv = or-same (a .uv) i;
+      ov = or-same (a .ov) i;
+      scd = or-same (a .scd) i;
+      ocd = or-same (a .ocd) i;
+    }
 
 module _ (c : Chip) (a b : Status) (es fs : List BusEvent) (first : Clears c a es) (second : Clears (ran c es) b fs) where
   two : Lowers (either a b) c (ran (ran c es) fs)
@@ -43,14 +52,17 @@ module _ (c : Chip) (a b : Status) (es fs : List BusEvent) (first : Clears c a e
 
   -- CLEARING a and then b leaves the same as clearing b and then a ..
   pub either-order : (gs hs : List BusEvent) → Clears c b gs → Clears (ran c gs) a hs → Alike (ran (ran c es) fs) (ran (ran c gs) hs)
-  either-order gs hs f s = alike c (ran (ran c es) fs) (ran (ran c gs) hs) (either-comm a b) two (both c (ran c gs) (ran (ran c gs) hs) b a (lowers f) (lowers s))
+  either-order gs hs f s =
+      alike c (ran (ran c es) fs) (ran (ran c gs) hs) (either-comm a b) two
+      (both c (ran c gs) (ran (ran c gs) hs) b a (lowers f) (lowers s))
 
   -- .. and as one clearing of every bit in either
   pub at-once : (gs : List BusEvent) → Clears c (either a b) gs → Alike (ran (ran c es) fs) (ran c gs)
   at-once gs f = alike c (ran (ran c es) fs) (ran c gs) {a = either a b} refl two (lowers f)
 
 -- the same bits again change none of the three
-pub same-again : (c : Chip) (a : Status) (es fs : List BusEvent) → Clears c a es → Clears (ran c es) a fs → Alike (ran (ran c es) fs) (ran c es)
+pub same-again : (c : Chip) (a : Status) (es fs : List BusEvent) → Clears c a es → Clears (ran c es) a fs
+    → Alike (ran (ran c es) fs) (ran c es)
 same-again c a es fs f s = alike c (ran (ran c es) fs) (ran c es) (either-same a) (two c a a es fs f s) (lowers f)
 
 -- .. nor does clearing none

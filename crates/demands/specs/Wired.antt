@@ -1,5 +1,5 @@
--- Request M-107: the number of cells moves nothing. A chip with another number of cells answers every event alike and is left alike but for that
--- number, so that every claim over events holds of a wired chip as it does of one without a wiring record. Assumes nothing.
+-- Request M-107: the number of cells moves nothing. A chip with another number of cells answers every event alike and is left alike but
+-- for that number, so that every claim over events holds of a wired chip as it does of one without a wiring record. Assumes nothing.
 use mathlib.Core.Path.{_≡_, refl, sym, ap, _∙_}
 use mathlib.Core.Bool.{Bool, true, false, cond}
 use mathlib.Core.List.{List, [], _∷_}
@@ -10,9 +10,12 @@ use Rattle.events.specs.declared.Counts.{Counts}
 use Rattle.events.specs.declared.BusEvent.{BusEvent}
 use Rattle.events.specs.declared.BusEvent.the-variants.{Start, Stop, Out, In}
 use Rattle.events.specs.declared.Event.{Event as Coded}
-use Rattle.events.specs.declared.Event.the-variants.{Setup as Setup-, Por as Por-, Boot as Boot-, Pin as Pin-, Xready as Xready-, Scan as Scan-, Temp as Temp-, Count as Count-, Sense as Sense-, Load as Load-, OnBus as OnBus-, Level as Level-, Ticks as Ticks-, Soak as Soak-, Wires as Wires-}
+use Rattle.events.specs.declared.Event.the-variants.{Setup as Setup-, Por as Por-, Boot as Boot-, Pin as Pin-, Xready as Xready-}
+use Rattle.events.specs.declared.Event.the-variants.{Scan as Scan-, Temp as Temp-, Count as Count-, Sense as Sense-, Load as Load-}
+use Rattle.events.specs.declared.Event.the-variants.{OnBus as OnBus-, Level as Level-, Ticks as Ticks-, Soak as Soak-, Wires as Wires-}
 use Rattle.events.specs.Setup.{groups, inputs, withCells}
-use Rattle.events.specs.Event.{Event, Por, Boot, Pin, Xready, Scan, Temp, Count, Sense, Load, OnBus, Level, fits, ticksFit, Meant, means, ticks, unfit, meantOf}
+use Rattle.events.specs.Event.{Event, Por, Boot, Pin, Xready, Scan, Temp, Count, Sense, Load, OnBus, Level, fits, ticksFit, Meant}
+use Rattle.events.specs.Event.{means, ticks, unfit, meantOf}
 use Rattle.bus.specs.declared.Phase.{Phase}
 use Rattle.bus.specs.declared.Phase.the-variants.{Idle, Address, Pointing, Writing, Checking, Reading, Summing}
 use Rattle.bus.specs.declared.Line.{Line}
@@ -26,7 +29,8 @@ use Rattle.registers.specs.Write.{cellbalWith}
 use Rattle.registers.specs.Read.{cellbalByte, controlByte, wordAt, fixedByte, readAt}
 use Rattle.chip.specs.declared.Chip.{Chip}
 use Rattle.chip.specs.declared.Stepped.{Stepped}
-use Rattle.chip.specs.Chip.{numbered, inShip, accepted, storedAt, stored, sent, handed, reads, onBus, settled, normally, asleep, happened, stepped, ticking, steppedAs}
+use Rattle.chip.specs.Chip.{numbered, inShip, accepted, storedAt, stored, sent, handed, reads, onBus, settled, normally, asleep}
+use Rattle.chip.specs.Chip.{happened, stepped, ticking, steppedAs}
 use Rattle.demands.specs.Demand.{chip}
 
 -- the chip, and an answer of it, with another number of cells
@@ -62,7 +66,9 @@ module _ (n : ℕ) where
   stored-cells l Nothing c = refl
   stored-cells l (At a v) c = by (ships a v (c .registers .settings))
     where
-      by : (b : Bool) → cond b (inShip (withCells n (c .setup))) (accepted l a v (celled n c)) ≡ celled n (cond b (inShip (c .setup)) (accepted l a v c))
+      by : (b : Bool)
+          → cond b (inShip (withCells n (c .setup))) (accepted l a v (celled n c))
+          ≡ celled n (cond b (inShip (c .setup)) (accepted l a v c))
       by true = refl
       by false = refl
 
@@ -76,9 +82,16 @@ module _ (n : ℕ) where
   bus-cells Stop c = refl
   bus-cells (Out b) c =
       ap (λ (o : Outed). sent o (celled n c)) (out-cells (c .setup) (c .bus .line .phase) (c .bus .line .pointer) b)
-      ∙ (λ i. record { chip = stored-cells (outed (c .setup) (c .bus .line) b .line) (outed (c .setup) (c .bus .line) b .store) c i; number = 0; flag = true; byte = outed (c .setup) (c .bus .line) b .byte })
+      ∙ (λ i. record {
+        chip = stored-cells (outed (c .setup) (c .bus .line) b .line) (outed (c .setup) (c .bus .line) b .store) c i;
+        number = 0;
+        flag = true;
+        byte = outed (c .setup) (c .bus .line) b .byte;
+      })
   bus-cells (In nack) c =
-      ap (λ (l : Line). handed (gives l (owing (reads c (c .bus .line .pointer)) (reads c (grown (c .bus .line .pointer))) (c .bus)) (byteGiven (reads c (c .bus .line .pointer)) (c .bus))) (celled n c))
+      ap (λ (l : Line). handed
+      (gives l (owing (reads c (c .bus .line .pointer)) (reads c (grown (c .bus .line .pointer))) (c .bus))
+      (byteGiven (reads c (c .bus .line .pointer)) (c .bus))) (celled n c))
       (in-cells (c .setup) (c .bus .line) (c .bus .line .phase) nack)
 
   -- ── each event ──
@@ -115,7 +128,8 @@ module _ (n : ℕ) where
   unfolding happened
   happened-cells e c = by (c .normal)
     where
-      by : (a : Bool) → cond a (settled (normally e (celled n c))) (asleep e (celled n c)) ≡ celledIn n (cond a (settled (normally e c)) (asleep e c))
+      by : (a : Bool)
+          → cond a (settled (normally e (celled n c))) (asleep e (celled n c)) ≡ celledIn n (cond a (settled (normally e c)) (asleep e c))
       by true = ap settled (normal-cells e c)
       by false = asleep-cells e c
 
@@ -129,14 +143,17 @@ module _ (n : ℕ) where
 
   ticking-cells : (m : ℕ) (v : ℤ) (c : Chip) → ticking m v (celled n c) ≡ celled n (ticking m v c)
   ticking-cells zero v c = refl
-  ticking-cells (suc m) v c = ap (λ (d : Chip). happened (Sense v) d .chip) (ticking-cells m v c) ∙ ap (λ (s : Stepped). s .chip) (happened-cells (Sense v) (ticking m v c))
+  ticking-cells (suc m) v c =
+      ap (λ (d : Chip). happened (Sense v) d .chip) (ticking-cells m v c)
+      ∙ ap (λ (s : Stepped). s .chip) (happened-cells (Sense v) (ticking m v c))
 
   -- whatever the code's event means
   pub as-cells : (m : Meant) (c : Chip) → steppedAs m (celled n c) ≡ celledIn n (steppedAs m c)
   as-cells (means e) c = stepped-cells e c
   as-cells (ticks most v m) c = by (ticksFit most v m) (c .normal)
     where
-      by : (f a : Bool) → cond f (cond a (numbered 0 (ticking m v (celled n c))) (numbered 4 (celled n c))) (numbered 3 (celled n c)) ≡ celledIn n (cond f (cond a (numbered 0 (ticking m v c)) (numbered 4 c)) (numbered 3 c))
+      by : (f a : Bool) → cond f (cond a (numbered 0 (ticking m v (celled n c))) (numbered 4 (celled n c))) (numbered 3 (celled n c))
+          ≡ celledIn n (cond f (cond a (numbered 0 (ticking m v c)) (numbered 4 c)) (numbered 3 c))
       by true true = ap (numbered 0) (ticking-cells m v c)
       by true false = refl
       by false a = refl
@@ -146,7 +163,8 @@ module _ (n : ℕ) where
   pub same-but-cells : (u : Setup) (past : List Event) → chip (withCells n u) past ≡ celled n (chip u past)
   unfolding chip
   same-but-cells u [] = refl
-  same-but-cells u (e ∷ past) = ap (λ (c : Chip). stepped e c .chip) (same-but-cells u past) ∙ ap (λ (s : Stepped). s .chip) (stepped-cells e (chip u past))
+  same-but-cells u (e ∷ past) =
+      ap (λ (c : Chip). stepped e c .chip) (same-but-cells u past) ∙ ap (λ (s : Stepped). s .chip) (stepped-cells e (chip u past))
 
   -- ── and the code's events mean the same ──
   pub meant-cells : (u : Setup) (e : Coded) (k : Counts) → meantOf (withCells n u) e k ≡ meantOf u e k

@@ -12,7 +12,10 @@ use Rattle.events.specs.declared.Setup.{Setup}
 use Rattle.events.specs.declared.Counts.{Counts}
 use Rattle.events.specs.declared.BusEvent.{BusEvent}
 use Rattle.events.specs.declared.Event.{Event as Coded}
-use Rattle.events.specs.declared.Event.the-variants.{Setup as Setup-, Por as Por-, Boot as Boot-, Pin as Pin-, Xready as Xready-, Scan as Scan-, Temp as Temp-, Count as Count-, Sense as Sense-, Load as Load-, OnBus as OnBus-, Level as Level-, Ticks as Ticks-, Soak as Soak-, Wires as Wires-}
+use Rattle.events.specs.declared.Event.the-variants.{Setup as Setup-, Por as Por-, Boot as Boot-, Pin as Pin-, Xready as Xready-}
+use Rattle.events.specs.declared.Event.the-variants.{Scan as Scan-, Temp as Temp-, Count as Count-, Sense as Sense-}
+use Rattle.events.specs.declared.Event.the-variants.{Load as Load-, OnBus as OnBus-, Level as Level-, Ticks as Ticks-}
+use Rattle.events.specs.declared.Event.the-variants.{Soak as Soak-, Wires as Wires-}
 
 -- an event of a chip that stands: SCAN has a count for each input, TEMP one for each five
 pub data Event : Type 0 where
@@ -88,7 +91,8 @@ countsWanted u (Wires- n) = 0
 unfoldable pub countsFit : ℕ → Counts → Bool
 countsFit n k = eqb (k .many) n && within 0 (drop n (k .of))
 
--- what the code's event means to a chip that stands: an event, ticks of one value with the most that their kind allows, or the number 2, which SETUP and a wiring record have there
+-- what the code's event means to a chip that stands: an event, ticks of one value with the most that their kind allows, or the number 2,
+-- which SETUP and a wiring record have there
 pub data Meant : Type 0 where
   means : Event → Meant
   ticks : ℕ → ℤ → ℕ → Meant

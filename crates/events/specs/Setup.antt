@@ -33,4 +33,13 @@ inputs u = cond (ltb (u .part) 3) (5 * u .part) 15
 
 -- request M-107: the setup with the number of cells of a wiring record; 0 says that there is none
 abbrev pub withCells : ℕ → Setup → Setup
-withCells n u = record { part = u .part; crc = u .crc; address = u .address; «gain_code» = u .«gain_code»; offset = u .offset; floor = u .floor; cells = n }
+withCells n u =
+    record {
+      part = u .part;
+      crc = u .crc;
+      address = u .address;
+      «gain_code» = u .«gain_code»;
+      offset = u .offset;
+      floor = u .floor;
+      cells = n;
+    }

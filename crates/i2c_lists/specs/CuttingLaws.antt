@@ -58,8 +58,11 @@ module _ (l : List ℕ) (at : ℕ) (h : at ≤ length l) where
   words-first =
       let n : ℕ = wordLength (drop at l) in
       let t : leb at (length l) ≡ true = le-leb at (length l) h in
-      let e : wordsIn (drop at l) ≡ wordOf (take n (drop at l)) ∷ map wordOf (after (drop at l) n) = ap (map wordOf) (cut-first (drop at l)) in
-      simp t (e ∙ ap (λ (xs : List Word). wordOf (take n (drop at l)) ∷ xs) (map-cond (ltb n (length (drop at l))) (cut (drop (suc n) (drop at l))) ∙ rest-by n (ltb n (length (drop at l))) refl))
+      let e : wordsIn (drop at l) ≡ wordOf (take n (drop at l)) ∷ map wordOf (after (drop at l) n) =
+      ap (map wordOf) (cut-first (drop at l)) in
+      simp t (e
+      ∙ ap (λ (xs : List Word). wordOf (take n (drop at l)) ∷ xs)
+      (map-cond (ltb n (length (drop at l))) (cut (drop (suc n) (drop at l))) ∙ rest-by n (ltb n (length (drop at l))) refl))
 
 pub words-all : (l : List ℕ) → wordsAt l 0 ≡ wordsIn l
 unfolding wordsAt
@@ -84,7 +87,8 @@ pub cut-more : (w l : List ℕ) → spaceless w ≡ true → cut (w ++ (charSpac
 cut-more [] l h = refl
 cut-more (c ∷ w) l h = clear-by c w l (eqb c charSpace) h (cut-more w l)
 
-last-by : (c : ℕ) (w : List ℕ) (t : Bool) → not t && spaceless w ≡ true → (spaceless w ≡ true → cut w ≡ w ∷ []) → cond t ([] ∷ cut w) (before c (cut w)) ≡ (c ∷ w) ∷ []
+last-by : (c : ℕ) (w : List ℕ) (t : Bool) → not t && spaceless w ≡ true → (spaceless w ≡ true → cut w ≡ w ∷ [])
+    → cond t ([] ∷ cut w) (before c (cut w)) ≡ (c ∷ w) ∷ []
 last-by c w true h ih = absurd (let z : _≡_ {A = ℕ} 0 1 = cc in omega arith)
 last-by c w false h ih = ap (before c) (ih h)
 
@@ -101,7 +105,8 @@ joined-front : (c : ℕ) (w : List ℕ) (ws : List (List ℕ)) → joined (c ∷
 joined-front c w [] = refl
 joined-front c w (v ∷ ws) = refl
 
-join-by : (c : ℕ) (l w : List ℕ) (ws : List (List ℕ)) (t : Bool) → eqb c charSpace ≡ t → joined w ws ≡ l → joinedAll (cond t ([] ∷ w ∷ ws) (before c (w ∷ ws))) ≡ c ∷ l
+join-by : (c : ℕ) (l w : List ℕ) (ws : List (List ℕ)) (t : Bool) → eqb c charSpace ≡ t → joined w ws ≡ l
+    → joinedAll (cond t ([] ∷ w ∷ ws) (before c (w ∷ ws))) ≡ c ∷ l
 join-by c l w ws true e h = ap₂ (λ (x : ℕ) (r : List ℕ). x ∷ r) (sym (eqb-true c charSpace e)) h
 join-by c l w ws false e h = joined-front c w ws ∙ ap (λ (r : List ℕ). c ∷ r) h
 

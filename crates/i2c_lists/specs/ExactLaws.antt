@@ -18,7 +18,8 @@ use Rattle.i2c_lists.specs.CuttingLaws.{after, cut-first, joined, joined
 -- ── words: a line of the grammar is read as its words ──
 pub line-read : {l : List ℕ} {xs : List Word} → Line l xs → wordsIn l ≡ xs
 line-read (last w x s) = ap (map wordOf) (cut-last w (word-clear s)) ∙ ap (λ (y : Word). y ∷ []) (word-read s)
-line-read (more w l x xs s r) = ap (map wordOf) (cut-more w l (word-clear s)) ∙ ap₂ (λ (y : Word) (ys : List Word). y ∷ ys) (word-read s) (line-read r)
+line-read (more w l x xs s r) =
+    ap (map wordOf) (cut-more w l (word-clear s)) ∙ ap₂ (λ (y : Word) (ys : List Word). y ∷ ys) (word-read s) (line-read r)
 
 -- and words that are all known make a line of the grammar
 abbrev Known : List Word → Type 0
@@ -67,7 +68,8 @@ heard-whole zero (Write n a ∷ xs) h =
     (refl, ap₂ (λ (k : ℕ) (ys : List Word). Write k a ∷ ys) (i .0) (i .1))
 heard-whole zero (Read n a ∷ xs) h =
     let i : (length (heard xs .bytes) ≡ 0) × (again (heard xs) ≡ xs) = heard-whole zero xs h in
-    let e : again (heard xs) ≡ wordsOf (heard xs .messages) = ap (λ (bs : List ℕ). map byteWord bs ++ wordsOf (heard xs .messages)) (no-bytes (heard xs .bytes) (i .0)) in
+    let e : again (heard xs) ≡ wordsOf (heard xs .messages) =
+    ap (λ (bs : List ℕ). map byteWord bs ++ wordsOf (heard xs .messages)) (no-bytes (heard xs .bytes) (i .0)) in
     (refl, ap (λ (ys : List Word). Read n a ∷ ys) (sym e ∙ i .1))
 heard-whole zero (Byte b ∷ xs) h = absurd (let z : _≡_ {A = ℕ} 0 1 = cc in omega arith)
 heard-whole zero (Unknown ∷ xs) h = absurd (let z : _≡_ {A = ℕ} 0 1 = cc in omega arith)
@@ -82,7 +84,8 @@ heard-whole (suc n) (Unknown ∷ xs) h = absurd (let z : _≡_ {A = ℕ} 0 1 = c
 pub words-again : (xs : List Word) → whole 0 xs ≡ true → wordsOf (heard xs .messages) ≡ xs
 words-again xs h =
     let i : (length (heard xs .bytes) ≡ 0) × (again (heard xs) ≡ xs) = heard-whole 0 xs h in
-    let e : again (heard xs) ≡ wordsOf (heard xs .messages) = ap (λ (bs : List ℕ). map byteWord bs ++ wordsOf (heard xs .messages)) (no-bytes (heard xs .bytes) (i .0)) in
+    let e : again (heard xs) ≡ wordsOf (heard xs .messages) =
+    ap (λ (bs : List ℕ). map byteWord bs ++ wordsOf (heard xs .messages)) (no-bytes (heard xs .bytes) (i .0)) in
     sym e ∙ i .1
 
 -- the words of messages are whole, and the messages are heard in them
@@ -90,7 +93,8 @@ bytes-whole : (bs : List ℕ) (xs : List Word) → whole (length bs) (map byteWo
 bytes-whole [] xs = refl
 bytes-whole (b ∷ bs) xs = bytes-whole bs xs
 
-bytes-heard : (bs : List ℕ) (xs : List Word) → (heard (map byteWord bs ++ xs) .bytes ≡ bs ++ heard xs .bytes) × (heard (map byteWord bs ++ xs) .messages ≡ heard xs .messages)
+bytes-heard : (bs : List ℕ) (xs : List Word)
+    → (heard (map byteWord bs ++ xs) .bytes ≡ bs ++ heard xs .bytes) × (heard (map byteWord bs ++ xs) .messages ≡ heard xs .messages)
 bytes-heard [] xs = (refl, refl)
 bytes-heard (b ∷ bs) xs = (ap (λ (l : List ℕ). b ∷ l) (bytes-heard bs xs .0), bytes-heard bs xs .1)
 
@@ -107,7 +111,8 @@ messages-bytes (takes a n ∷ ms) = refl
 pub messages-heard : (ms : List Message) → heard (wordsOf ms) .messages ≡ ms
 messages-heard [] = refl
 messages-heard (sends a bs ∷ ms) =
-    let h : heard (map byteWord bs ++ wordsOf ms) .bytes ≡ bs = bytes-heard bs (wordsOf ms) .0 ∙ ap (λ (l : List ℕ). bs ++ l) (messages-bytes ms) ∙ append-nil bs in
+    let h : heard (map byteWord bs ++ wordsOf ms) .bytes ≡ bs =
+    bytes-heard bs (wordsOf ms) .0 ∙ ap (λ (l : List ℕ). bs ++ l) (messages-bytes ms) ∙ append-nil bs in
     ap₂ (λ (l : List ℕ) (ns : List Message). sends a l ∷ ns) h (bytes-heard bs (wordsOf ms) .1 ∙ messages-heard ms)
 messages-heard (takes a n ∷ ms) = ap (λ (ns : List Message). takes a n ∷ ns) (messages-heard ms)
 
@@ -124,9 +129,11 @@ line-cut l e =
     let q : cut l ≡ w ∷ ws = cut-first l in
     let k : Known (map wordOf (w ∷ ws)) = subst (λ (vs : List (List ℕ)). Known (map wordOf vs)) q (whole-known 0 (wordsIn l) e) in
     let j : joined w ws ≡ l = ap joinedAll (sym q) ∙ cut-joined l in
-    subst (λ (m : List ℕ). Line m (wordsIn l)) j (subst (λ (xs : List Word). Line (joined w ws) xs) (ap (map wordOf) (sym q)) (line-joined w ws k))
+    subst (λ (m : List ℕ). Line m (wordsIn l)) j
+    (subst (λ (xs : List Word). Line (joined w ws) xs) (ap (map wordOf) (sym q)) (line-joined w ws k))
 
-read-by : (l : List ℕ) (ms : List Message) (t : Bool) → whole 0 (wordsIn l) ≡ t → cond t (lists (heard (wordsIn l) .messages)) none ≡ lists ms → Says l ms
+read-by : (l : List ℕ) (ms : List Message) (t : Bool) → whole 0 (wordsIn l) ≡ t
+    → cond t (lists (heard (wordsIn l) .messages)) none ≡ lists ms → Says l ms
 read-by l ms true e h =
     let m : heard (wordsIn l) .messages ≡ ms = cc in
     subst (λ (xs : List Word). Line l xs) (sym (words-again (wordsIn l) e) ∙ ap wordsOf m) (line-cut l e)

@@ -81,7 +81,8 @@ pub refused-all : map listIn refused ≡ replicate 17 none
 unfolding listIn wordBy valueOf digitsOf pairOf hexOf digitOf oneOf joinedOf messageFor messageOf
 refused-all = refl
 
--- both sides of each address, and of the room: `w1@0x07 0x00` in 1000 bytes, `w1@0x08 0x00` in 1000 bytes, `r1@0x77` in 1000 bytes, `r1@0x78` in 1000 bytes, `r1@0x08 r1@0xFF` in 0 bytes, `w1@0x08 0x00` in 18 bytes, `w1@0x08 0x00` in 17 bytes
+-- both sides of each address, and of the room: `w1@0x07 0x00` in 1000 bytes, `w1@0x08 0x00` in 1000 bytes, `r1@0x77` in 1000 bytes,
+-- `r1@0x78` in 1000 bytes, `r1@0x08 r1@0xFF` in 0 bytes, `w1@0x08 0x00` in 18 bytes, `w1@0x08 0x00` in 17 bytes
 pub numbers :
     (numberFor (listIn (119 ∷ 49 ∷ 64 ∷ 48 ∷ 120 ∷ 48 ∷ 55 ∷ 32 ∷ 48 ∷ 120 ∷ 48 ∷ 48 ∷ [])) 1000 ≡ 21)
     × (numberFor (listIn (119 ∷ 49 ∷ 64 ∷ 48 ∷ 120 ∷ 48 ∷ 56 ∷ 32 ∷ 48 ∷ 120 ∷ 48 ∷ 48 ∷ [])) 1000 ≡ 0)

@@ -21,7 +21,8 @@ sizeOf Unknown = 0
 
 -- a message is begun where no byte is owed; a byte follows where one is
 abbrev pub begun : ℕ → ℕ → ℕ → Judged → Judged
-begun owed address size j = record { owed = owed; wrong = j .wrong || not (eqb (j .owed) 0); far = j .far || not (near address); left = j .left - size }
+begun owed address size j =
+    record { owed = owed; wrong = j .wrong || not (eqb (j .owed) 0); far = j .far || not (near address); left = j .left - size }
 
 unfoldable pub followed : Judged → Judged
 followed j =

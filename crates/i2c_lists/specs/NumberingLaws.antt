@@ -48,7 +48,8 @@ whole-unknown : (o : ℕ) (xs : List Word) → whole o (Unknown ∷ xs) ≡ fals
 whole-unknown zero xs = refl
 whole-unknown (suc o) xs = refl
 
-follow-whole : (j : Judged) (b : ℕ) (xs : List Word) (t : Bool) → eqb (j .owed) 0 ≡ t → (followed j .wrong || not (whole (followed j .owed) xs)) ≡ (j .wrong || not (whole (j .owed) (Byte b ∷ xs)))
+follow-whole : (j : Judged) (b : ℕ) (xs : List Word) (t : Bool) → eqb (j .owed) 0 ≡ t
+    → (followed j .wrong || not (whole (followed j .owed) xs)) ≡ (j .wrong || not (whole (j .owed) (Byte b ∷ xs)))
 unfolding followed
 follow-whole j b xs true e =
     let z : whole (j .owed) (Byte b ∷ xs) ≡ false = ap (λ (o : ℕ). whole o (Byte b ∷ xs)) (eqb-true (j .owed) 0 e) in
@@ -62,10 +63,15 @@ follow-whole j b xs false e =
 wrong-all : (xs : List Word) (j : Judged) → bad (judgedAll xs j) ≡ (j .wrong || not (whole (j .owed) xs))
 unfolding bad
 wrong-all [] j = ap (λ (t : Bool). j .wrong || not t) (sym (whole-none (j .owed)))
-wrong-all (Write n a ∷ xs) j = wrong-all xs (judgedBy (Write n a) j) ∙ or-and (j .wrong) (eqb (j .owed) 0) (whole n xs) ∙ ap (λ (t : Bool). j .wrong || not t) (sym (whole-write (j .owed) n a xs))
-wrong-all (Read n a ∷ xs) j = wrong-all xs (judgedBy (Read n a) j) ∙ or-and (j .wrong) (eqb (j .owed) 0) (whole 0 xs) ∙ ap (λ (t : Bool). j .wrong || not t) (sym (whole-read (j .owed) n a xs))
+wrong-all (Write n a ∷ xs) j =
+    wrong-all xs (judgedBy (Write n a) j) ∙ or-and (j .wrong) (eqb (j .owed) 0) (whole n xs)
+    ∙ ap (λ (t : Bool). j .wrong || not t) (sym (whole-write (j .owed) n a xs))
+wrong-all (Read n a ∷ xs) j =
+    wrong-all xs (judgedBy (Read n a) j) ∙ or-and (j .wrong) (eqb (j .owed) 0) (whole 0 xs)
+    ∙ ap (λ (t : Bool). j .wrong || not t) (sym (whole-read (j .owed) n a xs))
 wrong-all (Byte b ∷ xs) j = wrong-all xs (followed j) ∙ follow-whole j b xs (eqb (j .owed) 0) refl
-wrong-all (Unknown ∷ xs) j = wrong-all xs (judgedBy Unknown j) ∙ sym (ap (λ (t : Bool). j .wrong || not t) (whole-unknown (j .owed) xs) ∙ or-true (j .wrong))
+wrong-all (Unknown ∷ xs) j =
+    wrong-all xs (judgedBy Unknown j) ∙ sym (ap (λ (t : Bool). j .wrong || not t) (whole-unknown (j .owed) xs) ∙ or-true (j .wrong))
 
 follow-far : (j : Judged) (t : Bool) → eqb (j .owed) 0 ≡ t → (followed j .far ≡ j .far) × (followed j .left ≡ j .left - 5)
 unfolding followed
@@ -110,12 +116,14 @@ pick-by true false = refl
 pick-by false t = refl
 
 listed-by : (xs : List Word) (room : ℕ) (t : Bool) → whole 0 xs ≡ t
-    → cond (not t) 20 (cond (not (nearWords xs)) 21 (cond (leb (room + 1 - sizeAll xs) 4) 5 0)) ≡ numberFor (cond t (lists (heard xs .messages)) none) room
+    → cond (not t) 20 (cond (not (nearWords xs)) 21 (cond (leb (room + 1 - sizeAll xs) 4) 5 0))
+    ≡ numberFor (cond t (lists (heard xs .messages)) none) room
 listed-by xs room false e = refl
 listed-by xs room true e =
     let w : wordsOf (heard xs .messages) ≡ xs = words-again xs e in
     let n : allNear (heard xs .messages) ≡ nearWords xs = near-words (heard xs .messages) ∙ ap nearWords w in
-    let l : length (recordsOf (eventsOf (heard xs .messages))) ≡ sizeAll xs + 4 = list-size (heard xs .messages) ∙ ap (λ (ys : List Word). sizeAll ys + 4) w in
+    let l : length (recordsOf (eventsOf (heard xs .messages))) ≡ sizeAll xs + 4 =
+    list-size (heard xs .messages) ∙ ap (λ (ys : List Word). sizeAll ys + 4) w in
     let f : leb (room + 1 - sizeAll xs) 4 ≡ not (leb (sizeAll xs + 4) room) = fits-by (sizeAll xs) room (leb (sizeAll xs + 4) room) refl in
     ap (λ (t : Bool). cond (not (nearWords xs)) 21 (cond t 5 0)) f
     ∙ pick-by (nearWords xs) (leb (sizeAll xs + 4) room)
@@ -145,12 +153,14 @@ pub record Accepted (line : List ℕ) (room : ℕ) : Type 0 where
   pub fits : length (bytesOf (listIn line)) ≤ room
 
 accepted-by : (xs : List Word) (room : ℕ) (t : Bool) → whole 0 xs ≡ t → numberFor (cond t (lists (heard xs .messages)) none) room ≡ 0
-    → (nearWords xs ≡ true) × (bytesOf (cond t (lists (heard xs .messages)) none) ≡ recordsOf (onWords xs ++ (Stop ∷ []))) × (length (bytesOf (cond t (lists (heard xs .messages)) none)) ≤ room)
+    → (nearWords xs ≡ true) × (bytesOf (cond t (lists (heard xs .messages)) none) ≡ recordsOf (onWords xs ++ (Stop ∷ [])))
+    × (length (bytesOf (cond t (lists (heard xs .messages)) none)) ≤ room)
 accepted-by xs room false e h = absurd (omega (arith, h))
 accepted-by xs room true e h =
     let ms : List Message = heard xs .messages in
     let w : wordsOf ms ≡ xs = words-again xs e in
-    let a : (allNear ms ≡ true) × (leb (length (recordsOf (eventsOf ms))) room ≡ true) = accept-by (allNear ms) (leb (length (recordsOf (eventsOf ms))) room) h in (
+    let a : (allNear ms ≡ true) × (leb (length (recordsOf (eventsOf ms))) room ≡ true) =
+    accept-by (allNear ms) (leb (length (recordsOf (eventsOf ms))) room) h in (
       ap nearWords (sym w) ∙ sym (near-words ms) ∙ a .0,
       ap recordsOf (events-words ms ∙ ap (λ (ys : List Word). onWords ys ++ (Stop ∷ [])) w),
       leb-true (length (recordsOf (eventsOf ms))) room (a .1),
@@ -159,16 +169,19 @@ accepted-by xs room true e h =
 pub accepted : (line : List ℕ) (room : ℕ) → numberFor (listIn line) room ≡ 0 → Accepted line room
 unfolding listIn
 accepted line room h =
-    let a : (nearWords (wordsIn line) ≡ true) × (bytesOf (listed (wordsIn line)) ≡ recordsOf (onWords (wordsIn line) ++ (Stop ∷ []))) × (length (bytesOf (listed (wordsIn line))) ≤ room) =
+    let a : (nearWords (wordsIn line) ≡ true) × (bytesOf (listed (wordsIn line)) ≡ recordsOf (onWords (wordsIn line) ++ (Stop ∷ [])))
+    × (length (bytesOf (listed (wordsIn line))) ≤ room) =
     accepted-by (wordsIn line) room (whole 0 (wordsIn line)) refl h in
     record { near = a .0; bytes = a .1; fits = a .2 }
 
 -- no other number is given
-pick-none : (n t : Bool) → (_≡_ {A = ℕ} (cond n (cond t 0 5) 21) 21 → ⊥) → (_≡_ {A = ℕ} (cond n (cond t 0 5) 21) 5 → ⊥) → _≡_ {A = ℕ} (cond n (cond t 0 5) 21) 0
+pick-none : (n t : Bool) → (_≡_ {A = ℕ} (cond n (cond t 0 5) 21) 21 → ⊥) → (_≡_ {A = ℕ} (cond n (cond t 0 5) 21) 5 → ⊥)
+    → _≡_ {A = ℕ} (cond n (cond t 0 5) 21) 0
 pick-none true true p q = refl
 pick-none true false p q = absurd (q refl)
 pick-none false t p q = absurd (p refl)
 
-pub no-other : (x : Listing) (room : ℕ) → (numberFor x room ≡ 20 → ⊥) → (numberFor x room ≡ 21 → ⊥) → (numberFor x room ≡ 5 → ⊥) → numberFor x room ≡ 0
+pub no-other : (x : Listing) (room : ℕ) → (numberFor x room ≡ 20 → ⊥) → (numberFor x room ≡ 21 → ⊥) → (numberFor x room ≡ 5 → ⊥)
+    → numberFor x room ≡ 0
 no-other none room a b c = absurd (a refl)
 no-other (lists ms) room a b c = pick-none (allNear ms) (leb (length (recordsOf (eventsOf ms))) room) b c

@@ -71,7 +71,8 @@ near-words (takes a n ∷ ms) = ap (λ (t : Bool). near a && t) (near-words ms)
 pub records-append : (es fs : List BusEvent) → recordsOf (es ++ fs) ≡ recordsOf es ++ recordsOf fs
 records-append [] fs = refl
 records-append (e ∷ es) fs =
-    ap (λ (l : List ℕ). recordFor (OnBus e) noCounts ++ l) (records-append es fs) ∙ sym (append-assoc (recordFor (OnBus e) noCounts) (recordsOf es) (recordsOf fs))
+    ap (λ (l : List ℕ). recordFor (OnBus e) noCounts ++ l) (records-append es fs)
+    ∙ sym (append-assoc (recordFor (OnBus e) noCounts) (recordsOf es) (recordsOf fs))
 
 pub start-size : length (recordFor (OnBus Start) noCounts) ≡ 4
 unfolding recordFor
@@ -89,7 +90,8 @@ pub in-size : (t : Bool) → length (recordFor (OnBus (In t)) noCounts) ≡ 5
 unfolding recordFor
 in-size t = refl
 
-pub record-more : (e : BusEvent) (es : List BusEvent) → length (recordsOf (e ∷ es)) ≡ length (recordFor (OnBus e) noCounts) + length (recordsOf es)
+pub record-more : (e : BusEvent) (es : List BusEvent)
+    → length (recordsOf (e ∷ es)) ≡ length (recordFor (OnBus e) noCounts) + length (recordsOf es)
 record-more e es = length-append (recordFor (OnBus e) noCounts) (recordsOf es)
 
 taken-size : (n : ℕ) → length (recordsOf (taken n)) ≡ 5 * n
@@ -97,8 +99,17 @@ taken-size zero = refl
 taken-size (suc n) = omega (arith, record-more (In (eqb n 0)) (taken n), in-size (eqb n 0), taken-size n)
 
 pub word-size : (x : Word) → length (recordsOf (onWord x)) ≡ sizeOf x
-word-size (Write n a) = omega (arith, record-more Start (Out (toWrite a) ∷ []), start-size, record-more (Out (toWrite a)) [], out-size (toWrite a))
-word-size (Read n a) = omega (arith, record-more Start (Out (toRead a) ∷ taken n), start-size, record-more (Out (toRead a)) (taken n), out-size (toRead a), taken-size n)
+word-size (Write n a) =
+    omega (arith, record-more Start (Out (toWrite a) ∷ []), start-size, record-more (Out (toWrite a)) [], out-size (toWrite a))
+word-size (Read n a) =
+    omega (
+      arith,
+      record-more Start (Out (toRead a) ∷ taken n),
+      start-size,
+      record-more (Out (toRead a)) (taken n),
+      out-size (toRead a),
+      taken-size n,
+    )
 word-size (Byte b) = omega (arith, record-more (Out b) [], out-size b)
 word-size Unknown = refl
 

@@ -22,8 +22,15 @@ one-read (digit v h) l = simp (le-ltb (char0 + v) 49 (omega arith), le-leb (char
 pub hex-read : {c v : ℕ} → HexDigit c v → (hexOf c ≡ v) × (v < 16)
 unfolding hexOf
 hex-read (figure v h) = (simp (le-ltb (char0 + v) 48 (omega arith), le-leb (char0 + v) 57 (omega arith)) (omega arith), omega arith)
-hex-read (capital v h) =
-    (simp (le-ltb (charA + v) 48 (omega arith), lt-leb (charA + v) 57 (omega arith), le-ltb (charA + v) 65 (omega arith), le-leb (charA + v) 70 (omega arith)) (omega arith), omega arith)
+hex-read (capital v h) = (
+  simp (
+    le-ltb (charA + v) 48 (omega arith),
+    lt-leb (charA + v) 57 (omega arith),
+    le-ltb (charA + v) 65 (omega arith),
+    le-leb (charA + v) 70 (omega arith),
+  ) (omega arith),
+  omega arith,
+)
 hex-read (small v h) = (
   simp (
     le-ltb (chara + v) 48 (omega arith),
@@ -43,14 +50,17 @@ value-read (short c v h) =
     (simp (lt-leb 16 (hexOf c) (omega (arith, r .0, r .1))) (r .0), omega (arith, r .1))
 value-read (long c v d w h k) =
     let r : (hexOf c ≡ v) × (v < 16) = hex-read h in
-    let s : (hexOf d ≡ w) × (w < 16) = hex-read k in
-    (simp (lt-leb 16 (hexOf c) (omega (arith, r .0, r .1)), lt-leb 16 (hexOf d) (omega (arith, s .0, s .1))) (omega (arith, r .0, s .0)), omega (arith, r .1, s .1))
+    let s : (hexOf d ≡ w) × (w < 16) = hex-read k in (
+      simp (lt-leb 16 (hexOf c) (omega (arith, r .0, r .1)), lt-leb 16 (hexOf d) (omega (arith, s .0, s .1))) (omega (arith, r .0, s .0)),
+      omega (arith, r .1, s .1),
+    )
 
 -- ── what is read is spelt ──
 digit-as : (c v : ℕ) → char0 + v ≡ c → v < 10 → Digit c v
 digit-as c v e h = subst (λ (k : ℕ). Digit k v) e (digit v h)
 
-digit-by : (c : ℕ) (t u : Bool) → ltb c 48 ≡ t → leb c 57 ≡ u → cond t 10 (cond u (c - 48) 10) < 10 → Digit c (cond t 10 (cond u (c - 48) 10))
+digit-by : (c : ℕ) (t u : Bool) → ltb c 48 ≡ t → leb c 57 ≡ u → cond t 10 (cond u (c - 48) 10) < 10
+    → Digit c (cond t 10 (cond u (c - 48) 10))
 digit-by c true u et eu h = absurd (omega (arith, h))
 digit-by c false true et eu h = digit-as c (c - 48) (omega (arith, ltb-false c 48 et)) h
 digit-by c false false et eu h = absurd (omega (arith, h))
@@ -79,19 +89,22 @@ hex-by c false false true w x y et eu ev ew ex ey h = absurd (omega (arith, h))
 hex-by c false false false true x y et eu ev ew ex ey h =
     let e : charA + (c - 65) ≡ c = omega (arith, ltb-false c 65 ev) in
     let f : 10 + (c - 65) ≡ c - 55 = omega (arith, ltb-false c 65 ev) in
-    subst (λ (k : ℕ). HexDigit k (c - 55)) e (subst (λ (k : ℕ). HexDigit (charA + (c - 65)) k) f (capital (c - 65) (omega (arith, leb-true c 70 ew))))
+    subst (λ (k : ℕ). HexDigit k (c - 55)) e
+    (subst (λ (k : ℕ). HexDigit (charA + (c - 65)) k) f (capital (c - 65) (omega (arith, leb-true c 70 ew))))
 hex-by c false false false false true y et eu ev ew ex ey h = absurd (omega (arith, h))
 hex-by c false false false false false true et eu ev ew ex ey h =
     let e : chara + (c - 97) ≡ c = omega (arith, ltb-false c 97 ex) in
     let f : 10 + (c - 97) ≡ c - 87 = omega (arith, ltb-false c 97 ex) in
-    subst (λ (k : ℕ). HexDigit k (c - 87)) e (subst (λ (k : ℕ). HexDigit (chara + (c - 97)) k) f (small (c - 97) (omega (arith, leb-true c 102 ey))))
+    subst (λ (k : ℕ). HexDigit k (c - 87)) e
+    (subst (λ (k : ℕ). HexDigit (chara + (c - 97)) k) f (small (c - 97) (omega (arith, leb-true c 102 ey))))
 hex-by c false false false false false false et eu ev ew ex ey h = absurd (omega (arith, h))
 
 pub hex-spelt : (c : ℕ) → hexOf c < 16 → HexDigit c (hexOf c)
 unfolding hexOf
 hex-spelt c h = hex-by c (ltb c 48) (leb c 57) (ltb c 65) (leb c 70) (ltb c 97) (leb c 102) refl refl refl refl refl refl h
 
-short-by : (x y c : ℕ) (t u v : Bool) → eqb x char0 ≡ t → eqb y charX ≡ u → leb 16 (hexOf c) ≡ v → cond t (cond u (cond v 256 (hexOf c)) 256) 256 < 256
+short-by : (x y c : ℕ) (t u v : Bool) → eqb x char0 ≡ t → eqb y charX ≡ u → leb 16 (hexOf c) ≡ v
+    → cond t (cond u (cond v 256 (hexOf c)) 256) 256 < 256
     → Hex (x ∷ y ∷ c ∷ []) (cond t (cond u (cond v 256 (hexOf c)) 256) 256)
 short-by x y c true true false et eu ev h =
     let e : char0 ∷ charX ∷ c ∷ [] ≡ x ∷ y ∷ c ∷ [] = cc (eqb-true x char0 et, eqb-true y charX eu) in

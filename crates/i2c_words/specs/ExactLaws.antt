@@ -7,7 +7,8 @@ use native.Mathlib.Omega.{arith}
 use lib.Dec.{leb, ltb, eqb}
 use lib.ListN.{length}
 use borrow.Author.Tests.{lt-ltb, le-ltb, lt-leb, ne-eqb, ltb-true, ltb-false, leb-false, eqb-true, eqb-false}
-use Rattle.i2c_words.specs.Grammar.{charW, charR, charAt, charX, char0, Digit, digit, Hex, short, long, Count, ones, tens, Spells, writes, reads, byte}
+use Rattle.i2c_words.specs.Grammar.{charW, charR, charAt, charX, char0, Digit, digit, Hex, short, long, Count, ones, tens, Spells}
+use Rattle.i2c_words.specs.Grammar.{writes, reads, byte}
 use Rattle.i2c_words.specs.Reader.{digitOf, valueOf, oneOf, joinedOf, twoOf, messageFor, messageOf, wordBy, wordOf}
 use Rattle.i2c_words.specs.DigitsLaws.{digit-read, one-read, value-read, digit-spelt, one-spelt, value-spelt}
 use Rattle.i2c_words.specs.declared.Word.{Word}
@@ -42,10 +43,24 @@ made-by l n v false true r s t ep eq er es et = tt
 made-by l n v false false true s t ep eq er es et = tt
 made-by l n v false false false true t ep eq er es et =
     let z : (n ≡ 0 → ⊥) = eqb-false n 0 ep in
-    record { the-letter = eqb-true l charW es; the-count = refl; the-address = refl; from-one = omega arith; to-64 = ltb-false 64 n eq; a-byte = leb-false 256 v er }
+    record {
+      the-letter = eqb-true l charW es;
+      the-count = refl;
+      the-address = refl;
+      from-one = omega arith;
+      to-64 = ltb-false 64 n eq;
+      a-byte = leb-false 256 v er;
+    }
 made-by l n v false false false false true ep eq er es et =
     let z : (n ≡ 0 → ⊥) = eqb-false n 0 ep in
-    record { the-letter = eqb-true l charR et; the-count = refl; the-address = refl; from-one = omega arith; to-64 = ltb-false 64 n eq; a-byte = leb-false 256 v er }
+    record {
+      the-letter = eqb-true l charR et;
+      the-count = refl;
+      the-address = refl;
+      from-one = omega arith;
+      to-64 = ltb-false 64 n eq;
+      a-byte = leb-false 256 v er;
+    }
 made-by l n v false false false false false ep eq er es et = tt
 
 made : (l n v : ℕ) → Made l n v (messageFor l n v)
@@ -56,7 +71,8 @@ as-spells : {w w′ : List ℕ} {x x′ : Word} → w ≡ w′ → x ≡ x′ �
 as-spells {w} {w′} {x} {x′} e f s = subst (λ (l : List ℕ). Spells l x′) e (subst (λ (y : Word). Spells w y) f s)
 
 -- a word in its parts: a letter, the digits of the count, @ and the address
-spelt-made : (l : ℕ) (n a : List ℕ) (k : ℕ) (m : Word) → (1 ≤ k → k ≤ 64 → Count n k) → Made l k (valueOf a) m → Spelt (l ∷ (n ++ (charAt ∷ a))) m
+spelt-made : (l : ℕ) (n a : List ℕ) (k : ℕ) (m : Word) → (1 ≤ k → k ≤ 64 → Count n k) → Made l k (valueOf a) m
+    → Spelt (l ∷ (n ++ (charAt ∷ a))) m
 spelt-made l n a k (Write k′ v) c p =
     as-spells (ap (λ (x : ℕ). x ∷ (n ++ (charAt ∷ a))) (sym (p .the-letter))) (ap₂ Write (p .the-count) (p .the-address))
     (writes n a k (valueOf a) (c (p .from-one) (p .to-64)) (value-spelt a (p .a-byte)))
@@ -69,7 +85,8 @@ spelt-made l n a k Unknown c p = tt
 one-count : (c : ℕ) → 1 ≤ oneOf c → oneOf c ≤ 64 → Count (c ∷ []) (oneOf c)
 one-count c h m = ones c (oneOf c) (one-spelt c h) h
 
-two-by : (c d : ℕ) (t u : Bool) → eqb (oneOf c) 0 ≡ t → leb 10 (digitOf d) ≡ u → 1 ≤ cond t 0 (cond u 0 (10 * oneOf c + digitOf d)) → cond t 0 (cond u 0 (10 * oneOf c + digitOf d)) ≤ 64
+two-by : (c d : ℕ) (t u : Bool) → eqb (oneOf c) 0 ≡ t → leb 10 (digitOf d) ≡ u → 1 ≤ cond t 0 (cond u 0 (10 * oneOf c + digitOf d))
+    → cond t 0 (cond u 0 (10 * oneOf c + digitOf d)) ≤ 64
     → Count (c ∷ d ∷ []) (cond t 0 (cond u 0 (10 * oneOf c + digitOf d)))
 two-by c d true u et eu h m = absurd (omega (arith, h))
 two-by c d false true et eu h m = absurd (omega (arith, h))
@@ -112,7 +129,8 @@ word-spelt w = word-by w (ltb (valueOf w) 256) refl
 
 -- ── what is spelt is read ──
 -- a word of six characters or more is no byte: it begins with `w` or `r`
-message-read : (l n v : ℕ) → 1 ≤ n → n ≤ 64 → v < 256 → messageFor l n v ≡ cond (eqb l charW) (Write n v) (cond (eqb l charR) (Read n v) Unknown)
+message-read : (l n v : ℕ) → 1 ≤ n → n ≤ 64 → v < 256
+    → messageFor l n v ≡ cond (eqb l charW) (Write n v) (cond (eqb l charR) (Read n v) Unknown)
 unfolding messageFor
 message-read l n v h m b = simp (ne-eqb n 0 (λ e. omega (arith, e)), le-ltb 64 n m, lt-leb 256 v b)
 
@@ -140,9 +158,12 @@ digit-not-at (digit v h) e = omega (arith, e)
 
 -- a message by its parts
 parts-read : {n a : List ℕ} {k v : ℕ} (l : ℕ) → Count n k → Hex a v → messageOf (l ∷ (n ++ (charAt ∷ a))) ≡ messageFor l k v
-parts-read l (ones c k p h) (short e v q) = at-one l c char0 (charX ∷ e ∷ []) ∙ ap₂ (messageFor l) (one-read p h) (value-read (short e v q) .0)
-parts-read l (ones c k p h) (long e v f w q r) = at-one l c char0 (charX ∷ e ∷ f ∷ []) ∙ ap₂ (messageFor l) (one-read p h) (value-read (long e v f w q r) .0)
-parts-read {a = a} l (tens c v d w p q h m) x = at-two l c d char0 a (digit-not-at q) ∙ ap₂ (messageFor l) (two-read p q h) (value-read x .0)
+parts-read l (ones c k p h) (short e v q) =
+    at-one l c char0 (charX ∷ e ∷ []) ∙ ap₂ (messageFor l) (one-read p h) (value-read (short e v q) .0)
+parts-read l (ones c k p h) (long e v f w q r) =
+    at-one l c char0 (charX ∷ e ∷ f ∷ []) ∙ ap₂ (messageFor l) (one-read p h) (value-read (long e v f w q r) .0)
+parts-read {a = a} l (tens c v d w p q h m) x =
+    at-two l c d char0 a (digit-not-at q) ∙ ap₂ (messageFor l) (two-read p q h) (value-read x .0)
 
 count-range : {n : List ℕ} {k : ℕ} → Count n k → (1 ≤ k) × (k ≤ 64)
 count-range (ones c v p l) = (l, omega (arith, digit-read p .1))
@@ -161,11 +182,14 @@ pub word-read : {w : List ℕ} {x : Word} → Spells w x → wordOf w ≡ x
 unfolding wordBy
 word-read (writes n a k v c h) =
     let r : (1 ≤ k) × (k ≤ 64) = count-range c in
-    simp (not-byte charW (n ++ (charAt ∷ a)) (λ e. omega (arith, e))) (parts-read charW c h ∙ message-read charW k v (r .0) (r .1) (value-read h .1))
+    simp (not-byte charW (n ++ (charAt ∷ a)) (λ e. omega (arith, e)))
+    (parts-read charW c h ∙ message-read charW k v (r .0) (r .1) (value-read h .1))
 word-read (reads n a k v c h) =
     let r : (1 ≤ k) × (k ≤ 64) = count-range c in
-    simp (not-byte charR (n ++ (charAt ∷ a)) (λ e. omega (arith, e))) (parts-read charR c h ∙ message-read charR k v (r .0) (r .1) (value-read h .1))
-word-read (byte a v h) = let r : (valueOf a ≡ v) × (v < 256) = value-read h in simp (lt-ltb (valueOf a) 256 (omega (arith, r .0, r .1))) (ap Byte (r .0))
+    simp (not-byte charR (n ++ (charAt ∷ a)) (λ e. omega (arith, e)))
+    (parts-read charR c h ∙ message-read charR k v (r .0) (r .1) (value-read h .1))
+word-read (byte a v h) = let r : (valueOf a ≡ v) × (v < 256) =
+    value-read h in simp (lt-ltb (valueOf a) 256 (omega (arith, r .0, r .1))) (ap Byte (r .0))
 
 -- ── two readings of a word are the same ──
 pub word-unique : {w : List ℕ} {x y : Word} → Spells w x → Spells w y → x ≡ y

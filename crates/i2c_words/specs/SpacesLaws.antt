@@ -6,7 +6,8 @@ use mathlib.Core.Bool.{Bool, true, false, not, _&&_}
 use native.Mathlib.Omega.{arith}
 use lib.Dec.{eqb}
 use borrow.Author.Tests.{ne-eqb}
-use Rattle.i2c_words.specs.Grammar.{charSpace, charAt, char0, charA, chara, Digit, digit, HexDigit, figure, capital, small, Hex, short, long, Count, ones, tens, Spells, writes, reads, byte}
+use Rattle.i2c_words.specs.Grammar.{charSpace, charAt, char0, charA, chara, Digit, digit, HexDigit, figure, capital, small, Hex}
+use Rattle.i2c_words.specs.Grammar.{short, long, Count, ones, tens, Spells, writes, reads, byte}
 use Rattle.i2c_words.specs.declared.Word.{Word}
 
 abbrev pub spaceless : List ℕ → Bool

@@ -7,9 +7,12 @@ use Rattle.events.specs.declared.Counts.{Counts}
 use Rattle.events.specs.declared.BusEvent.{BusEvent}
 use Rattle.events.specs.declared.BusEvent.the-variants.{Start, Stop, Out, In}
 use Rattle.events.specs.declared.Event.{Event as Coded}
-use Rattle.events.specs.declared.Event.the-variants.{Setup as Setup-, Por as Por-, Boot as Boot-, Pin as Pin-, Xready as Xready-, Scan as Scan-, Temp as Temp-, Count as Count-, Sense as Sense-, Load as Load-, OnBus as OnBus-, Level as Level-, Ticks as Ticks-, Soak as Soak-, Wires as Wires-}
+use Rattle.events.specs.declared.Event.the-variants.{Setup as Setup-, Por as Por-, Boot as Boot-, Pin as Pin-, Xready as Xready-}
+use Rattle.events.specs.declared.Event.the-variants.{Scan as Scan-, Temp as Temp-, Count as Count-, Sense as Sense-, Load as Load-}
+use Rattle.events.specs.declared.Event.the-variants.{OnBus as OnBus-, Level as Level-, Ticks as Ticks-, Soak as Soak-, Wires as Wires-}
 use Rattle.events.specs.Setup.{groups, withCells}
-use Rattle.events.specs.Event.{Event, Por, Boot, Pin, Xready, Scan, Temp, Count, Sense, Load, OnBus, Level, fits, means, unfit, meantOf, countsFit}
+use Rattle.events.specs.Event.{Event, Por, Boot, Pin, Xready, Scan, Temp, Count, Sense, Load, OnBus, Level, fits, means, unfit, meantOf}
+use Rattle.events.specs.Event.{countsFit}
 use Rattle.wiring.specs.Rows.{hasRow, wiredWith}
 use Rattle.wiring.specs.declared.Wiring.the-variants.{With, NoRow}
 use Rattle.records.specs.declared.Read.{Read}
@@ -23,7 +26,8 @@ use Rattle.settings.specs.Write.{ships}
 use Rattle.protection.specs.Fault.{noRuns}
 use Rattle.chip.specs.declared.Chip.{Chip}
 use Rattle.chip.specs.declared.Stepped.{Stepped}
-use Rattle.chip.specs.Chip.{numbered, withRuns, inShip, accepted, storedAt, stored, onBus, settled, normally, asleep, happened, stepped, steppedAs}
+use Rattle.chip.specs.Chip.{numbered, withRuns, inShip, accepted, storedAt, stored, onBus, settled, normally, asleep, happened, stepped}
+use Rattle.chip.specs.Chip.{steppedAs}
 use Rattle.stream.specs.Stream.{wiredAs, acted, staysFresh, turn, turned}
 use Rattle.plain.specs.Plain.{isJudging, asks, forgetful}
 
@@ -100,18 +104,21 @@ stepped-unrun : (e : Event) (c : Chip) → aside e ≡ true → stepped e (unrun
 unfolding stepped happened
 stepped-unrun e c h = by (fits e) (c .normal)
   where
-    by : (f a : Bool) → cond f (cond a (settled (normally e (unrun c))) (asleep e (unrun c))) (numbered 3 (unrun c)) ≡ unrunIn (cond f (cond a (settled (normally e c)) (asleep e c)) (numbered 3 c))
+    by : (f a : Bool) → cond f (cond a (settled (normally e (unrun c))) (asleep e (unrun c))) (numbered 3 (unrun c))
+        ≡ unrunIn (cond f (cond a (settled (normally e c)) (asleep e c)) (numbered 3 c))
     by true true = ap settled (normal-unrun e c h)
     by true false = asleep-unrun e c
     by false a = refl
 
 -- ── and the code's events, those that are taken before a chip moves among them ──
-by-counts : (t : Bool) (e : Event) (c : Chip) → aside e ≡ true → steppedAs (cond t (means e) unfit) (unrun c) ≡ unrunIn (steppedAs (cond t (means e) unfit) c)
+by-counts : (t : Bool) (e : Event) (c : Chip) → aside e ≡ true
+    → steppedAs (cond t (means e) unfit) (unrun c) ≡ unrunIn (steppedAs (cond t (means e) unfit) c)
 by-counts true e c h = stepped-unrun e c h
 by-counts false e c h = refl
 
 wires-unrun : (o t : Bool) (n : ℕ) (c : Chip)
-    → cond o (wiredAs (cond t (With (withCells n (c .setup))) NoRow) (unrun c)) (numbered 2 (unrun c)) ≡ unrunIn (cond o (wiredAs (cond t (With (withCells n (c .setup))) NoRow) c) (numbered 2 c))
+    → cond o (wiredAs (cond t (With (withCells n (c .setup))) NoRow) (unrun c)) (numbered 2 (unrun c))
+    ≡ unrunIn (cond o (wiredAs (cond t (With (withCells n (c .setup))) NoRow) c) (numbered 2 c))
 wires-unrun true true n c = refl
 wires-unrun true false n c = refl
 wires-unrun false t n c = refl
@@ -135,7 +142,8 @@ acted-unrun o (Soak- v n) k c h = absurd (true≢false h)
 acted-unrun o (Wires- n) k c h = wires-unrun o (hasRow (c .setup .part) n) n c
 
 -- SO A TURN that asks nothing is the same without runs
-pub turned-unrun : (o : Bool) (c : Chip) (r : List ℕ) (x : Read) → asks x ≡ false → forgetful (turned o (unrun c) r x) ≡ forgetful (turned o c r x)
+pub turned-unrun : (o : Bool) (c : Chip) (r : List ℕ) (x : Read) → asks x ≡ false
+    → forgetful (turned o (unrun c) r x) ≡ forgetful (turned o c r x)
 turned-unrun o c r (Record e next) h =
     ap (λ (s : Stepped). forgetful (turn s (staysFresh o c s) next false)) (acted-unrun o e (countsBeside r (Record e next)) c h)
 turned-unrun o c r (Refused k next) h = refl

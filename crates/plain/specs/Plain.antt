@@ -1,5 +1,5 @@
--- Request M-112: the plain engine. The chip that it keeps has no runs; at a scan or tick it is lent, for that one record, what the records before it
--- say by themselves. Assumes nothing.
+-- Request M-112: the plain engine. The chip that it keeps has no runs; at a scan or tick it is lent, for that one record, what the
+-- records before it say by themselves. Assumes nothing.
 use mathlib.Core.Path.{_≡_}
 use mathlib.Core.Bool.{Bool, true, false, cond, _&&_}
 use mathlib.Core.List.{List, [], _∷_, _++_}
@@ -8,7 +8,8 @@ use lib.Dec.{leb}
 use lib.IntN.{ℤ, pos, negsuc}
 use lib.ListN.{length, take, drop}
 use Rattle.events.specs.declared.Event.{Event}
-use Rattle.events.specs.declared.Event.the-variants.{Setup, Por, Boot, Scan, Temp, Count, Sense, Pin, Load, Xready, OnBus, Level, Ticks, Soak, Wires}
+use Rattle.events.specs.declared.Event.the-variants.{Setup, Por, Boot, Scan, Temp, Count, Sense, Pin, Load, Xready, OnBus, Level, Ticks}
+use Rattle.events.specs.declared.Event.the-variants.{Soak, Wires}
 use Rattle.records.specs.declared.Read.{Read}
 use Rattle.records.specs.declared.Read.the-variants.{Record, Refused, Cut}
 use Rattle.records.specs.Record.{readOf}
@@ -66,7 +67,8 @@ plainRuns (suc f) before o c [] = []
 plainRuns (suc f) before o c (b ∷ r) =
     plainTurn before o c (b ∷ r) .entry
     ∷ cond (plainTurn before o c (b ∷ r) .last) []
-    (plainRuns f (before ++ take (plainTurn before o c (b ∷ r) .next) (b ∷ r)) (plainTurn before o c (b ∷ r) .fresh) (plainTurn before o c (b ∷ r) .chip) (drop (plainTurn before o c (b ∷ r) .next) (b ∷ r)))
+    (plainRuns f (before ++ take (plainTurn before o c (b ∷ r) .next) (b ∷ r)) (plainTurn before o c (b ∷ r) .fresh)
+    (plainTurn before o c (b ∷ r) .chip) (drop (plainTurn before o c (b ∷ r) .next) (b ∷ r)))
 
 unfoldable pub plainEntries : List ℕ → List Entry
 plainEntries s = plainRuns (length s) [] false none s
@@ -75,7 +77,12 @@ plainEntries s = plainRuns (length s) [] false none s
 abbrev pub Noted : List ℕ → List ℕ → List ℕ → Type 0
 Noted s old new = new ≡ entered old (plainEntries s)
 
--- the answer of the C call: −24 for a longer stream, then −5 where the entries do not fit, with nothing written; else their count, and the entries
+-- the answer of the C call: −24 for a longer stream, then −5 where the entries do not fit, with nothing written; else their count, and
+-- the entries
 pub record PlainPlayed (s old : List ℕ) (r : ℤ) (new : List ℕ) : Type 0 where
-  pub answer : r ≡ cond (leb (length s) most) (cond (leb (5 * length (plainEntries s)) (length old)) (pos (length (plainEntries s))) (negsuc 4)) (negsuc 23)
-  pub contents : new ≡ cond (leb (length s) most && leb (5 * length (plainEntries s)) (length old)) (bytesOf (plainEntries s) ++ drop (5 * length (plainEntries s)) old) old
+  pub answer : r
+      ≡ cond (leb (length s) most) (cond (leb (5 * length (plainEntries s)) (length old)) (pos (length (plainEntries s))) (negsuc 4))
+      (negsuc 23)
+  pub contents : new
+      ≡ cond (leb (length s) most && leb (5 * length (plainEntries s)) (length old))
+      (bytesOf (plainEntries s) ++ drop (5 * length (plainEntries s)) old) old

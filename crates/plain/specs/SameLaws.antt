@@ -1,4 +1,5 @@
--- Request M-112: the plain engine's entries are the base engine's, and what it decides with are the verdicts of the records before. Assumes nothing.
+-- Request M-112: the plain engine's entries are the base engine's, and what it decides with are the verdicts of the records before.
+-- Assumes nothing.
 use mathlib.Core.Path.{_≡_, refl, sym, ap, _∙_}
 use mathlib.Core.Bool.{Bool, true, false, cond, _&&_, true≢false}
 use mathlib.Core.List.{List, [], _∷_, _++_, map, append-assoc, append-nil}
@@ -12,7 +13,8 @@ use lib.Seq.{drop-at}
 use borrow.Author.Tests.{le-leb, lt-ltb}
 use Rattle.events.specs.declared.Setup.{Setup as SetupValues}
 use Rattle.events.specs.declared.Event.{Event as Coded}
-use Rattle.events.specs.declared.Event.the-variants.{Setup, Por, Boot, Scan, Temp, Count, Sense, Pin, Load, Xready, OnBus, Level, Ticks, Soak, Wires}
+use Rattle.events.specs.declared.Event.the-variants.{Setup, Por, Boot, Scan, Temp, Count, Sense, Pin, Load, Xready, OnBus, Level, Ticks}
+use Rattle.events.specs.declared.Event.the-variants.{Soak, Wires}
 use Rattle.events.specs.Event.{Event}
 use Rattle.events.specs.Fault.{Fault, Ov, Uv, Scd, Ocd}
 use Rattle.records.specs.declared.Read.{Read}
@@ -42,10 +44,12 @@ use Rattle.plain_back.specs.Said.{verdictsAfter, verdictsIn, streaksIn, most}
 use Rattle.plain.specs.Plain.{asks, runsFrom, lent, forgetful, plainTurn, plainRuns, plainEntries, PlainPlayed}
 use Rattle.plain.specs.AsideLaws.{unrun, turned-unrun}
 
--- ── WHAT IT DECIDES: an event that judges k raises it exactly where the newest verdicts of this waking spell, its own included and as many as the
+-- ── WHAT IT DECIDES: an event that judges k raises it exactly where the newest verdicts of this waking spell, its own included and as
+-- many as the
 -- delay now set, are there and all true. No counter is named ──
 pub decides : (k : Fault) (floor : ℕ) (s : Settings) (before : List ℕ) (e : Event)
-    → risen floor s (runsFrom (streaksIn before)) e k ≡ someOpinion (opinion k floor (rule k s) e) && lastAll (rule k s .need) (opinion k floor (rule k s) e ++ verdictsIn k before)
+    → risen floor s (runsFrom (streaksIn before)) e k ≡ someOpinion (opinion k floor (rule k s) e)
+    && lastAll (rule k s .need) (opinion k floor (rule k s) e ++ verdictsIn k before)
 unfolding streaksIn
 decides k floor s before e =
     ap (λ (b : Bool). someOpinion op && b)
@@ -72,11 +76,16 @@ pub decides-ticks : (m : ℕ) (s : Settings) (v : ℤ) (before : List ℕ)
       ocd = lastAll (rule Ocd s .need) (replicate (suc m) (beyond (rule Ocd s) v) ++ verdictsIn Ocd before);
     }
 unfolding streaksIn
-decides-ticks m s v before = ap (λ (j : Judged). j .risen) (ticks-alike (suc m) s v (runsFrom (streaksIn before))) ∙ (λ i. record { ov = false; uv = false; scd = told Scd i; ocd = told Ocd i })
+decides-ticks m s v before =
+    ap (λ (j : Judged). j .risen) (ticks-alike (suc m) s v (runsFrom (streaksIn before)))
+    ∙ (λ i. record { ov = false; uv = false; scd = told Scd i; ocd = told Ocd i })
   where
-    told : (k : Fault) → ltb 0 (suc m) && lasts k s (alike (cap k) (beyond (rule k s) v) (suc m) (min (cap k) (streak (verdictsIn k before)))) ≡ lastAll (rule k s .need) (replicate (suc m) (beyond (rule k s) v) ++ verdictsIn k before)
+    told : (k : Fault)
+        → ltb 0 (suc m) && lasts k s (alike (cap k) (beyond (rule k s) v) (suc m) (min (cap k) (streak (verdictsIn k before))))
+        ≡ lastAll (rule k s .need) (replicate (suc m) (beyond (rule k s) v) ++ verdictsIn k before)
     told k =
-        ap (λ (b : Bool). b && lasts k s (alike (cap k) (beyond (rule k s) v) (suc m) (min (cap k) (streak (verdictsIn k before))))) (lt-ltb 0 (suc m) (omega arith))
+        ap (λ (b : Bool). b && lasts k s (alike (cap k) (beyond (rule k s) v) (suc m) (min (cap k) (streak (verdictsIn k before)))))
+        (lt-ltb 0 (suc m) (omega arith))
         ∙ ap (lasts k s) (bumps-streak (cap k) (replicate (suc m) (beyond (rule k s) v)) (verdictsIn k before))
         ∙ run-tells k s (replicate (suc m) (beyond (rule k s) v) ++ verdictsIn k before)
 
@@ -94,11 +103,15 @@ none-stands : (s : List ℕ) (x : Read) → readOf 0 s ≡ x → Stands x ≡ fa
 unfolding lastChip turnOf
 none-stands [] x q h = refl
 none-stands (b ∷ s) x q h =
-    ap (λ (x : Read). cond (turned false none (b ∷ s) x .last) (turned false none (b ∷ s) x .chip) (stands (length s) (turned false none (b ∷ s) x .fresh) (turned false none (b ∷ s) x .chip) (drop (turned false none (b ∷ s) x .next) (b ∷ s)))) q
+    ap (λ (x : Read). cond (turned false none (b ∷ s) x .last) (turned false none (b ∷ s) x .chip)
+    (stands (length s) (turned false none (b ∷ s) x .fresh) (turned false none (b ∷ s) x .chip)
+    (drop (turned false none (b ∷ s) x .next) (b ∷ s)))) q
     ∙ by x h
   where
     by : (x : Read) → Stands x ≡ false
-        → cond (turned false none (b ∷ s) x .last) (turned false none (b ∷ s) x .chip) (stands (length s) (turned false none (b ∷ s) x .fresh) (turned false none (b ∷ s) x .chip) (drop (turned false none (b ∷ s) x .next) (b ∷ s))) ≡ none
+        → cond (turned false none (b ∷ s) x .last) (turned false none (b ∷ s) x .chip)
+        (stands (length s) (turned false none (b ∷ s) x .fresh) (turned false none (b ∷ s) x .chip)
+        (drop (turned false none (b ∷ s) x .next) (b ∷ s))) ≡ none
     by (Record e next) h = absurd (true≢false h)
     by (Refused k next) h = refl
     by Cut h = refl
@@ -106,12 +119,15 @@ none-stands (b ∷ s) x q h =
 none-said : (s : List ℕ) (k : Fault) → lastChip s ≡ none → runOf k (lastChip s .runs) ≡ min (cap k) 0
 none-said s k h = ap (λ (c : Chip). runOf k (c .runs)) h ∙ run-of (λ k. 0) k ∙ sym (min-zero (cap k))
 
-first-said : (s : List ℕ) (x : Read) → readOf 0 s ≡ x → (k : Fault) → runOf k (lastChip s .runs) ≡ min (cap k) (streak (verdictsAfter k s x))
+first-said : (s : List ℕ) (x : Read) → readOf 0 s ≡ x → (k : Fault)
+    → runOf k (lastChip s .runs) ≡ min (cap k) (streak (verdictsAfter k s x))
 first-said s (Record e next) q k = by e q (first-setup s e next q)
   where
-    by : (e : Coded) → readOf 0 s ≡ Record e next → IsSetup e → runOf k (lastChip s .runs) ≡ min (cap k) (streak (verdictsAfter k s (Record e next)))
+    by : (e : Coded) → readOf 0 s ≡ Record e next → IsSetup e
+        → runOf k (lastChip s .runs) ≡ min (cap k) (streak (verdictsAfter k s (Record e next)))
     by (Setup u) q g =
-        ap (λ (c : Chip). runOf k (c .runs)) (last-chip s u next q ∙ same-but-cells (cellsIn u next s) u (heard u next s)) ∙ runs-are u k (heard u next s)
+        ap (λ (c : Chip). runOf k (c .runs)) (last-chip s u next q ∙ same-but-cells (cellsIn u next s) u (heard u next s))
+        ∙ runs-are u k (heard u next s)
     by Por q g = absurd g
     by Boot q g = absurd g
     by Scan q g = absurd g
@@ -134,12 +150,14 @@ unfolding streaksIn verdictsIn
 runs-said s = sym (runs-by (lastChip s .runs) (λ k. min (cap k) (streak (verdictsAfter k s (readOf 0 s)))) (first-said s (readOf 0 s) refl))
 
 -- ── one record ──
-pub plain-turn : (before : List ℕ) (o : Bool) (c : Chip) (rest : List ℕ) → runsFrom (streaksIn before) ≡ c .runs → plainTurn before o (unrun c) rest ≡ forgetful (turnOf o c rest)
+pub plain-turn : (before : List ℕ) (o : Bool) (c : Chip) (rest : List ℕ) → runsFrom (streaksIn before) ≡ c .runs
+    → plainTurn before o (unrun c) rest ≡ forgetful (turnOf o c rest)
 unfolding plainTurn turnOf
 plain-turn before o c rest h = by (asks (readOf (c .setup .part) rest)) refl
   where
     by : (t : Bool) → asks (readOf (c .setup .part) rest) ≡ t
-        → forgetful (turned o (lent t before (unrun c)) rest (readOf (c .setup .part) rest)) ≡ forgetful (turned o c rest (readOf (c .setup .part) rest))
+        → forgetful (turned o (lent t before (unrun c)) rest (readOf (c .setup .part) rest))
+        ≡ forgetful (turned o c rest (readOf (c .setup .part) rest))
     by true a = ap (λ (n : Runs). forgetful (turned o (withRuns n c) rest (readOf (c .setup .part) rest))) h
     by false a = turned-unrun o c rest (readOf (c .setup .part) rest) a
 
@@ -156,7 +174,8 @@ none-left zero o c = refl
 none-left (suc f) o c = refl
 
 stands-cons : (f : ℕ) (o : Bool) (c : Chip) (l : List ℕ) → 0 < length l
-    → stands (suc f) o c l ≡ cond (turnOf o c l .last) (turnOf o c l .chip) (stands f (turnOf o c l .fresh) (turnOf o c l .chip) (drop (turnOf o c l .next) l))
+    → stands (suc f) o c l
+    ≡ cond (turnOf o c l .last) (turnOf o c l .chip) (stands f (turnOf o c l .fresh) (turnOf o c l .chip) (drop (turnOf o c l .next) l))
 stands-cons f o c [] h = absurd (omega arith)
 stands-cons f o c (b ∷ l) h = refl
 
@@ -165,7 +184,8 @@ module _ (before : List ℕ) (o : Bool) (c : Chip) (n : ℕ) (g : Lent before o 
   unfolding lastChip
   lent-chip =
       let e : length before ≡ n + (length before - n) = omega (arith, g .few) in
-      ap (λ (f : ℕ). stands f false none before) e ∙ ap (stands (n + (length before - n)) false none) (sym (append-nil before)) ∙ g .leads (length before - n) [] ∙ none-left (length before - n) o c
+      ap (λ (f : ℕ). stands f false none before) e ∙ ap (stands (n + (length before - n)) false none) (sym (append-nil before))
+      ∙ g .leads (length before - n) [] ∙ none-left (length before - n) o c
 
   pub lent-runs : runsFrom (streaksIn before) ≡ c .runs
   lent-runs = runs-said before ∙ ap (λ (d : Chip). d .runs) lent-chip
@@ -185,7 +205,8 @@ module _ (before : List ℕ) (o : Bool) (c : Chip) (n : ℕ) (g : Lent before o 
         ∙ ap (stands (n + suc f) false none) (append-assoc before (take (t .next) rest) q)
         ∙ g .leads (suc f) (take (t .next) rest ++ q)
         ∙ stands-cons f o c (take (t .next) rest ++ q) l
-        ∙ ap (λ (x : Turn). cond (x .last) (x .chip) (stands f (x .fresh) (x .chip) (drop (x .next) (take (t .next) rest ++ q)))) (same-frame o c rest q h)
+        ∙ ap (λ (x : Turn). cond (x .last) (x .chip) (stands f (x .fresh) (x .chip) (drop (x .next) (take (t .next) rest ++ q))))
+        (same-frame o c rest q h)
         ∙ ap (λ (b : Bool). cond b (t .chip) (stands f (t .fresh) (t .chip) (drop (t .next) (take (t .next) rest ++ q)))) h
         ∙ ap (stands f (t .fresh) (t .chip)) (drop-at (take (t .next) rest) q (t .next) sized)
 
@@ -193,15 +214,23 @@ module _ (before : List ℕ) (o : Bool) (c : Chip) (n : ℕ) (g : Lent before o 
     lent-next = record { leads = leads-on; few = simp length-append (omega (arith, g .few, sized, turn-past o c rest h)) }
 
 -- ── all of them ──
-plain-runs : (f : ℕ) (before : List ℕ) (o : Bool) (c : Chip) (n : ℕ) (rest : List ℕ) → Lent before o c n → plainRuns f before o (unrun c) rest ≡ runs f o c rest
+plain-runs : (f : ℕ) (before : List ℕ) (o : Bool) (c : Chip) (n : ℕ) (rest : List ℕ) → Lent before o c n
+    → plainRuns f before o (unrun c) rest ≡ runs f o c rest
 plain-runs zero before o c n rest g = refl
 plain-runs (suc f) before o c n [] g = refl
 plain-runs (suc f) before o c n (b ∷ r) g =
-    ap (λ (x : Turn). x .entry ∷ cond (x .last) [] (plainRuns f (before ++ take (x .next) (b ∷ r)) (x .fresh) (x .chip) (drop (x .next) (b ∷ r)))) (plain-turn before o c (b ∷ r) (lent-runs before o c n g))
-    ∙ ap (λ (l : List Entry). turnOf o c (b ∷ r) .entry ∷ l) (by (turnOf o c (b ∷ r) .last) (λ h. plain-runs f (before ++ take (turnOf o c (b ∷ r) .next) (b ∷ r)) (turnOf o c (b ∷ r) .fresh) (turnOf o c (b ∷ r) .chip) (n + 1) (drop (turnOf o c (b ∷ r) .next) (b ∷ r)) (lent-next before o c n g (b ∷ r) h)))
+    ap (λ (x : Turn). x .entry ∷ cond (x .last) []
+    (plainRuns f (before ++ take (x .next) (b ∷ r)) (x .fresh) (x .chip) (drop (x .next) (b ∷ r))))
+    (plain-turn before o c (b ∷ r) (lent-runs before o c n g))
+    ∙ ap (λ (l : List Entry). turnOf o c (b ∷ r) .entry ∷ l)
+    (by (turnOf o c (b ∷ r) .last)
+    (λ h. plain-runs f (before ++ take (turnOf o c (b ∷ r) .next) (b ∷ r)) (turnOf o c (b ∷ r) .fresh) (turnOf o c (b ∷ r) .chip)
+    (n + 1) (drop (turnOf o c (b ∷ r) .next) (b ∷ r)) (lent-next before o c n g (b ∷ r) h)))
   where
     plainly : List Entry
-    plainly = plainRuns f (before ++ take (turnOf o c (b ∷ r) .next) (b ∷ r)) (turnOf o c (b ∷ r) .fresh) (unrun (turnOf o c (b ∷ r) .chip)) (drop (turnOf o c (b ∷ r) .next) (b ∷ r))
+    plainly =
+        plainRuns f (before ++ take (turnOf o c (b ∷ r) .next) (b ∷ r)) (turnOf o c (b ∷ r) .fresh) (unrun (turnOf o c (b ∷ r) .chip))
+        (drop (turnOf o c (b ∷ r) .next) (b ∷ r))
 
     quickly : List Entry
     quickly = runs f (turnOf o c (b ∷ r) .fresh) (turnOf o c (b ∷ r) .chip) (drop (turnOf o c (b ∷ r) .next) (b ∷ r))
@@ -216,7 +245,8 @@ unfolding plainEntries entries
 plain-entries s = plain-runs (length s) [] false none 0 s lent-none
 
 -- .. so each shows the SYS_STAT and the pins of the events heard so far, of which demand 3 says when a bit is up
-pub plain-shows : (s : List ℕ) (u : SetupValues) (next : ℕ) → readOf 0 s ≡ Record (Setup u) next → map shows (plainEntries s) ≡ map (λ past. toShow (chip u past)) (histories u next s)
+pub plain-shows : (s : List ℕ) (u : SetupValues) (next : ℕ) → readOf 0 s ≡ Record (Setup u) next
+    → map shows (plainEntries s) ≡ map (λ past. toShow (chip u past)) (histories u next s)
 plain-shows s u next first = ap (map shows) (plain-entries s) ∙ entries-show s u next first
 
 -- .. so up to 65,536 bytes the call answers and writes what `toralinge_play` does

@@ -1,5 +1,5 @@
--- Request M-112: what the records lent so far say of a fault, by themselves: the verdicts of the waking spell in which they end, each by the settings
--- that stood when its scan or tick came, and how many of the newest are true. No run is kept. Assumes nothing.
+-- Request M-112: what the records lent so far say of a fault, by themselves: the verdicts of the waking spell in which they end, each by
+-- the settings that stood when its scan or tick came, and how many of the newest are true. No run is kept. Assumes nothing.
 use mathlib.Core.Path.{_≡_, refl, sym, ap, _∙_}
 use mathlib.Core.Bool.{Bool, cond}
 use mathlib.Core.List.{List, []}
@@ -8,7 +8,8 @@ use lib.Dec.{leb}
 use lib.ListN.{length}
 use Rattle.events.specs.declared.Setup.{Setup as SetupValues}
 use Rattle.events.specs.declared.Event.{Event as Coded}
-use Rattle.events.specs.declared.Event.the-variants.{Setup, Por, Boot, Scan, Temp, Count, Sense, Pin, Load, Xready, OnBus, Level, Ticks, Soak, Wires}
+use Rattle.events.specs.declared.Event.the-variants.{Setup, Por, Boot, Scan, Temp, Count, Sense, Pin, Load, Xready, OnBus, Level, Ticks}
+use Rattle.events.specs.declared.Event.the-variants.{Soak, Wires}
 use Rattle.events.specs.Fault.{Fault, Ov, Uv, Scd, Ocd}
 use Rattle.records.specs.declared.Read.{Read}
 use Rattle.records.specs.declared.Read.the-variants.{Record, Refused, Cut}

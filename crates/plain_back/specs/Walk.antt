@@ -1,5 +1,5 @@
--- The walk over the records: what it carries from one to the next, and that this is what the events heard so far say, with no run among it: the
--- mode, the line and the settings move by the events alone, and each verdict by those. Assumes nothing.
+-- The walk over the records: what it carries from one to the next, and that this is what the events heard so far say, with no run among
+-- it: the mode, the line and the settings move by the events alone, and each verdict by those. Assumes nothing.
 use mathlib.Core.Path.{_≡_, refl, sym, ap, subst, _∙_}
 use mathlib.Core.Bool.{Bool, true, false, _&&_, cond, true≢false}
 use mathlib.Core.List.{List, [], _∷_, _++_}
@@ -12,10 +12,13 @@ use borrow.Author.Tests.{leb-true}
 use Rattle.events.specs.declared.Setup.{Setup as SetupValues}
 use Rattle.events.specs.declared.Counts.{Counts}
 use Rattle.events.specs.declared.Event.{Event as Coded}
-use Rattle.events.specs.declared.Event.the-variants.{Setup as Setup-, Por as Por-, Boot as Boot-, Pin as Pin-, Xready as Xready-, Scan as Scan-, Temp as Temp-, Count as Count-, Sense as Sense-, Load as Load-, OnBus as OnBus-, Level as Level-, Ticks as Ticks-, Soak as Soak-, Wires as Wires-}
+use Rattle.events.specs.declared.Event.the-variants.{Setup as Setup-, Por as Por-, Boot as Boot-, Pin as Pin-, Xready as Xready-}
+use Rattle.events.specs.declared.Event.the-variants.{Scan as Scan-, Temp as Temp-, Count as Count-, Sense as Sense-, Load as Load-}
+use Rattle.events.specs.declared.Event.the-variants.{OnBus as OnBus-, Level as Level-, Ticks as Ticks-, Soak as Soak-, Wires as Wires-}
 use Rattle.events.specs.Setup.{inputs}
 use Rattle.events.specs.Fault.{Fault, Ov, Uv, Scd, Ocd}
-use Rattle.events.specs.Event.{Event, Por, Boot, Pin, Xready, Scan, Count, Sense, Load, OnBus, Level, fits, senseFits, ticksFit, Meant, means, ticks, unfit, eventOf, meantOf, countsFit, countsWanted, inRange}
+use Rattle.events.specs.Event.{Event, Por, Boot, Pin, Xready, Scan, Count, Sense, Load, OnBus, Level, fits, senseFits, ticksFit, Meant}
+use Rattle.events.specs.Event.{means, ticks, unfit, eventOf, meantOf, countsFit, countsWanted, inRange}
 use Rattle.records.specs.declared.Read.{Read}
 use Rattle.records.specs.declared.Read.the-variants.{Record, Refused, Cut}
 use Rattle.records.specs.Record.{readOf, countsBeside}
@@ -130,8 +133,15 @@ ticks-again c v n w = by (c .normal)
     s : Settings
     s = c .registers .settings
 
-    by : (a : Bool) → cond a (ticksIn c v 1 (cond a (ticksIn c v (suc n) w) w)) (cond a (ticksIn c v (suc n) w) w) ≡ cond a (ticksIn c v (suc (suc n)) w) w
-    by true = λ i. record { ov = w .ov; uv = w .uv; scd = again (beyond (rule Scd s) v) n (w .scd) i; ocd = again (beyond (rule Ocd s) v) n (w .ocd) i }
+    by : (a : Bool) → cond a (ticksIn c v 1 (cond a (ticksIn c v (suc n) w) w)) (cond a (ticksIn c v (suc n) w) w)
+        ≡ cond a (ticksIn c v (suc (suc n)) w) w
+    by true =
+        λ i. record {
+          ov = w .ov;
+          uv = w .uv;
+          scd = again (beyond (rule Scd s) v) n (w .scd) i;
+          ocd = again (beyond (rule Ocd s) v) n (w .ocd) i;
+        }
     by false = refl
 
 -- ── a scan or tick leaves mode, line and settings ──
@@ -175,16 +185,20 @@ module _ (u : SetupValues) where
 
   module _ (past : List Event) where
     -- ── events that say nothing ──
-    silent-verdicts : (e : Event) → Silent e → (k : Fault) → verdicts u k (e ∷ past) ≡ cond (core u (e ∷ past) .normal) (verdicts u k past) []
+    silent-verdicts : (e : Event) → Silent e → (k : Fault)
+        → verdicts u k (e ∷ past) ≡ cond (core u (e ∷ past) .normal) (verdicts u k past) []
     unfolding verdicts
     silent-verdicts e h k =
         by (fits e) (opinion k (u .floor) (rule k (standing u past)) e) (h k (u .floor) (rule k (standing u past)))
       where
-        by : (f : Bool) (l : List Bool) → l ≡ [] → cond (core u (e ∷ past) .normal) (cond f l [] ++ verdicts u k past) [] ≡ cond (core u (e ∷ past) .normal) (verdicts u k past) []
+        by : (f : Bool) (l : List Bool) → l ≡ []
+            → cond (core u (e ∷ past) .normal) (cond f l [] ++ verdicts u k past) []
+            ≡ cond (core u (e ∷ past) .normal) (verdicts u k past) []
         by true l q = ap (λ (l : List Bool). cond (core u (e ∷ past) .normal) (l ++ verdicts u k past) []) q
         by false l q = refl
 
-    spell : (a : Bool) → cond a (streaksOf (λ k. streak (verdicts u k past))) noStreaks ≡ streaksOf (λ k. streak (cond a (verdicts u k past) []))
+    spell : (a : Bool)
+        → cond a (streaksOf (λ k. streak (verdicts u k past))) noStreaks ≡ streaksOf (λ k. streak (cond a (verdicts u k past) []))
     spell true = refl
     spell false = refl
 
@@ -193,18 +207,22 @@ module _ (u : SetupValues) where
     tracks-moved e w h t =
         let c : Chip = bare u (core u past) in
         record {
-          chip = ap (λ (d : Chip). bare (next e d .setup) (coreOf (next e d))) (t .chip) ∙ ap (λ (v : SetupValues). bare v (coreOf (next e c))) (setup-next e c);
-          said = ap (λ (d : Chip). cond (next e d .normal) (w .said) noStreaks) (t .chip) ∙ ap (λ (l : Streaks). cond (next e c .normal) l noStreaks) (t .said)
+          chip = ap (λ (d : Chip). bare (next e d .setup) (coreOf (next e d))) (t .chip)
+              ∙ ap (λ (v : SetupValues). bare v (coreOf (next e c))) (setup-next e c);
+          said = ap (λ (d : Chip). cond (next e d .normal) (w .said) noStreaks) (t .chip)
+              ∙ ap (λ (l : Streaks). cond (next e c .normal) l noStreaks) (t .said)
               ∙ spell (next e c .normal) ∙ streaks-by (λ k. ap streak (sym (silent-verdicts e h k)));
         }
 
     -- ── scans and ticks ──
     judged-verdicts : (e : Event) → coreNext u e (core u past) ≡ core u past → fits e ≡ true → (k : Fault)
-        → verdicts u k (e ∷ past) ≡ cond (core u past .normal) (opinion k (u .floor) (rule k (standing u past)) e ++ verdicts u k past) (verdicts u k past)
+        → verdicts u k (e ∷ past) ≡ cond (core u past .normal) (opinion k (u .floor) (rule k (standing u past)) e ++ verdicts u k past)
+        (verdicts u k past)
     unfolding verdicts core
     judged-verdicts e q f k =
         ap (λ (c : Core). cond (c .normal) (cond (fits e) (opinion k (u .floor) (rule k (standing u past)) e) [] ++ verdicts u k past) []) q
-        ∙ ap (λ (t : Bool). cond (core u past .normal) (cond t (opinion k (u .floor) (rule k (standing u past)) e) [] ++ verdicts u k past) []) f
+        ∙ ap (λ (t : Bool). cond (core u past .normal)
+        (cond t (opinion k (u .floor) (rule k (standing u past)) e) [] ++ verdicts u k past) []) f
         ∙ by (core u past .normal) (asleep-none u k past)
       where
         l : List Bool
@@ -214,7 +232,8 @@ module _ (u : SetupValues) where
         by true z = refl
         by false z = sym (z refl)
 
-    tracks-scan : (xs : List ℕ) (w : Walk) → fits (Scan xs) ≡ true → Tracks w past → Tracks (record { chip = w .chip; said = scanSaid (w .chip) xs (w .said) }) (Scan xs ∷ past)
+    tracks-scan : (xs : List ℕ) (w : Walk) → fits (Scan xs) ≡ true → Tracks w past
+        → Tracks (record { chip = w .chip; said = scanSaid (w .chip) xs (w .said) }) (Scan xs ∷ past)
     unfolding scanSaid core
     tracks-scan xs w f t =
         record {
@@ -269,7 +288,8 @@ module _ (u : SetupValues) where
         by false = refl
 
   -- every tick of a record counts
-  tracks-ticks : (n : ℕ) (v : ℤ) (past : List Event) (w : Walk) → fits (Sense v) ≡ true → Tracks w past → Tracks (tickedBy v (suc n) w) (replicate (suc n) (Sense v) ++ past)
+  tracks-ticks : (n : ℕ) (v : ℤ) (past : List Event) (w : Walk) → fits (Sense v) ≡ true → Tracks w past
+      → Tracks (tickedBy v (suc n) w) (replicate (suc n) (Sense v) ++ past)
   tracks-ticks zero v past w f t = tracks-tick past v w f t
   tracks-ticks (suc n) v past w f t =
       let h : Tracks (tickedBy v 1 (tickedBy v (suc n) w)) (replicate (suc (suc n)) (Sense v) ++ past) =
@@ -286,7 +306,8 @@ module _ (u : SetupValues) where
   meant-of e k m = meant-is (countsFit (countsWanted u e) k) (eventOf u e (k .of)) m
 
   module _ (past : List Event) (w : Walk) (t : Tracks w past) where
-    by-event : (e : Coded) (k : Counts) (h : Event) → Silent h → meantOf u e k ≡ means h → Tracks (movedBy e k w) (withMeant u (meantOf u e k) past)
+    by-event : (e : Coded) (k : Counts) (h : Event) → Silent h → meantOf u e k ≡ means h
+        → Tracks (movedBy e k w) (withMeant u (meantOf u e k) past)
     unfolding movedBy
     by-event e k h z q =
         let c : Chip = bare u (core u past) in
@@ -295,7 +316,8 @@ module _ (u : SetupValues) where
         subst (λ (m : Meant). Tracks (movedBy e k w) (withMeant u m past)) (sym q)
         (subst (λ (x : Stepped). Tracks (movedTo (x .chip) w) (h ∷ past)) (sym s) (tracks-moved past h w z t))
 
-    by-ticks : (e : Coded) (k : Counts) (most : ℕ) (v : ℤ) (n : ℕ) → meantOf u e k ≡ ticks most v n → ticksFit most v n ≡ true → Tracks (tickedBy v n w) (withMeant u (meantOf u e k) past)
+    by-ticks : (e : Coded) (k : Counts) (most : ℕ) (v : ℤ) (n : ℕ) → meantOf u e k ≡ ticks most v n → ticksFit most v n ≡ true
+        → Tracks (tickedBy v n w) (withMeant u (meantOf u e k) past)
     unfolding ticksFit fits
     by-ticks e k most v n q f =
         let a : senseFits v && leb 1 n ≡ true = and-left (senseFits v && leb 1 n) (leb n most) f in
@@ -317,12 +339,14 @@ module _ (u : SetupValues) where
     tracks-walked Xready- k m = by-event Xready- k Xready (λ k floor r. refl) (meant-of Xready- k m .0)
     tracks-walked Scan- k m =
         subst (λ (m : Meant). Tracks (scannedBy k w) (withMeant u m past)) (sym (meant-of Scan- k m .0))
-        (subst (λ (d : Chip). Tracks (record { chip = w .chip; said = scanSaid (w .chip) (take (inputs (d .setup)) (k .of)) (w .said) }) (Scan (take (inputs u) (k .of)) ∷ past)) (sym (t .chip))
+        (subst (λ (d : Chip). Tracks (record { chip = w .chip; said = scanSaid (w .chip) (take (inputs (d .setup)) (k .of)) (w .said) })
+        (Scan (take (inputs u) (k .of)) ∷ past)) (sym (t .chip))
         (tracks-scan past (take (inputs u) (k .of)) w (meant-of Scan- k m .1) t))
     tracks-walked Temp- k m = by-event Temp- k _ (λ k floor r. refl) (meant-of Temp- k m .0)
     tracks-walked (Count- n) k m = by-event (Count- n) k (Count n) (λ k floor r. refl) (meant-of (Count- n) k m .0)
     tracks-walked (Sense- v) k m =
-        subst (λ (m : Meant). Tracks (tickedBy v 1 w) (withMeant u m past)) (sym (meant-of (Sense- v) k m .0)) (tracks-tick past v w (meant-of (Sense- v) k m .1) t)
+        subst (λ (m : Meant). Tracks (tickedBy v 1 w) (withMeant u m past)) (sym (meant-of (Sense- v) k m .0))
+        (tracks-tick past v w (meant-of (Sense- v) k m .1) t)
     tracks-walked (Load- l) k m = by-event (Load- l) k (Load l) (λ k floor r. refl) (meant-of (Load- l) k m .0)
     tracks-walked (OnBus- b) k m = by-event (OnBus- b) k (OnBus b) (λ k floor r. refl) (meant-of (OnBus- b) k m .0)
     tracks-walked (Level- l) k m = by-event (Level- l) k (Level l) (λ k floor r. refl) (meant-of (Level- l) k m .0)

@@ -39,7 +39,8 @@ module _ (n a b c d p q r s : ℕ) (u : n ≡ 10 * a + p) (v : a ≡ 10 * b + q)
   one h = (omega arith, λ z e. omega arith)
 
   by-tests : (i j k l : Bool) → ltb n 10000 ≡ i → ltb n 1000 ≡ j → ltb n 100 ≡ k → ltb n 10 ≡ l
-      → Decimal n (cond i [] (digit d ∷ []) ++ cond j [] (digit s ∷ []) ++ cond k [] (digit r ∷ []) ++ cond l [] (digit q ∷ []) ++ (digit p ∷ []))
+      → Decimal n
+      (cond i [] (digit d ∷ []) ++ cond j [] (digit s ∷ []) ++ cond k [] (digit r ∷ []) ++ cond l [] (digit q ∷ []) ++ (digit p ∷ []))
   by-tests false false false false e f g h = five (ltb-false n 10000 e)
   by-tests true false false false e f g h = four (omega (arith, ltb-true n 10000 e)) (ltb-false n 1000 f)
   by-tests true true false false e f g h = three (omega (arith, ltb-true n 1000 f)) (ltb-false n 100 g)

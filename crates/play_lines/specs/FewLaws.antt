@@ -1,5 +1,5 @@
--- A text has at most 442,368 bytes. An input of at most 65,536 bytes has at most 16,384 entries, since each record but the last takes four bytes
--- at least, and a line has at most 27 bytes. Assumes nothing.
+-- A text has at most 442,368 bytes. An input of at most 65,536 bytes has at most 16,384 entries, since each record but the last takes
+-- four bytes at least, and a line has at most 27 bytes. Assumes nothing.
 use mathlib.Core.Path.{_≡_, refl}
 use mathlib.Core.Bool.{Bool, true, false, cond}
 use mathlib.Core.List.{List, [], _∷_, _++_}
@@ -22,7 +22,8 @@ use Rattle.play_lines.specs.Text.{mostInput, mostText, tooLong, linesFro
 
 -- ── the entries ──
 -- a record and what follows it
-frame-few : (b : ℕ) (s : List ℕ) (n : ℕ) (t : Bool) → eqb (frameOf (b ∷ s)) 0 ≡ t → 4 * n ≤ length (drop (frameOf (b ∷ s)) (b ∷ s)) + 3 → 4 * suc (cond t 0 n) ≤ length (b ∷ s) + 3
+frame-few : (b : ℕ) (s : List ℕ) (n : ℕ) (t : Bool) → eqb (frameOf (b ∷ s)) 0 ≡ t → 4 * n ≤ length (drop (frameOf (b ∷ s)) (b ∷ s)) + 3
+    → 4 * suc (cond t 0 n) ≤ length (b ∷ s) + 3
 frame-few b s n true e h = omega arith
 frame-few b s n false e h =
     let p : (4 ≤ frameOf (b ∷ s)) × (frameOf (b ∷ s) ≤ length (b ∷ s)) = frame-place (b ∷ s) (eqb-false (frameOf (b ∷ s)) 0 e) in
@@ -37,7 +38,8 @@ frames-few (suc f) (b ∷ s) = frame-few b s _ (eqb (frameOf (b ∷ s)) 0) refl 
 after-few : (b : ℕ) (s : List ℕ) (x : Read) → Placed (length (b ∷ s)) x → 4 * framesAfter (b ∷ s) x ≤ length (b ∷ s) + 3
 after-few b s (Record e next) p =
     let d : length (drop next (b ∷ s)) ≡ length (b ∷ s) - next = length-drop next (b ∷ s) in
-    let h : 4 * frames (length (b ∷ s) - 1) (drop next (b ∷ s)) ≤ length (drop next (b ∷ s)) + 3 = frames-few (length (b ∷ s) - 1) (drop next (b ∷ s)) in
+    let h : 4 * frames (length (b ∷ s) - 1) (drop next (b ∷ s)) ≤ length (drop next (b ∷ s)) + 3 =
+    frames-few (length (b ∷ s) - 1) (drop next (b ∷ s)) in
     omega (arith, p .0, p .1)
 after-few b s (Refused k next) p = omega arith
 after-few b s Cut p = omega arith

@@ -55,8 +55,8 @@ pub record Puts (most : ℕ) (text : List ℕ) (at : ℕ) (old : List ℕ) (r : 
   pub few : r ≤ at + most
   pub wrote : new ≡ sets old at text
 
--- a text and a lent buffer: it stands at the start, every later byte is kept, and how many bytes it has is answered; or −5 where the buffer is
--- too short for all of it, which then keeps every byte
+-- a text and a lent buffer: it stands at the start, every later byte is kept, and how many bytes it has is answered; or −5 where the
+-- buffer is too short for all of it, which then keeps every byte
 pub record Written (text old : List ℕ) (r : ℤ) (new : List ℕ) : Type 0 where
   pub answer : r ≡ cond (leb (length text) (length old)) (pos (length text)) (negsuc 4)
   pub contents : new ≡ cond (leb (length text) (length old)) (text ++ drop (length text) old) old

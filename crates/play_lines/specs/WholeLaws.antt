@@ -15,7 +15,8 @@ pub same-answer : {text old new new′ : List ℕ} {r r′ : ℤ} → Written te
 same-answer p q = (p .answer ∙ sym (q .answer), p .contents ∙ sym (q .contents))
 
 pub never-short : (s : List ℕ) {old new : List ℕ} {r : ℤ}
-    → mostText ≤ length old → Written (textOf s) old r new → (r ≡ pos (length (textOf s))) × (new ≡ textOf s ++ drop (length (textOf s)) old)
+    → mostText ≤ length old → Written (textOf s) old r new
+    → (r ≡ pos (length (textOf s))) × (new ≡ textOf s ++ drop (length (textOf s)) old)
 never-short s {old} h w =
     let e : leb (length (textOf s)) (length old) ≡ true = le-leb (length (textOf s)) (length old) (omega (arith, text-few s)) in
     (w .answer ∙ simp e, w .contents ∙ simp e)

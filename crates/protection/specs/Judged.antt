@@ -27,13 +27,19 @@ unfoldable pub scanJudged : Settings → Bool → Bool → Runs → Judged
 scanJudged s above between n =
     let ov : ℕ = bump (cap Ov) (s .«adc_en» && above) (n .ov) in
     let uv : ℕ = bump (cap Uv) (s .«adc_en» && between) (n .uv) in
-    record { runs = record { ov = ov; uv = uv; scd = n .scd; ocd = n .ocd }; risen = record { ov = lasts Ov s ov; uv = lasts Uv s uv; scd = false; ocd = false } }
+    record {
+      runs = record { ov = ov; uv = uv; scd = n .scd; ocd = n .ocd };
+      risen = record { ov = lasts Ov s ov; uv = lasts Uv s uv; scd = false; ocd = false };
+    }
 
 unfoldable pub tickJudged : Settings → ℤ → Runs → Judged
 tickJudged s v n =
     let scd : ℕ = bump (cap Scd) (beyond (rule Scd s) v) (n .scd) in
     let ocd : ℕ = bump (cap Ocd) (beyond (rule Ocd s) v) (n .ocd) in
-    record { runs = record { ov = n .ov; uv = n .uv; scd = scd; ocd = ocd }; risen = record { ov = false; uv = false; scd = lasts Scd s scd; ocd = lasts Ocd s ocd } }
+    record {
+      runs = record { ov = n .ov; uv = n .uv; scd = scd; ocd = ocd };
+      risen = record { ov = false; uv = false; scd = lasts Scd s scd; ocd = lasts Ocd s ocd };
+    }
 
 pub scan-judged : (floor : ℕ) (s : Settings) (n : Runs) (xs : List ℕ)
     → scanJudged s (someAbove (rule Ov s .limit) xs) (someBetween floor (rule Uv s .limit) xs) n ≡ judgedBy floor s n (Scan xs)

@@ -1,5 +1,5 @@
--- Requests M-100 and M-109: ticks of one value, one after the other, and what they come to without counting them one by one: the runs by their number,
--- and what is due at the last of them, since what was due at one stays due at the next. Assumes nothing.
+-- Requests M-100 and M-109: ticks of one value, one after the other, and what they come to without counting them one by one: the runs by
+-- their number, and what is due at the last of them, since what was due at one stays due at the next. Assumes nothing.
 use mathlib.Core.Path.{_≡_, refl, ap, sym, _∙_}
 use mathlib.Core.Bool.{Bool, true, false, _&&_, true≢false}
 use Prim.Native.Nat.{ℕ, zero, suc, _+_, _≤_, min}
@@ -35,16 +35,23 @@ pub alike-not : (cap n run : ℕ) → alike cap false (suc n) run ≡ 0
 alike-not cap n run = refl
 
 -- what is due at one of them is due at the next
-pub due-stays : (k : Fault) (s : Settings) (b : Bool) (n run : ℕ) → lasts k s (alike (cap k) b (suc n) run) ≡ true → lasts k s (alike (cap k) b (suc (suc n)) run) ≡ true
+pub due-stays : (k : Fault) (s : Settings) (b : Bool) (n run : ℕ) → lasts k s (alike (cap k) b (suc n) run) ≡ true
+    → lasts k s (alike (cap k) b (suc (suc n)) run) ≡ true
 due-stays k s true n run h =
-    let l : rule k s .need ≤ min (cap k) (run + suc n) = leb-true (rule k s .need) _ (ap (lasts k s) (sym (alike-over (cap k) n run)) ∙ h) in
+    let l : rule k s .need ≤ min (cap k) (run + suc n) =
+    leb-true (rule k s .need) _ (ap (lasts k s) (sym (alike-over (cap k) n run)) ∙ h) in
     ap (lasts k s) (alike-over (cap k) (suc n) run) ∙ le-leb (rule k s .need) _ (omega arith)
 due-stays k s false n run h = h
 
 -- ── so one look is enough ──
 abbrev pub runsAlike : ℕ → Settings → ℤ → Runs → Runs
 runsAlike m s v n =
-    record { ov = n .ov; uv = n .uv; scd = alike (cap Scd) (beyond (rule Scd s) v) m (n .scd); ocd = alike (cap Ocd) (beyond (rule Ocd s) v) m (n .ocd) }
+    record {
+      ov = n .ov;
+      uv = n .uv;
+      scd = alike (cap Scd) (beyond (rule Scd s) v) m (n .scd);
+      ocd = alike (cap Ocd) (beyond (rule Ocd s) v) m (n .ocd);
+    }
 
 pub ticks-runs : (m : ℕ) (s : Settings) (v : ℤ) (n : Runs) → ticksJudged m s v n .runs ≡ runsAlike m s v n
 unfolding ticksJudged tickJudged
@@ -55,7 +62,12 @@ abbrev pub ticksAlike : ℕ → Settings → ℤ → Runs → Judged
 ticksAlike m s v n =
     record {
       runs = runsAlike m s v n;
-      risen = record { ov = false; uv = false; scd = ltb 0 m && lasts Scd s (runsAlike m s v n .scd); ocd = ltb 0 m && lasts Ocd s (runsAlike m s v n .ocd) };
+      risen = record {
+        ov = false;
+        uv = false;
+        scd = ltb 0 m && lasts Scd s (runsAlike m s v n .scd);
+        ocd = ltb 0 m && lasts Ocd s (runsAlike m s v n .ocd);
+      };
     }
 
 pub ticks-alike : (m : ℕ) (s : Settings) (v : ℤ) (n : Runs) → ticksJudged m s v n ≡ ticksAlike m s v n
@@ -64,20 +76,24 @@ ticks-alike zero s v n = refl
 ticks-alike (suc m) s v n = simp (ticks-runs m s v n, lt-ltb 0 (suc m) (omega arith))
 
 -- what they raise, and what one more raises
-due-scd : (m : ℕ) (s : Settings) (v : ℤ) (n : Runs) → ticksJudged (suc m) s v n .risen .scd ≡ lasts Scd s (alike (cap Scd) (beyond (rule Scd s) v) (suc m) (n .scd))
+due-scd : (m : ℕ) (s : Settings) (v : ℤ) (n : Runs)
+    → ticksJudged (suc m) s v n .risen .scd ≡ lasts Scd s (alike (cap Scd) (beyond (rule Scd s) v) (suc m) (n .scd))
 unfolding ticksJudged tickJudged
 due-scd m s v n = ap (λ (r : Runs). tickJudged s v r .risen .scd) (ticks-runs m s v n)
 
-due-ocd : (m : ℕ) (s : Settings) (v : ℤ) (n : Runs) → ticksJudged (suc m) s v n .risen .ocd ≡ lasts Ocd s (alike (cap Ocd) (beyond (rule Ocd s) v) (suc m) (n .ocd))
+due-ocd : (m : ℕ) (s : Settings) (v : ℤ) (n : Runs)
+    → ticksJudged (suc m) s v n .risen .ocd ≡ lasts Ocd s (alike (cap Ocd) (beyond (rule Ocd s) v) (suc m) (n .ocd))
 unfolding ticksJudged tickJudged
 due-ocd m s v n = ap (λ (r : Runs). tickJudged s v r .risen .ocd) (ticks-runs m s v n)
 
-pub scd-stays : (m : ℕ) (s : Settings) (v : ℤ) (n : Runs) → ticksJudged m s v n .risen .scd ≡ true → ticksJudged (suc m) s v n .risen .scd ≡ true
+pub scd-stays : (m : ℕ) (s : Settings) (v : ℤ) (n : Runs) → ticksJudged m s v n .risen .scd ≡ true
+    → ticksJudged (suc m) s v n .risen .scd ≡ true
 unfolding ticksJudged
 scd-stays zero s v n h = absurd (true≢false (sym h))
 scd-stays (suc m) s v n h = due-scd (suc m) s v n ∙ due-stays Scd s (beyond (rule Scd s) v) m (n .scd) (sym (due-scd m s v n) ∙ h)
 
-pub ocd-stays : (m : ℕ) (s : Settings) (v : ℤ) (n : Runs) → ticksJudged m s v n .risen .ocd ≡ true → ticksJudged (suc m) s v n .risen .ocd ≡ true
+pub ocd-stays : (m : ℕ) (s : Settings) (v : ℤ) (n : Runs) → ticksJudged m s v n .risen .ocd ≡ true
+    → ticksJudged (suc m) s v n .risen .ocd ≡ true
 unfolding ticksJudged
 ocd-stays zero s v n h = absurd (true≢false (sym h))
 ocd-stays (suc m) s v n h = due-ocd (suc m) s v n ∙ due-stays Ocd s (beyond (rule Ocd s) v) m (n .ocd) (sym (due-ocd m s v n) ∙ h)

@@ -47,7 +47,10 @@ and-right false false e = e
 fair-at : (most : ℕ) (xs : List ℕ) (i : ℕ) → i < length xs → fair most xs ≡ true → Fair most (getD xs i 0)
 fair-at most [] i h e = absurd (omega arith)
 fair-at most (x ∷ xs) zero h e =
-    record { least = leb-true 1 x (and-left (leb 1 x) _ e); capped = leb-true x most (and-left (leb x most) (fair most xs) (and-right (leb 1 x) _ e)) }
+    record {
+      least = leb-true 1 x (and-left (leb 1 x) _ e);
+      capped = leb-true x most (and-left (leb x most) (fair most xs) (and-right (leb 1 x) _ e));
+    }
 fair-at most (x ∷ xs) (suc i) h e =
     fair-at most xs i (omega arith) (and-right (leb x most) (fair most xs) (and-right (leb 1 x) _ e))
 
@@ -57,7 +60,9 @@ need-fair k s = by (short k s)
   where
     by : (b : Bool) → Fair (cap k) (cond b 1 (getD (delayTable k) (delayCode k s) 0))
     by true = fair-at (cap k) (1 ∷ delayTable k) 0 (omega arith) (delays-fair k)
-    by false = fair-at (cap k) (delayTable k) (delayCode k s) (code-there k s) (and-right (leb 1 (cap k)) _ (and-right (leb 1 1) _ (delays-fair k)))
+    by false =
+        fair-at (cap k) (delayTable k) (delayCode k s) (code-there k s)
+        (and-right (leb 1 (cap k)) _ (and-right (leb 1 1) _ (delays-fair k)))
 
 -- a run that ended raises nothing
 pub ended-waits : (k : Fault) (s : Settings) → leb (rule k s .need) 0 ≡ false

@@ -9,7 +9,8 @@ use borrow.Author.Tests.{eqb-true}
 use Rattle.events.specs.Event.{within, countsFit}
 use Rattle.events.specs.declared.Counts.{Counts}
 
-fit-by : (n : ℕ) (k : Counts) (t : Bool) → eqb (k .many) n ≡ t → t && within 0 (drop n (k .of)) ≡ true → (k .many ≡ n) × (within 0 (drop n (k .of)) ≡ true)
+fit-by : (n : ℕ) (k : Counts) (t : Bool) → eqb (k .many) n ≡ t → t && within 0 (drop n (k .of)) ≡ true
+    → (k .many ≡ n) × (within 0 (drop n (k .of)) ≡ true)
 fit-by n k true e h = (eqb-true _ _ e, h)
 fit-by n k false e h = absurd (let z : _≡_ {A = ℕ} 0 1 = cc in omega arith)
 

@@ -96,7 +96,8 @@ first-other r kind next h k =
     let p : payloadOf kind 0 (take (next - 4) (drop 4 r)) ≡ Unfit 2 = simp (ne-eqb kind 0 k) in
     sym (ap numberOf (framed-reads r kind next h 0 ∙ ap (asRead next) p))
 
-pub first-setup : (r : List ℕ) (kind next : ℕ) (p : Payload) → headerOf r ≡ Header kind next → kind ≡ 0 → p ≡ setupIn (take (next - 4) (drop 4 r)) → payloadNumber p ≡ numberOf (readOf 0 r)
+pub first-setup : (r : List ℕ) (kind next : ℕ) (p : Payload) → headerOf r ≡ Header kind next → kind ≡ 0
+    → p ≡ setupIn (take (next - 4) (drop 4 r)) → payloadNumber p ≡ numberOf (readOf 0 r)
 unfolding payloadOf
 first-setup r kind next p h k q =
     let e : payloadOf kind 0 (take (next - 4) (drop 4 r)) ≡ p = simp (eq-eqb kind 0 k) (sym q) in

@@ -11,8 +11,10 @@ use lib.ListN.{length, take, drop, length-append}
 use lib.Seq.{drop-append-seam}
 use borrow.Author.Tests.{ltb-false, le-ltb, eqb-true, ne-eqb}
 use Rattle.records.specs.Numbers.{le16}
-use Rattle.records.specs.Kind.{SETUP, POR, BOOT, SCAN, TEMP, COUNT, SENSE, PIN, LOAD, XREADY, START, OUT, IN, STOP, LEVEL, TICKS, SOAK, WIRES}
-use Rattle.records.specs.Record.{bareIn, countedIn, countIn, senseIn, switchIn, loadOf, levelOf, inOf, outIn, ticksIn, soakIn, wiresIn, groupsAt, inputsAt, laterOf, payloadOf, asRead, readOf, numberOf, takenFrom, takenAt}
+use Rattle.records.specs.Kind.{SETUP, POR, BOOT, SCAN, TEMP, COUNT, SENSE, PIN, LOAD, XREADY, START, OUT, IN, STOP, LEVEL, TICKS}
+use Rattle.records.specs.Kind.{SOAK, WIRES}
+use Rattle.records.specs.Record.{bareIn, countedIn, countIn, senseIn, switchIn, loadOf, levelOf, inOf, outIn, ticksIn, soakIn}
+use Rattle.records.specs.Record.{wiresIn, groupsAt, inputsAt, laterOf, payloadOf, asRead, readOf, numberOf, takenFrom, takenAt}
 use Rattle.events.specs.declared.BusEvent.the-variants.{Start, Stop}
 use Rattle.events.specs.declared.Event.{Event}
 use Rattle.events.specs.declared.Event.the-variants.{Por, Boot, Scan, Temp, Pin, Xready, OnBus}
@@ -31,7 +33,8 @@ placed-as : (len next : ℕ) (p : Payload) → 4 ≤ next → next ≤ len → P
 placed-as len next (Whole e) a b = (a, b)
 placed-as len next (Unfit k) a b = (a, b)
 
-placed-by : (part : ℕ) (r : List ℕ) (t u : Bool) → ltb (length r) 4 ≡ t → ltb (length r - 4) (le16 r 0) ≡ u → Placed (length r) (readOf part r)
+placed-by : (part : ℕ) (r : List ℕ) (t u : Bool) → ltb (length r) 4 ≡ t → ltb (length r - 4) (le16 r 0) ≡ u
+    → Placed (length r) (readOf part r)
 unfolding readOf
 placed-by part r true u et eu = simp et tt
 placed-by part r false true et eu = simp (et, eu) tt
@@ -58,9 +61,11 @@ whole-by : (part : ℕ) (r : List ℕ) (e : Event) (next : ℕ) (t u : Bool) →
     → readOf part r ≡ Record e next → WholeAt part r e next
 unfolding readOf
 whole-by part r e next true u et eu h = let m : Cut ≡ Record e next = simp et at h in absurd (let z : _≡_ {A = ℕ} 0 1 = cc in omega arith)
-whole-by part r e next false true et eu h = let m : Cut ≡ Record e next = simp (et, eu) at h in absurd (let z : _≡_ {A = ℕ} 0 1 = cc in omega arith)
+whole-by part r e next false true et eu h = let m : Cut ≡ Record e next =
+    simp (et, eu) at h in absurd (let z : _≡_ {A = ℕ} 0 1 = cc in omega arith)
 whole-by part r e next false false et eu h =
-    let m : (next ≡ 4 + le16 r 0) × (payloadOf (le16 r 2) part (take (le16 r 0) (drop 4 r)) ≡ Whole e) = whole-as (4 + le16 r 0) next _ e (simp (et, eu) at h) in
+    let m : (next ≡ 4 + le16 r 0) × (payloadOf (le16 r 2) part (take (le16 r 0) (drop 4 r)) ≡ Whole e) =
+    whole-as (4 + le16 r 0) next _ e (simp (et, eu) at h) in
     record { header = ltb-false _ _ et; room = ltb-false _ _ eu; ended = m .0; payload = m .1 }
 
 pub read-whole : (part : ℕ) (r : List ℕ) (e : Event) (next : ℕ) → readOf part r ≡ Record e next → WholeAt part r e next
@@ -83,7 +88,8 @@ module _ (P : ℕ → Payload → Type 0) where
   kind-by kind k x y = kind-bool kind k x y (eqb kind k) refl
 
   pub later-by : (part : ℕ) (b : List ℕ)
-      → P POR (bareIn Por b) → P BOOT (bareIn Boot b) → P SCAN (countedIn Scan (inputsAt part) b) → P TEMP (countedIn Temp (groupsAt part) b)
+      → P POR (bareIn Por b) → P BOOT (bareIn Boot b) → P SCAN (countedIn Scan (inputsAt part) b)
+      → P TEMP (countedIn Temp (groupsAt part) b)
       → P COUNT (countIn b) → P SENSE (senseIn b) → P PIN (bareIn Pin b) → P LOAD (switchIn loadOf b) → P XREADY (bareIn Xready b)
       → P START (bareIn (OnBus Start) b) → P OUT (outIn b) → P IN (switchIn inOf b) → P STOP (bareIn (OnBus Stop) b)
       → P LEVEL (switchIn levelOf b)
@@ -115,7 +121,8 @@ cond-by P true x y a b = a refl
 cond-by P false x y a b = b
 
 -- ── the order of the numbers ──
-nine-by : (part : ℕ) (r : List ℕ) (t u : Bool) → ltb (length r) 4 ≡ t → ltb (length r - 4) (le16 r 0) ≡ u → length r < 4 + le16 r 0 → numberOf (readOf part r) ≡ 9
+nine-by : (part : ℕ) (r : List ℕ) (t u : Bool) → ltb (length r) 4 ≡ t → ltb (length r - 4) (le16 r 0) ≡ u → length r < 4 + le16 r 0
+    → numberOf (readOf part r) ≡ 9
 unfolding readOf
 nine-by part r true u et eu h = simp et
 nine-by part r false true et eu h = simp (et, eu)
@@ -134,7 +141,8 @@ pub second-setup : (part : ℕ) (b : List ℕ) → part ≢ 0 → payloadOf SETU
 unfolding payloadOf laterOf
 second-setup part b h = simp (ne-eqb part 0 h)
 
-pub unknown-kind : (kind part : ℕ) (b : List ℕ) → part ≢ 0 → XREADY < kind → (kind < START) ⊎ (SOAK < kind) → payloadOf kind part b ≡ Unfit 2
+pub unknown-kind : (kind part : ℕ) (b : List ℕ) → part ≢ 0 → XREADY < kind → (kind < START) ⊎ (SOAK < kind)
+    → payloadOf kind part b ≡ Unfit 2
 unfolding payloadOf laterOf
 unknown-kind kind part b h l m =
     simp (

@@ -12,15 +12,18 @@ use lib.ListN.{length, getD, take, drop}
 use lib.IntN.{ℤ}
 use borrow.Author.Tests.{eqb-true, leb-true, ne-eqb}
 use Rattle.events.specs.Setup.{setupFits, setupOf, checkedOf, groups, inputs}
-use Rattle.events.specs.Event.{Level as Level-, within, countMost, senseFits, ticksMost, soakMost, ticksFit, fits, countsFit, inRange, meantOf}
+use Rattle.events.specs.Event.{Level as Level-, within, countMost, senseFits, ticksMost, soakMost, ticksFit, fits, countsFit, inRange}
+use Rattle.events.specs.Event.{meantOf}
 use Rattle.events.specs.declared.Setup.{Setup as SetupValues}
 use Rattle.events.specs.declared.Counts.{Counts}
 use Rattle.events.specs.declared.BusEvent.the-variants.{Start, Out, In, Stop}
 use Rattle.events.specs.declared.Event.{Event}
-use Rattle.events.specs.declared.Event.the-variants.{Setup, Por, Boot, Scan, Temp, Count, Sense, Pin, Load, Xready, OnBus, Level, Ticks, Soak, Wires}
+use Rattle.events.specs.declared.Event.the-variants.{Setup, Por, Boot, Scan, Temp, Count, Sense, Pin, Load, Xready, OnBus, Level, Ticks}
+use Rattle.events.specs.declared.Event.the-variants.{Soak, Wires}
 use Rattle.records.specs.Numbers.{le16, le32, signed32, bitOf, words}
 use Rattle.records.specs.Kind.{SETUP}
-use Rattle.records.specs.Record.{setupGood, checkedIn, setupIn, countedIn, senseOf, repeatOf, ticksOf, soakOf, payloadOf, laterOf, readOf, groupsAt, inputsAt, countsOf, countsIn, countsBeside}
+use Rattle.records.specs.Record.{setupGood, checkedIn, setupIn, countedIn, senseOf, repeatOf, ticksOf, soakOf, payloadOf, laterOf}
+use Rattle.records.specs.Record.{readOf, groupsAt, inputsAt, countsOf, countsIn, countsBeside}
 use Rattle.records.specs.CountedLaws.{counts-fit, counts-taken, few-groups, few-inputs}
 use Rattle.records.specs.ReadingLaws.{WholeAt, read-whole, later-by, cond-by}
 use Rattle.records.specs.declared.Payload.{Payload}
@@ -50,7 +53,10 @@ pub crc-back : (p c a g f : ℕ) → setupFits p c a g f ≡ true → bitOf (eqb
 crc-back p c a g f h =
     let x : Bool = leb 1 p && leb p 3 && leb c 1 in
     let y : Bool = x && leb 0x08 a && leb a 0x77 in
-    bit-back c (and-right (leb 1 p && leb p 3) (leb c 1) (and-left x (leb 0x08 a) (and-left (x && leb 0x08 a) (leb a 0x77) (and-left y (leb g 31) (and-left (y && leb g 31) (leb f 4095) h)))))
+    bit-back c
+    (and-right (leb 1 p && leb p 3) (leb c 1)
+    (and-left x (leb 0x08 a)
+    (and-left (x && leb 0x08 a) (leb a 0x77) (and-left y (leb g 31) (and-left (y && leb g 31) (leb f 4095) h)))))
 
 pub setup-good : (p c a g o f : ℕ) → setupFits p c a g f ≡ true → setupGood (setupOf p c a g o f) ≡ true
 setup-good p c a g o f h = ap (λ (n : ℕ). setupFits p n a g f && true) (crc-back p c a g f h) ∙ ap (λ (t : Bool). t && true) h
@@ -85,7 +91,8 @@ first-ok : (kind : ℕ) (b : List ℕ) → FirstOk (payloadOf kind 0 b)
 unfolding payloadOf setupIn
 first-ok kind b =
     cond-by FirstOk (eqb kind SETUP) _ (Unfit 2)
-    (λ k. cond-by FirstOk (eqb (length b) 7) _ (Unfit 2) (λ l. checked-ok (getD b 0 0) (getD b 1 0) (getD b 2 0) (getD b 3 0) (getD b 4 0) (le16 b 5) _ refl) tt)
+    (λ k. cond-by FirstOk (eqb (length b) 7) _ (Unfit 2)
+    (λ l. checked-ok (getD b 0 0) (getD b 1 0) (getD b 2 0) (getD b 3 0) (getD b 4 0) (le16 b 5) _ refl) tt)
     tt
 
 pub first-setup : (r : List ℕ) (e : Event) (next : ℕ) → readOf 0 r ≡ Record e next → IsSetup e
@@ -183,8 +190,10 @@ later-ok u kind b =
     (sized 1 (cond bit (Whole (OnBus (In level))) (Unfit 3)) (λ l. ranged bit (Whole (OnBus (In level))) (λ f w. refl)))
     (sized 0 (Whole (OnBus Stop)) (λ l w. refl))
     (sized 1 (cond bit (Whole (Level level)) (Unfit 3)) (λ l. ranged bit (Whole (Level level)) (λ f w. refl)))
-    (sized 6 (repeatOf ticksOf ticksMost (le32 b 0) (le16 b 4)) (λ l. ranged (ticksFit ticksMost value (le16 b 4)) (Whole (Ticks value (le16 b 4))) (λ f w. f)))
-    (sized 8 (repeatOf soakOf soakMost (le32 b 0) (le32 b 4)) (λ l. ranged (ticksFit soakMost value (le32 b 4)) (Whole (Soak value (le32 b 4))) (λ f w. f)))
+    (sized 6 (repeatOf ticksOf ticksMost (le32 b 0) (le16 b 4))
+    (λ l. ranged (ticksFit ticksMost value (le16 b 4)) (Whole (Ticks value (le16 b 4))) (λ f w. f)))
+    (sized 8 (repeatOf soakOf soakMost (le32 b 0) (le32 b 4))
+    (λ l. ranged (ticksFit soakMost value (le32 b 4)) (Whole (Soak value (le32 b 4))) (λ f w. f)))
     (sized 1 (Whole (Wires (getD b 0 0))) (λ l w. absurd (true≢false w)))
     (λ (k : ℕ). tt)
     kind
@@ -208,7 +217,8 @@ later-ok u kind b =
     ranged t x f = cond-by (LaterOk u b) t x (Unfit 3) f tt
 
 -- a record read at the part of a setup means an event that fits
-pub later-means : (u : SetupValues) (r : List ℕ) (e : Event) (next : ℕ) → u .part ≢ 0 → readOf (u .part) r ≡ Record e next → isWires e ≡ false
+pub later-means : (u : SetupValues) (r : List ℕ) (e : Event) (next : ℕ) → u .part ≢ 0 → readOf (u .part) r ≡ Record e next
+    → isWires e ≡ false
     → Meaning u e (countsBeside r (Record e next))
 unfolding payloadOf
 later-means u r e next h q z =

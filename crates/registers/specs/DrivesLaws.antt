@@ -1,4 +1,5 @@
--- Document 01, "Registers" and "Judging": a drive is stored 1 under none of its faults, and a fault that rises puts its drive off. Assumes nothing.
+-- Document 01, "Registers" and "Judging": a drive is stored 1 under none of its faults, and a fault that rises puts its drive off.
+-- Assumes nothing.
 use mathlib.Core.Path.{_≡_, refl}
 use mathlib.Core.Bool.{Bool, true, false, _&&_, _||_}
 use Prim.Native.Nat.{ℕ}

@@ -40,7 +40,15 @@ abbrev pub overridden : Shown → Shown
 overridden s =
     record {
       status =
-          record { «cc_ready» = s .status .«cc_ready»; xready = s .status .xready; «ovrd_alert» = true; uv = s .status .uv; ov = s .status .ov; scd = s .status .scd; ocd = s .status .ocd };
+          record {
+            «cc_ready» = s .status .«cc_ready»;
+            xready = s .status .xready;
+            «ovrd_alert» = true;
+            uv = s .status .uv;
+            ov = s .status .ov;
+            scd = s .status .scd;
+            ocd = s .status .ocd;
+          };
       «cc_oneshot» = s .«cc_oneshot»;
       «dsg_on» = false;
       «chg_on» = false;
@@ -50,7 +58,15 @@ abbrev pub readied : Shown → Shown
 readied s =
     record {
       status =
-          record { «cc_ready» = s .status .«cc_ready»; xready = true; «ovrd_alert» = s .status .«ovrd_alert»; uv = s .status .uv; ov = s .status .ov; scd = s .status .scd; ocd = s .status .ocd };
+          record {
+            «cc_ready» = s .status .«cc_ready»;
+            xready = true;
+            «ovrd_alert» = s .status .«ovrd_alert»;
+            uv = s .status .uv;
+            ov = s .status .ov;
+            scd = s .status .scd;
+            ocd = s .status .ocd;
+          };
       «cc_oneshot» = s .«cc_oneshot»;
       «dsg_on» = false;
       «chg_on» = false;
@@ -61,7 +77,15 @@ abbrev pub counting : Shown → Shown
 counting s =
     record {
       status =
-          record { «cc_ready» = true; xready = s .status .xready; «ovrd_alert» = s .status .«ovrd_alert»; uv = s .status .uv; ov = s .status .ov; scd = s .status .scd; ocd = s .status .ocd };
+          record {
+            «cc_ready» = true;
+            xready = s .status .xready;
+            «ovrd_alert» = s .status .«ovrd_alert»;
+            uv = s .status .uv;
+            ov = s .status .ov;
+            scd = s .status .scd;
+            ocd = s .status .ocd;
+          };
       «cc_oneshot» = false;
       «dsg_on» = s .«dsg_on»;
       «chg_on» = s .«chg_on»;

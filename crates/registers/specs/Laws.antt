@@ -22,7 +22,20 @@ use Rattle.registers.specs.Read.{statusByte, cellbalByte, controlByte, h
 pub read-only : (u : Setup) (a v : ℕ) (r : Registers) → 0x0B < a → written u a v r ≡ r
 unfolding settingsWith shownWith cellbalWith
 read-only u a v r h =
-    simp (differs 0x00 (omega arith), differs 0x01 (omega arith), differs 0x02 (omega arith), differs 0x03 (omega arith), differs 0x04 (omega arith), differs 0x05 (omega arith), differs 0x06 (omega arith), differs 0x07 (omega arith), differs 0x08 (omega arith), differs 0x09 (omega arith), differs 0x0A (omega arith), differs 0x0B (omega arith))
+    simp (
+      differs 0x00 (omega arith),
+      differs 0x01 (omega arith),
+      differs 0x02 (omega arith),
+      differs 0x03 (omega arith),
+      differs 0x04 (omega arith),
+      differs 0x05 (omega arith),
+      differs 0x06 (omega arith),
+      differs 0x07 (omega arith),
+      differs 0x08 (omega arith),
+      differs 0x09 (omega arith),
+      differs 0x0A (omega arith),
+      differs 0x0B (omega arith),
+    )
   where
     differs : (n : ℕ) → n ≤ 0x0B → eqb a n ≡ false
     differs n k = ne-eqb a n (λ e. omega arith)
@@ -55,17 +68,38 @@ half-none a = by (eqb (a % 2) 0)
 pub lacks-five : (u : Setup) (r : Registers) (a : ℕ) → groups u < a → a < 0x04 → readAt u r a ≡ 0
 unfolding readAt controlByte
 lacks-five u r a h k =
-    simp (lt-ltb a 0x0C (omega arith), ne-eqb a 0x00 (λ e. omega arith), ne-eqb a 0x04 (λ e. omega arith), ne-eqb a 0x05 (λ e. omega arith), lt-ltb a 0x04 k, lacks-cellbal-byte u (r .cellbal) a h)
+    simp (
+      lt-ltb a 0x0C (omega arith),
+      ne-eqb a 0x00 (λ e. omega arith),
+      ne-eqb a 0x04 (λ e. omega arith),
+      ne-eqb a 0x05 (λ e. omega arith),
+      lt-ltb a 0x04 k,
+      lacks-cellbal-byte u (r .cellbal) a h,
+    )
 
 pub lacks-cell : (u : Setup) (r : Registers) (a : ℕ) → 0x0C + 2 * inputs u ≤ a → a < 0x2A → readAt u r a ≡ 0
 unfolding readAt wordAt
 lacks-cell u r a h k =
-    simp (le-ltb a 0x0C (omega arith), lt-ltb a 0x34 (omega arith), lt-ltb a 0x2A k, le-ltb ((a - 0x0C) / 2) (inputs u) (omega arith), half-none)
+    simp (
+      le-ltb a 0x0C (omega arith),
+      lt-ltb a 0x34 (omega arith),
+      lt-ltb a 0x2A k,
+      le-ltb ((a - 0x0C) / 2) (inputs u) (omega arith),
+      half-none,
+    )
 
 pub lacks-thermistor : (u : Setup) (r : Registers) (a : ℕ) → 0x2C + 2 * groups u ≤ a → a < 0x32 → readAt u r a ≡ 0
 unfolding readAt wordAt
 lacks-thermistor u r a h k =
-    simp (le-ltb a 0x0C (omega arith), lt-ltb a 0x34 (omega arith), le-ltb a 0x2A (omega arith), le-ltb a 0x2C (omega arith), lt-ltb a 0x32 k, le-ltb ((a - 0x2C) / 2) (groups u) (omega arith), half-none)
+    simp (
+      le-ltb a 0x0C (omega arith),
+      lt-ltb a 0x34 (omega arith),
+      le-ltb a 0x2A (omega arith),
+      le-ltb a 0x2C (omega arith),
+      lt-ltb a 0x32 k,
+      le-ltb ((a - 0x2C) / 2) (groups u) (omega arith),
+      half-none,
+    )
 
 pub unnamed : (u : Setup) (r : Registers) (a : ℕ) → 0x34 ≤ a → (a ≡ 0x50 → ⊥) → (a ≡ 0x51 → ⊥) → (a ≡ 0x59 → ⊥) → readAt u r a ≡ 0
 unfolding readAt fixedByte
@@ -73,7 +107,16 @@ unnamed u r a h p q s = simp (le-ltb a 0x0C (omega arith), le-ltb a 0x34 h, ne-e
 
 -- ── no read depends on the offset, but 0x51 itself ──
 abbrev pub withOffset : ℕ → Setup → Setup
-withOffset o u = record { part = u .part; crc = u .crc; address = u .address; «gain_code» = u .«gain_code»; offset = o; floor = u .floor; cells = u .cells }
+withOffset o u =
+    record {
+      part = u .part;
+      crc = u .crc;
+      address = u .address;
+      «gain_code» = u .«gain_code»;
+      offset = o;
+      floor = u .floor;
+      cells = u .cells;
+    }
 
 pub offset-alone : (o : ℕ) (u : Setup) (r : Registers) (a : ℕ) → (a ≡ 0x51 → ⊥) → readAt (withOffset o u) r a ≡ readAt u r a
 unfolding readAt controlByte cellbalByte wordAt fixedByte groups inputs
@@ -108,16 +151,24 @@ plain-back uvTrip v r = refl
 plain-back ccCfg v r = omega arith
 
 -- and SYS_STAT holds what the ones written did not clear
-pub status-back : (u : Setup) (v : ℕ) (r : Registers) → readAt u (written u 0x00 v r) 0x00 ≡ statusByte (without (statusOf v) (r .shown .status))
+pub status-back : (u : Setup) (v : ℕ) (r : Registers)
+    → readAt u (written u 0x00 v r) 0x00 ≡ statusByte (without (statusOf v) (r .shown .status))
 unfolding readAt controlByte shownWith
 status-back u v r = refl
 
 -- ── ALERT is up when SYS_STAT is not 0 ──
-some-bit : (a b c d e f g : Bool) → a || b || c || d || e || f || g ≡ not (eqb (weighed a 128 + weighed b 32 + weighed c 16 + weighed d 8 + weighed e 4 + weighed f 2 + weighed g 1) 0)
-some-bit true b c d e f g = sym (ap not (ne-eqb (128 + weighed b 32 + weighed c 16 + weighed d 8 + weighed e 4 + weighed f 2 + weighed g 1) 0 (λ z. omega (arith, z))))
-some-bit false true c d e f g = sym (ap not (ne-eqb (0 + 32 + weighed c 16 + weighed d 8 + weighed e 4 + weighed f 2 + weighed g 1) 0 (λ z. omega (arith, z))))
-some-bit false false true d e f g = sym (ap not (ne-eqb (0 + 0 + 16 + weighed d 8 + weighed e 4 + weighed f 2 + weighed g 1) 0 (λ z. omega (arith, z))))
-some-bit false false false true e f g = sym (ap not (ne-eqb (0 + 0 + 0 + 8 + weighed e 4 + weighed f 2 + weighed g 1) 0 (λ z. omega (arith, z))))
+some-bit : (a b c d e f g : Bool)
+    → a || b || c || d || e || f || g
+    ≡ not (eqb (weighed a 128 + weighed b 32 + weighed c 16 + weighed d 8 + weighed e 4 + weighed f 2 + weighed g 1) 0)
+some-bit true b c d e f g =
+    sym (ap not
+    (ne-eqb (128 + weighed b 32 + weighed c 16 + weighed d 8 + weighed e 4 + weighed f 2 + weighed g 1) 0 (λ z. omega (arith, z))))
+some-bit false true c d e f g =
+    sym (ap not (ne-eqb (0 + 32 + weighed c 16 + weighed d 8 + weighed e 4 + weighed f 2 + weighed g 1) 0 (λ z. omega (arith, z))))
+some-bit false false true d e f g =
+    sym (ap not (ne-eqb (0 + 0 + 16 + weighed d 8 + weighed e 4 + weighed f 2 + weighed g 1) 0 (λ z. omega (arith, z))))
+some-bit false false false true e f g =
+    sym (ap not (ne-eqb (0 + 0 + 0 + 8 + weighed e 4 + weighed f 2 + weighed g 1) 0 (λ z. omega (arith, z))))
 some-bit false false false false true f g = sym (ap not (ne-eqb (0 + 0 + 0 + 0 + 4 + weighed f 2 + weighed g 1) 0 (λ z. omega (arith, z))))
 some-bit false false false false false true g = sym (ap not (ne-eqb (0 + 0 + 0 + 0 + 0 + 2 + weighed g 1) 0 (λ z. omega (arith, z))))
 some-bit false false false false false false true = refl
@@ -144,4 +195,11 @@ same-word u m a e h =
 pub pair-low : (u : Setup) (r : Registers) (a : ℕ) → a % 2 ≡ 0 → 0x0C ≤ a → a ≤ 0x32 → pairAt u r a .low ≡ readAt u r (a + 1)
 unfolding pairAt readAt half
 pair-low u r a e h k =
-    simp (le-ltb a 0x0C h, lt-ltb a 0x34 (omega arith), le-ltb (a + 1) 0x0C (omega arith), lt-ltb (a + 1) 0x34 (omega arith), ne-eqb ((a + 1) % 2) 0 (λ z. omega arith), same-word u (r .measured) a e h)
+    simp (
+      le-ltb a 0x0C h,
+      lt-ltb a 0x34 (omega arith),
+      le-ltb (a + 1) 0x0C (omega arith),
+      lt-ltb (a + 1) 0x34 (omega arith),
+      ne-eqb ((a + 1) % 2) 0 (λ z. omega arith),
+      same-word u (r .measured) a e h,
+    )

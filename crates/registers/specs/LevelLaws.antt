@@ -1,5 +1,5 @@
--- Document 02, M-103: the outside level over the registers. Where it is 1 a bit of SYS_STAT is up after every event that leaves the chip in NORMAL; it
--- raises OVRD_ALERT alone, and where a bit is up, or the level is 0, it does nothing. Assumes nothing.
+-- Document 02, M-103: the outside level over the registers. Where it is 1 a bit of SYS_STAT is up after every event that leaves the chip
+-- in NORMAL; it raises OVRD_ALERT alone, and where a bit is up, or the level is 0, it does nothing. Assumes nothing.
 use mathlib.Core.Path.{_≡_, refl, sym, ap, _∙_}
 use mathlib.Core.Bool.{Bool, true, false, _||_, cond, true≢false}
 use Prim.Native.Nat.{ℕ}
@@ -63,7 +63,8 @@ level-bit k true s = by k (alert (s .status))
     by Ocd false = refl
 
 -- with the level 1 and SYS_STAT 0 it raises OVRD_ALERT and puts both drives off
-pub level-rises : (r : Registers) → r .«outside_level» ≡ true → alert (r .shown .status) ≡ false → pulledByLevel r .shown ≡ overridden (r .shown)
+pub level-rises : (r : Registers) → r .«outside_level» ≡ true → alert (r .shown .status) ≡ false
+    → pulledByLevel r .shown ≡ overridden (r .shown)
 level-rises r h a = simp (h, a)
 
 -- PIN and XREADY leave a bit up, and so does COUNT where it moves anything

@@ -59,7 +59,9 @@ pub unnamed-bits : {a : ℕ} {bits : ℕ → ℕ} → Named a bits → (u : Setu
 unfolding readAt controlByte cellbalByte settingsByte fixedByte
 unnamed-bits sysStat u r =
     let t = r .shown .status in
-    let low = weighed (t .xready) 32 + weighed (t .«ovrd_alert») 16 + weighed (t .uv) 8 + weighed (t .ov) 4 + weighed (t .scd) 2 + weighed (t .ocd) 1 in
+    let low =
+    weighed (t .xready) 32 + weighed (t .«ovrd_alert») 16 + weighed (t .uv) 8 + weighed (t .ov) 4 + weighed (t .scd) 2
+    + weighed (t .ocd) 1 in
     split (statusByte t) (weighed (t .«cc_ready») 1) low (omega (arith, times (t .«cc_ready») 128)) (one (t .«cc_ready»))
     (omega (arith, most (t .xready) 32, most (t .«ovrd_alert») 16, most (t .uv) 8, most (t .ov) 4, most (t .scd) 2, most (t .ocd) 1))
 unnamed-bits cellbal1 u r = either (leb 1 (groups u)) (r .cellbal .cellbal1)
@@ -69,12 +71,15 @@ unnamed-bits sysCtrl1 u r =
     let t = r .settings in
     let load = r .«load_level» && not (r .shown .«chg_on») in
     split-4 (ctrl1Byte r) (weighed load 1) (weighed (t .«adc_en») 1 * 2 + weighed (t .«temp_sel») 1) (weighed (t .«shut_b») 1)
-    (omega (arith, times load 128, times (t .«adc_en») 16, times (t .«temp_sel») 8)) (omega (arith, one (t .«adc_en»), one (t .«temp_sel»))) (omega (arith, one (t .«shut_b»)))
+    (omega (arith, times load 128, times (t .«adc_en») 16, times (t .«temp_sel») 8))
+    (omega (arith, one (t .«adc_en»), one (t .«temp_sel»))) (omega (arith, one (t .«shut_b»)))
 unnamed-bits sysCtrl2 u r =
     let t = r .settings in
     let w = r .shown in
-    split-5 (ctrl2Byte r) (weighed (t .«delay_dis») 1 * 4 + weighed (t .«cc_en») 1 * 2 + weighed (w .«cc_oneshot») 1) (weighed (w .«dsg_on») 2 + weighed (w .«chg_on») 1)
-    (omega (arith, times (t .«delay_dis») 128, times (t .«cc_en») 64, times (w .«cc_oneshot») 32)) (omega (arith, most (w .«dsg_on») 2, one (w .«chg_on»)))
+    split-5 (ctrl2Byte r) (weighed (t .«delay_dis») 1 * 4 + weighed (t .«cc_en») 1 * 2 + weighed (w .«cc_oneshot») 1)
+    (weighed (w .«dsg_on») 2 + weighed (w .«chg_on») 1)
+    (omega (arith, times (t .«delay_dis») 128, times (t .«cc_en») 64, times (w .«cc_oneshot») 32))
+    (omega (arith, most (w .«dsg_on») 2, one (w .«chg_on»)))
 unnamed-bits protect1 u r = omega arith
 unnamed-bits protect2 u r = omega arith
 unnamed-bits protect3 u r = omega arith

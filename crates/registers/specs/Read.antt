@@ -3,7 +3,8 @@ use mathlib.Core.Bool.{not, _&&_, cond}
 use Prim.Native.Nat.{ℕ, _+_, _-_, _*_, _/_, _%_}
 use lib.ListN.{getD}
 use lib.Dec.{eqb, leb, ltb}
-use Rattle.constants.specs.Address.{«SYS_STAT», CELLBAL1, CELLBAL2, CELLBAL3, «SYS_CTRL1», «SYS_CTRL2», VC1, BAT, TS1, CC, «AFTER_CC», ADCGAIN1, ADCOFFSET, ADCGAIN2}
+use Rattle.constants.specs.Address.{«SYS_STAT», CELLBAL1, CELLBAL2, CELLBAL3, «SYS_CTRL1», «SYS_CTRL2», VC1, BAT, TS1, CC, «AFTER_CC»}
+use Rattle.constants.specs.Address.{ADCGAIN1, ADCOFFSET, ADCGAIN2}
 use Rattle.constants.specs.Weight.{«CC_READY», XREADY, «OVRD_ALERT», UV, OV, SCD, OCD, «LOAD_PRESENT», «ADC_EN», «TEMP_SEL», «SHUT_B»}
 use Rattle.constants.specs.Weight.{«DELAY_DIS», «CC_EN», «CC_ONESHOT», «DSG_ON», «CHG_ON»}
 use Rattle.events.specs.declared.Setup.{Setup}
@@ -20,7 +21,8 @@ use Rattle.registers.specs.Write.{fiveOf}
 -- 0x00 SYS_STAT: CC_READY 7, XREADY 5, OVRD_ALERT 4, UV 3, OV 2, SCD 1, OCD 0
 abbrev pub statusByte : Status → ℕ
 statusByte t =
-    weighed (t .«cc_ready») «CC_READY» + weighed (t .xready) XREADY + weighed (t .«ovrd_alert») «OVRD_ALERT» + weighed (t .uv) UV + weighed (t .ov) OV
+    weighed (t .«cc_ready») «CC_READY» + weighed (t .xready) XREADY + weighed (t .«ovrd_alert») «OVRD_ALERT» + weighed (t .uv) UV
+    + weighed (t .ov) OV
     + weighed (t .scd) SCD + weighed (t .ocd) OCD
 
 -- 0x01 to 0x03 CELLBAL: bits 4 to 0, for the inputs that the part has

@@ -24,26 +24,81 @@ abbrev pub nothing : Measured
 nothing = record { cells = replicate cellPlaces 0; bat = 0; ts = replicate tsPlaces 0; cc = 0 }
 
 abbrev pub reset : Registers
-reset = record { settings = resetSettings; shown = dark; cellbal = noCellbal; measured = nothing; «load_level» = false; «outside_level» = false }
+reset = record {
+  settings = resetSettings;
+  shown = dark;
+  cellbal = noCellbal;
+  measured = nothing;
+  «load_level» = false;
+  «outside_level» = false;
+}
 
 -- ── one part put anew ──
 abbrev pub withSettings : Settings → Registers → Registers
-withSettings s r = record { settings = s; shown = r .shown; cellbal = r .cellbal; measured = r .measured; «load_level» = r .«load_level»; «outside_level» = r .«outside_level» }
+withSettings s r =
+    record {
+      settings = s;
+      shown = r .shown;
+      cellbal = r .cellbal;
+      measured = r .measured;
+      «load_level» = r .«load_level»;
+      «outside_level» = r .«outside_level»;
+    }
 
 abbrev pub withShown : Shown → Registers → Registers
-withShown s r = record { settings = r .settings; shown = s; cellbal = r .cellbal; measured = r .measured; «load_level» = r .«load_level»; «outside_level» = r .«outside_level» }
+withShown s r =
+    record {
+      settings = r .settings;
+      shown = s;
+      cellbal = r .cellbal;
+      measured = r .measured;
+      «load_level» = r .«load_level»;
+      «outside_level» = r .«outside_level»;
+    }
 
 abbrev pub withCellbal : Cellbal → Registers → Registers
-withCellbal b r = record { settings = r .settings; shown = r .shown; cellbal = b; measured = r .measured; «load_level» = r .«load_level»; «outside_level» = r .«outside_level» }
+withCellbal b r =
+    record {
+      settings = r .settings;
+      shown = r .shown;
+      cellbal = b;
+      measured = r .measured;
+      «load_level» = r .«load_level»;
+      «outside_level» = r .«outside_level»;
+    }
 
 abbrev pub withMeasured : Measured → Registers → Registers
-withMeasured m r = record { settings = r .settings; shown = r .shown; cellbal = r .cellbal; measured = m; «load_level» = r .«load_level»; «outside_level» = r .«outside_level» }
+withMeasured m r =
+    record {
+      settings = r .settings;
+      shown = r .shown;
+      cellbal = r .cellbal;
+      measured = m;
+      «load_level» = r .«load_level»;
+      «outside_level» = r .«outside_level»;
+    }
 
 abbrev pub withLoadLevel : Bool → Registers → Registers
-withLoadLevel l r = record { settings = r .settings; shown = r .shown; cellbal = r .cellbal; measured = r .measured; «load_level» = l; «outside_level» = r .«outside_level» }
+withLoadLevel l r =
+    record {
+      settings = r .settings;
+      shown = r .shown;
+      cellbal = r .cellbal;
+      measured = r .measured;
+      «load_level» = l;
+      «outside_level» = r .«outside_level»;
+    }
 
 abbrev pub withOutsideLevel : Bool → Registers → Registers
-withOutsideLevel l r = record { settings = r .settings; shown = r .shown; cellbal = r .cellbal; measured = r .measured; «load_level» = r .«load_level»; «outside_level» = l }
+withOutsideLevel l r =
+    record {
+      settings = r .settings;
+      shown = r .shown;
+      cellbal = r .cellbal;
+      measured = r .measured;
+      «load_level» = r .«load_level»;
+      «outside_level» = l;
+    }
 
 abbrev pub withStatus : Status → Shown → Shown
 withStatus t s = record { status = t; «cc_oneshot» = s .«cc_oneshot»; «dsg_on» = s .«dsg_on»; «chg_on» = s .«chg_on» }

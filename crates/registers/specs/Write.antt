@@ -74,4 +74,11 @@ cellbalWith u a v b =
 -- ── the whole: what is measured, and the load level and the outside level, no write moves ──
 abbrev pub written : Setup → ℕ → ℕ → Registers → Registers
 written u a v r =
-    record { settings = settingsWith a v (r .settings); shown = shownWith a v (r .shown); cellbal = cellbalWith u a v (r .cellbal); measured = r .measured; «load_level» = r .«load_level»; «outside_level» = r .«outside_level» }
+    record {
+      settings = settingsWith a v (r .settings);
+      shown = shownWith a v (r .shown);
+      cellbal = cellbalWith u a v (r .cellbal);
+      measured = r .measured;
+      «load_level» = r .«load_level»;
+      «outside_level» = r .«outside_level»;
+    }

@@ -1,5 +1,5 @@
--- Request M-110, "Connected is M-108's rule": of a chip, the bit of an input is up exactly where the part has the input and it is connected.
--- Inputs are counted from 0, as bleed has them. Assumes nothing.
+-- Request M-110, "Connected is M-108's rule": of a chip, the bit of an input is up exactly where the part has the input and it is
+-- connected. Inputs are counted from 0, as bleed has them. Assumes nothing.
 use mathlib.Core.Path.{_≡_, refl, sym, ap, ap₂, _∙_}
 use mathlib.Core.Bool.{Bool, true, false, _&&_, cond}
 use mathlib.Core.List.{List, [], _∷_}
@@ -32,13 +32,15 @@ higher-bit t r i =
     ∙ ap (λ (x : ℕ). eqb (x % 2) 1) (sym (div-div-eq-div-mul (cond t 1 0 + 2 * r) 2 (2 ^ i)) ∙ ap (λ (x : ℕ). x / 2 ^ i) (halved t r))
 
 bit-is : (such : ℕ → Bool) (j k i : ℕ) → bit (bits such j k) (2 ^ i) ≡ ltb i k && such (i + j)
-bit-is such j zero i = ap (λ (x : ℕ). eqb (x % 2) 1) (zero-div (2 ^ i)) ∙ ap (λ (t : Bool). t && such (i + j)) (sym (le-ltb i 0 (omega arith)))
+bit-is such j zero i =
+    ap (λ (x : ℕ). eqb (x % 2) 1) (zero-div (2 ^ i)) ∙ ap (λ (t : Bool). t && such (i + j)) (sym (le-ltb i 0 (omega arith)))
 bit-is such j (suc k) zero =
     let e : j ≡ 0 + j = omega arith in
     lowest-bit (such j) (bits such (suc j) k) ∙ ap₂ (λ (t : Bool) (n : ℕ). t && such n) (sym (lt-ltb 0 (suc k) (omega arith))) e
 bit-is such j (suc k) (suc i) =
     let e : i + suc j ≡ suc i + j = omega arith in
-    higher-bit (such j) (bits such (suc j) k) i ∙ bit-is such (suc j) k i ∙ ap₂ (λ (t : Bool) (n : ℕ). t && such n) (sym (leb·suc-suc (suc i) k)) e
+    higher-bit (such j) (bits such (suc j) k) i ∙ bit-is such (suc j) k i
+    ∙ ap₂ (λ (t : Bool) (n : ℕ). t && such n) (sym (leb·suc-suc (suc i) k)) e
 
 -- ── the weights are the powers of two ──
 doubles : ℕ → List ℕ → Bool
@@ -58,7 +60,8 @@ unfolding doubles
 weight-is i h = let e : 1 * 2 ^ i ≡ 2 ^ i = omega arith in weight weights 1 i refl h ∙ e
 
 -- ── of a chip ──
-pub linked-is : (c : Chip) (i : ℕ) → i < 15 → linkedAt (linkedOf c) i ≡ ltb i (inputs (c .setup)) && connected (c .setup) (cellsOf c) (i + 1)
+pub linked-is : (c : Chip) (i : ℕ) → i < 15
+    → linkedAt (linkedOf c) i ≡ ltb i (inputs (c .setup)) && connected (c .setup) (cellsOf c) (i + 1)
 unfolding linkedAt linkedBits
 linked-is c i h = ap (λ (w : ℕ). bit (linkedOf c) w) (weight-is i h) ∙ bit-is (connected (c .setup) (cellsOf c)) 1 (inputs (c .setup)) i
 

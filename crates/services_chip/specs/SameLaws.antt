@@ -34,5 +34,6 @@ proposal-back (P.No n) = refl
 pub same-proposal : (s : Said Choice) (v w : Proposal) → saidProposal v ≡ s → saidProposal w ≡ s → v ≡ w
 same-proposal s v w p q = sym (proposal-back v) ∙ ap proposalBack (p ∙ sym q) ∙ proposal-back w
 
-pub same-reply : (s : Said ℕ) (command : ℕ) (old : List ℕ) (r t : ℕ) (new other : List ℕ) → Replied s command old r new → Replied s command old t other → (r ≡ t) × (new ≡ other)
+pub same-reply : (s : Said ℕ) (command : ℕ) (old : List ℕ) (r t : ℕ) (new other : List ℕ) → Replied s command old r new
+    → Replied s command old t other → (r ≡ t) × (new ≡ other)
 same-reply s command old r t new other p q = (p .answer ∙ sym (q .answer), p .contents ∙ sym (q .contents))

@@ -9,6 +9,9 @@ use constants::number;
 use constants::range;
 use smart_battery::Pack;
 
+// A margin is a difference of counts.
+const MARGIN_MOST: u32 = range::COUNT_MOST as u32;
+
 // The CELLBAL bytes, or the number that refuses them: 3, 4 or 10.
 pub enum Proposal {
     Is(Choice),
@@ -19,7 +22,7 @@ pub enum Proposal {
 pub fn bleeding(chip: Chip, margin: u32) -> Proposal
     ensures { λ r. ⌜ saidProposal r ≡ proposalSaid margin chip ⌝ }
 {
-    if (1 <= margin) & (margin <= range::COUNT_MOST as u32) {
+    if (1 <= margin) & (margin <= MARGIN_MOST) {
         if chip.normal {
             let registers = chip.registers;
             let measured = registers.measured;

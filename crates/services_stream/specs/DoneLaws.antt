@@ -56,10 +56,12 @@ signed-numbered (negsuc n) = fits-numbered (leb n 32767) (65535 - n)
 asked-numbered : (p : Pack) (total : ℤ) (command r : ℕ) → Numbered (askedFor p total command r)
 unfolding askedFor
 asked-numbered p total command r =
-    by (eqb command 0x08) (p .external) (eqb command 0x09) (p .connected) (unsignedSaid (kelvins (p .warmth))) (unsignedSaid (millivolts total)) (signedSaid (milliamps (p .cc) r))
+    by (eqb command 0x08) (p .external) (eqb command 0x09) (p .connected) (unsignedSaid (kelvins (p .warmth)))
+    (unsignedSaid (millivolts total)) (signedSaid (milliamps (p .cc) r))
     (unsigned-numbered (kelvins (p .warmth))) (unsigned-numbered (millivolts total)) (signed-numbered (milliamps (p .cc) r))
   where
-    by : (t e v k : Bool) (x y z : Said ℕ) → Numbered x → Numbered y → Numbered z → Numbered (cond t (cond e (refuses 12) x) (cond v (cond k y (refuses 10)) z))
+    by : (t e v k : Bool) (x y z : Said ℕ) → Numbered x → Numbered y → Numbered z
+        → Numbered (cond t (cond e (refuses 12) x) (cond v (cond k y (refuses 10)) z))
     by true true v k x y z p q r = small 12 refl
     by true false v k x y z p q r = p
     by false e true true x y z p q r = q
@@ -107,11 +109,13 @@ pub record Proposes (s : List ℕ) (margin : ℕ) (old new : List ℕ) : Type 0 
 
 pub done-bleeds : (s : List ℕ) (margin : ℕ) (old new : List ℕ) → Bled (proposalAt s margin) old 0 new → Proposes s margin old new
 done-bleeds s margin old new b =
-    let g : Given s (proposalSaid margin (lastChip s)) (length old) = given s (length old) _ (proposal-numbered margin (lastChip s)) (b .answer) in
+    let g : Given s (proposalSaid margin (lastChip s)) (length old) =
+    given s (length old) _ (proposal-numbered margin (lastChip s)) (b .answer) in
     record {
       choice = g .value;
       is = g .is;
-      wrote = b .contents ∙ ap (λ (x : Said Choice). bledBytes x old) (g .stands) ∙ ap (λ (t : Bool). cond t old (choiceBytes (g .value) ++ drop 3 old)) (g .fits);
+      wrote = b .contents ∙ ap (λ (x : Said Choice). bledBytes x old) (g .stands)
+          ∙ ap (λ (t : Bool). cond t old (choiceBytes (g .value) ++ drop 3 old)) (g .fits);
     }
 
 -- .. and of toralinge_reply the word of the chip that stands, with its PEC
@@ -123,15 +127,19 @@ pub record Replies (s : List ℕ) (command r : ℕ) (old new : List ℕ) : Type 
   pub is : wordOf s command r ≡ gives word
   pub wrote : new ≡ replyBytes command word ++ drop 3 old
 
-pub done-replies : (s : List ℕ) (command r : ℕ) (old new : List ℕ) → Replied (wordAt s command r) command old 0 new → Replies s command r old new
+pub done-replies : (s : List ℕ) (command r : ℕ) (old new : List ℕ) → Replied (wordAt s command r) command old 0 new
+    → Replies s command r old new
 done-replies s command r old new b =
-    let g : Given s (wordOf s command r) (length old) = given s (length old) _ (word-numbered (packOf (lastChip s)) (linkedTotal (lastChip s)) command r) (b .answer) in
+    let g : Given s (wordOf s command r) (length old) =
+    given s (length old) _ (word-numbered (packOf (lastChip s)) (linkedTotal (lastChip s)) command r) (b .answer) in
     record {
       word = g .value;
       is = g .is;
-      wrote = b .contents ∙ ap (λ (x : Said ℕ). repliedBytes x command old) (g .stands) ∙ ap (λ (t : Bool). cond t old (replyBytes command (g .value) ++ drop 3 old)) (g .fits);
+      wrote = b .contents ∙ ap (λ (x : Said ℕ). repliedBytes x command old) (g .stands)
+          ∙ ap (λ (t : Bool). cond t old (replyBytes command (g .value) ++ drop 3 old)) (g .fits);
     }
 
 -- two answers of toralinge_bleed; those of toralinge_reply are care's `same-reply`
-pub same-bled : {said : Said Choice} {old new other : List ℕ} {r t : ℕ} → Bled said old r new → Bled said old t other → (r ≡ t) × (new ≡ other)
+pub same-bled : {said : Said Choice} {old new other : List ℕ} {r t : ℕ} → Bled said old r new → Bled said old t other
+    → (r ≡ t) × (new ≡ other)
 same-bled p q = (p .answer ∙ sym (q .answer), p .contents ∙ sym (q .contents))

@@ -16,7 +16,8 @@ cond-by P false h k = k
 
 -- what holds of each way to write the settings, and of the settings as they were, holds after a write
 pub settings-by : (P : Settings → Type 0) (a v : ℕ) (s : Settings)
-    → (eqb a 0x04 ≡ true → P (withCtrl1 (bit v 16) (bit v 8) (keepsPair v s) s)) → (eqb a 0x05 ≡ true → P (withCtrl2 (bit v 128) (bit v 64) s))
+    → (eqb a 0x04 ≡ true → P (withCtrl1 (bit v 16) (bit v 8) (keepsPair v s) s))
+    → (eqb a 0x05 ≡ true → P (withCtrl2 (bit v 128) (bit v 64) s))
     → (eqb a 0x06 ≡ true → P (withProtect1 (protect1Of v) s)) → (eqb a 0x07 ≡ true → P (withProtect2 (protect2Of v) s))
     → (eqb a 0x08 ≡ true → P (withProtect3 (protect3Of v) s)) → (eqb a 0x09 ≡ true → P (withOvTrip v s))
     → (eqb a 0x0A ≡ true → P (withUvTrip v s)) → (eqb a 0x0B ≡ true → P (withCcCfg (ccCfgOf v) s)) → P s → P (settingsWith a v s)
@@ -33,7 +34,8 @@ clash e f = let z : _≡_ {A = ℕ} 0 1 = cc in absurd (omega arith)
 -- writes to other registers between do not matter
 pub pair-stays : (a v : ℕ) (s : Settings) → (a ≡ 0x04 → ⊥) → settingsWith a v s .«shut_b» ≡ s .«shut_b»
 pair-stays a v s h =
-    settings-by (λ t. t .«shut_b» ≡ s .«shut_b») a v s (clash (ne-eqb a 0x04 h)) (λ e. refl) (λ e. refl) (λ e. refl) (λ e. refl) (λ e. refl) (λ e. refl) (λ e. refl) refl
+    settings-by (λ t. t .«shut_b» ≡ s .«shut_b») a v s (clash (ne-eqb a 0x04 h)) (λ e. refl) (λ e. refl) (λ e. refl) (λ e. refl)
+    (λ e. refl) (λ e. refl) (λ e. refl) refl
 
 -- pair (0,1) is kept while (0,0) is held, and the pair (1,0) then enters SHIP
 pub then-ships : (v w : ℕ) (s : Settings) → s .«shut_b» ≡ false → shutA v ≡ false → shutB v ≡ true → shutA w ≡ true → shutB w ≡ false

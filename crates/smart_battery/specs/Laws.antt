@@ -14,7 +14,8 @@ use Rattle.smart_battery.specs.Words.{kelvins, milliamps, toward, unsign
 
 -- ── Temperature ──
 die : (z : ℤ) → pos 680000 +ℤ z +ℤ pos 546300 ≡ pos 1226300 +ℤ z
-die z = +ℤ-assoc (pos 680000) z (pos 546300) ∙ ap (λ (y : ℤ). pos 680000 +ℤ y) (+ℤ-comm z (pos 546300)) ∙ sym (+ℤ-assoc (pos 680000) (pos 546300) z)
+die z = +ℤ-assoc (pos 680000) z (pos 546300) ∙ ap (λ (y : ℤ). pos 680000 +ℤ y) (+ℤ-comm z (pos 546300))
+    ∙ sym (+ℤ-assoc (pos 680000) (pos 546300) z)
 
 less : (a b : ℕ) → b ≤ a → pos a +ℤ negℤ (pos b) ≡ pos (a - b)
 less a zero h = ap pos (omega arith)
@@ -25,7 +26,8 @@ under a zero h = absurd (omega arith)
 under a (suc k) h = rw (lt-ltb a (suc k) h)
 
 pub warm-is : (count : ℕ) → 177 * count ≤ 1226300 → unsignedSaid (kelvins count) ≡ gives ((1226300 - 177 * count) / 200)
-warm-is count h = rw (die (negℤ (pos (177 * count))), less 1226300 (177 * count) h, le-leb ((1226300 - 177 * count) / 200) 65535 (omega arith))
+warm-is count h =
+    rw (die (negℤ (pos (177 * count))), less 1226300 (177 * count) h, le-leb ((1226300 - 177 * count) / 200) 65535 (omega arith))
 
 pub cold-is : (count : ℕ) → 1226300 < 177 * count → unsignedSaid (kelvins count) ≡ refuses 11
 cold-is count h = rw (die (negℤ (pos (177 * count))), under 1226300 (177 * count) h)
@@ -59,7 +61,8 @@ minus-far : (q : ℕ) → 32768 < q → signedSaid (negℤ (pos q)) ≡ refuses 
 minus-far zero h = absurd (omega arith)
 minus-far (suc q) h = rw (lt-leb q 32767 (omega arith))
 
-pub draw-is : (cc r : ℕ) → 32768 ≤ cc → cc < 65536 → 844 * (65536 - cc) / (100 * r) ≤ 32768 → signedSaid (milliamps cc r) ≡ gives ((65536 - 844 * (65536 - cc) / (100 * r)) % 65536)
+pub draw-is : (cc r : ℕ) → 32768 ≤ cc → cc < 65536 → 844 * (65536 - cc) / (100 * r) ≤ 32768
+    → signedSaid (milliamps cc r) ≡ gives ((65536 - 844 * (65536 - cc) / (100 * r)) % 65536)
 draw-is cc r h k l = ap signedSaid (drawing cc r h k) ∙ minus-said (844 * (65536 - cc) / (100 * r)) l
 
 pub draw-far : (cc r : ℕ) → 32768 ≤ cc → cc < 65536 → 32768 < 844 * (65536 - cc) / (100 * r) → signedSaid (milliamps cc r) ≡ refuses 11

@@ -1,5 +1,4 @@
 pub mod Steps
 pub mod Loop
 pub mod Counting
-pub mod Given
 pub mod Doubles

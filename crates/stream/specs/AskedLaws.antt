@@ -12,7 +12,8 @@ use Rattle.stream.specs.Stream.{lastChip}
 unfoldable pub standingSaid : {A : Type 0} → List ℕ → Said A → Said A
 standingSaid s said = cond (eqb (lastChip s .setup .part) 0) (refuses (numberOf (readOf 0 s))) said
 
-pub standing-none : {A : Type 0} (s : List ℕ) (said : Said A) → eqb (lastChip s .setup .part) 0 ≡ true → standingSaid s said ≡ refuses (numberOf (readOf 0 s))
+pub standing-none : {A : Type 0} (s : List ℕ) (said : Said A) → eqb (lastChip s .setup .part) 0 ≡ true
+    → standingSaid s said ≡ refuses (numberOf (readOf 0 s))
 unfolding standingSaid
 standing-none s said e = rw e
 

@@ -5,7 +5,8 @@ use Prim.Native.Nat.{ℕ, zero, suc}
 use lib.ListN.{length, drop}
 use Rattle.events.specs.declared.Counts.{Counts}
 use Rattle.events.specs.declared.Event.{Event}
-use Rattle.events.specs.declared.Event.the-variants.{Setup, Por, Boot, Scan, Temp, Count, Sense, Pin, Load, Xready, OnBus, Level, Ticks, Soak, Wires}
+use Rattle.events.specs.declared.Event.the-variants.{Setup, Por, Boot, Scan, Temp, Count, Sense, Pin, Load, Xready, OnBus, Level, Ticks}
+use Rattle.events.specs.declared.Event.the-variants.{Soak, Wires}
 use Rattle.events.specs.declared.Setup.{Setup as SetupValues}
 use Rattle.events.specs.Setup.{withCells}
 use Rattle.events.specs.Event.{meantOf}
@@ -63,7 +64,8 @@ stands-calm zero o c s k = k
 stands-calm (suc f) o c [] k = k
 stands-calm (suc f) o c (b ∷ s) k =
     let k′ : Calmed (turnOf o c (b ∷ s) .chip) = turn-calm o c (b ∷ s) k in
-    by-last (turnOf o c (b ∷ s) .last) (turnOf o c (b ∷ s) .chip) (stands f (turnOf o c (b ∷ s) .fresh) (turnOf o c (b ∷ s) .chip) (drop (turnOf o c (b ∷ s) .next) (b ∷ s))) k′
+    by-last (turnOf o c (b ∷ s) .last) (turnOf o c (b ∷ s) .chip)
+    (stands f (turnOf o c (b ∷ s) .fresh) (turnOf o c (b ∷ s) .chip) (drop (turnOf o c (b ∷ s) .next) (b ∷ s))) k′
     (stands-calm f (turnOf o c (b ∷ s) .fresh) (turnOf o c (b ∷ s) .chip) (drop (turnOf o c (b ∷ s) .next) (b ∷ s)) k′)
 
 pub calm-from : (o : Bool) (c : Chip) (s : List ℕ) → Calmed c → Calmed (chipFrom o c s)

@@ -11,7 +11,8 @@ use borrow.Author.Tests.{eq-eqb, ne-eqb, ltb-false, eqb-true, eqb-false}
 use Rattle.events.specs.declared.Setup.{Setup as SetupValues}
 use Rattle.events.specs.declared.Counts.{Counts}
 use Rattle.events.specs.declared.Event.{Event}
-use Rattle.events.specs.declared.Event.the-variants.{Setup, Por, Boot, Scan, Temp, Count, Sense, Pin, Load, Xready, OnBus, Level, Ticks, Soak, Wires}
+use Rattle.events.specs.declared.Event.the-variants.{Setup, Por, Boot, Scan, Temp, Count, Sense, Pin, Load, Xready, OnBus, Level, Ticks}
+use Rattle.events.specs.declared.Event.the-variants.{Soak, Wires}
 use Rattle.events.specs.Setup.{withCells}
 use Rattle.records.specs.declared.Payload.{Payload}
 use Rattle.records.specs.declared.Payload.the-variants.{Whole, Unfit}
@@ -64,7 +65,8 @@ abbrev Stands : Chip → Type 0
 Stands c = c .setup .part ≢ 0
 
 -- a turn's entry and what follows it, by what was read
-module _ (f : ℕ) (o : Bool) (c : Chip) (r : List ℕ) (p : Stands c) (ih : (o : Bool) (c : Chip) (s : List ℕ) → Stands c → length (runs f o c s) ≡ frames f s) where
+module _ (f : ℕ) (o : Bool) (c : Chip) (r : List ℕ) (p : Stands c)
+    (ih : (o : Bool) (c : Chip) (s : List ℕ) → Stands c → length (runs f o c s) ≡ frames f s) where
   after : Turn → ℕ
   after t = suc (length (cond (t .last) [] (runs f (t .fresh) (t .chip) (drop (t .next) r))))
 
@@ -79,7 +81,8 @@ module _ (f : ℕ) (o : Bool) (c : Chip) (r : List ℕ) (p : Stands c) (ih : (o 
   turn-frames (Record e next) q g =
       let k : Counts = countsBeside r (Record e next) in
       let u : withCells 0 (acted o e k c .chip .setup) ≡ withCells 0 (c .setup) = acted-keeps o c r e next p q in
-      ap suc (ih (staysFresh o c (acted o e k c)) (acted o e k c .chip) (drop next r) (λ z. p (ap (λ (v : SetupValues). v .part) (sym u) ∙ z))) ∙ sym (past next (g .0) (g .1))
+      ap suc (ih (staysFresh o c (acted o e k c)) (acted o e k c .chip) (drop next r)
+      (λ z. p (ap (λ (v : SetupValues). v .part) (sym u) ∙ z))) ∙ sym (past next (g .0) (g .1))
   turn-frames (Refused k next) q g =
       simp (ne-eqb (c .setup .part) 0 p) (ap suc (ih o c (drop next r) p) ∙ sym (past next (g .0) (g .1)))
   turn-frames Cut q g = sym (ap (λ (k : ℕ). suc (cond (eqb k 0) 0 (frames f (drop k r)))) g)
@@ -88,20 +91,25 @@ pub frames-are : (f : ℕ) (o : Bool) (c : Chip) (s : List ℕ) → Stands c →
 unfolding turnOf after
 frames-are zero o c s p = refl
 frames-are (suc f) o c [] p = refl
-frames-are (suc f) o c (b ∷ s) p = turn-frames f o c (b ∷ s) p (λ o c s p. frames-are f o c s p) (readOf (c .setup .part) (b ∷ s)) refl (framed (c .setup .part) (b ∷ s))
+frames-are (suc f) o c (b ∷ s) p =
+    turn-frames f o c (b ∷ s) p (λ o c s p. frames-are f o c s p) (readOf (c .setup .part) (b ∷ s)) refl (framed (c .setup .part) (b ∷ s))
 
 -- ── the first record ──
 part-stands : (v : SetupValues) → setupGood v ≡ true → v .part ≢ 0
 part-stands v h z = omega (arith, good-part v h .0, z)
 
 first-frames : (o : Bool) (c : Chip) (b : ℕ) (s : List ℕ) → c .setup .part ≡ 0 → (x : Read) → readOf 0 (b ∷ s) ≡ x
-    → length (turned o c (b ∷ s) x .entry ∷ cond (turned o c (b ∷ s) x .last) [] (runs (length s) (turned o c (b ∷ s) x .fresh) (turned o c (b ∷ s) x .chip) (drop (turned o c (b ∷ s) x .next) (b ∷ s)))) ≡ framesAfter (b ∷ s) x
+    → length (turned o c (b ∷ s) x .entry ∷ cond (turned o c (b ∷ s) x .last) []
+    (runs (length s) (turned o c (b ∷ s) x .fresh) (turned o c (b ∷ s) x .chip) (drop (turned o c (b ∷ s) x .next) (b ∷ s))))
+    ≡ framesAfter (b ∷ s) x
 unfolding acted
 first-frames o c b s p (Record e next) q =
     let n : length s ≡ length (b ∷ s) - 1 = omega arith in
     by e (first-setup (b ∷ s) e next q) ∙ ap (λ (k : ℕ). suc (frames k (drop next (b ∷ s)))) n
   where
-    by : (e : Event) → IsSetup e → suc (length (runs (length s) (staysFresh o c (acted o e (countsBeside (b ∷ s) (Record e next)) c)) (acted o e (countsBeside (b ∷ s) (Record e next)) c .chip) (drop next (b ∷ s)))) ≡ suc (frames (length s) (drop next (b ∷ s)))
+    by : (e : Event) → IsSetup e
+        → suc (length (runs (length s) (staysFresh o c (acted o e (countsBeside (b ∷ s) (Record e next)) c))
+        (acted o e (countsBeside (b ∷ s) (Record e next)) c .chip) (drop next (b ∷ s)))) ≡ suc (frames (length s) (drop next (b ∷ s)))
     by (Setup v) g = ap suc (frames-are (length s) (staysFresh o c (bornOf v)) (inShip v) (drop next (b ∷ s)) (part-stands v g))
     by Por g = absurd g
     by Boot g = absurd g
@@ -117,14 +125,17 @@ first-frames o c b s p (Record e next) q =
     by (Ticks v n) g = absurd g
     by (Soak v n) g = absurd g
     by (Wires n) g = absurd g
-first-frames o c b s p (Refused k next) q = ap (λ (t : Bool). suc (length (cond t [] (runs (length s) o c (drop next (b ∷ s)))))) (eq-eqb (c .setup .part) 0 p)
+first-frames o c b s p (Refused k next) q =
+    ap (λ (t : Bool). suc (length (cond t [] (runs (length s) o c (drop next (b ∷ s)))))) (eq-eqb (c .setup .part) 0 p)
 first-frames o c b s p Cut q = refl
 
 frames-first : (o : Bool) (c : Chip) (s : List ℕ) → c .setup .part ≡ 0 → length (runs (length s) o c s) ≡ framesOf s
 unfolding framesOf turnOf
 frames-first o c [] p = refl
 frames-first o c (b ∷ s) p =
-    ap (λ (x : Read). length (turned o c (b ∷ s) x .entry ∷ cond (turned o c (b ∷ s) x .last) [] (runs (length s) (turned o c (b ∷ s) x .fresh) (turned o c (b ∷ s) x .chip) (drop (turned o c (b ∷ s) x .next) (b ∷ s))))) (ap (λ (n : ℕ). readOf n (b ∷ s)) p)
+    ap (λ (x : Read). length (turned o c (b ∷ s) x .entry ∷ cond (turned o c (b ∷ s) x .last) []
+    (runs (length s) (turned o c (b ∷ s) x .fresh) (turned o c (b ∷ s) x .chip) (drop (turned o c (b ∷ s) x .next) (b ∷ s)))))
+    (ap (λ (n : ℕ). readOf n (b ∷ s)) p)
     ∙ first-frames o c b s p (readOf 0 (b ∷ s)) refl
 
 -- THE COUNT: how many entries there are, from the framing and the first record alone

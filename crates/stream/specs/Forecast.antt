@@ -14,7 +14,8 @@ use Rattle.stream.specs.Stream.{lastChip}
 
 -- where no chip stands the first record's number, 9 for an empty stream; 4 asleep, 10 where no cell is connected; then 5 for room below 4
 abbrev pub readingNumber : List ℕ → Chip → ℕ → ℕ
-readingNumber s c room = cond (eqb (c .setup .part) 0) (numberOf (readOf 0 s)) (cond (eqb (forecastNumber c) 0) (cond (ltb room 4) 5 0) (forecastNumber c))
+readingNumber s c room =
+    cond (eqb (c .setup .part) 0) (numberOf (readOf 0 s)) (cond (eqb (forecastNumber c) 0) (cond (ltb room 4) 5 0) (forecastNumber c))
 
 -- whether a reading is given
 abbrev pub isGiven : Chip → ℕ → Bool

@@ -2,7 +2,6 @@ pub mod Stream
 pub mod Often
 pub mod Frames
 pub mod CountedLaws
-pub mod Convert
 pub mod Forecast
 pub mod AskedLaws
 pub mod CalmLaws

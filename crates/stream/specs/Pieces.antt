@@ -1,4 +1,5 @@
--- Records fed in pieces: cut anywhere between two records, they give the entries and leave the chip that they give and leave as one. Assumes nothing.
+-- Records fed in pieces: cut anywhere between two records, they give the entries and leave the chip that they give and leave as one.
+-- Assumes nothing.
 use mathlib.Core.Path.{_≡_, refl, ap, sym, _∙_, subst}
 use mathlib.Core.Bool.{Bool, true, false, cond}
 use mathlib.Core.Logic.{_≢_}
@@ -24,9 +25,11 @@ use Rattle.stream.specs.PrefixLaws.{Whole-records, none-left, one-more, 
 abbrev Alike : ℕ → ℕ → Bool → Chip → List ℕ → Type 0
 Alike f g o c s = (runs f o c s ≡ runs g o c s) × (stands f o c s ≡ stands g o c s) × (stays f o c s ≡ stays g o c s)
 
-rest-fits : (o : Bool) (c : Chip) (b : ℕ) (s : List ℕ) → turnOf o c (b ∷ s) .last ≡ false → length (drop (turnOf o c (b ∷ s) .next) (b ∷ s)) ≤ length s
+rest-fits : (o : Bool) (c : Chip) (b : ℕ) (s : List ℕ) → turnOf o c (b ∷ s) .last ≡ false
+    → length (drop (turnOf o c (b ∷ s) .next) (b ∷ s)) ≤ length s
 rest-fits o c b s l =
-    let d : length (drop (turnOf o c (b ∷ s) .next) (b ∷ s)) ≡ length (b ∷ s) - turnOf o c (b ∷ s) .next = length-drop (turnOf o c (b ∷ s) .next) (b ∷ s) in
+    let d : length (drop (turnOf o c (b ∷ s) .next) (b ∷ s)) ≡ length (b ∷ s) - turnOf o c (b ∷ s) .next =
+    length-drop (turnOf o c (b ∷ s) .next) (b ∷ s) in
     omega (arith, d, turn-past o c (b ∷ s) l)
 
 module _ (f g : ℕ) (o : Bool) (c : Chip) (b : ℕ) (s : List ℕ) where
@@ -117,13 +120,15 @@ module _ (o : Bool) (c : Chip) (b : ℕ) (p : List ℕ) (l : turnOf o c (b ∷ p
       where
         P : List Entry → Bool → Chip → Type 0
         P r o′ c′ =
-            (runs (suc f) o c (b ∷ (p ++ s)) ≡ r ++ runs g o′ c′ s) × (stands (suc f) o c (b ∷ (p ++ s)) ≡ stands g o′ c′ s) × (stays (suc f) o c (b ∷ (p ++ s)) ≡ stays g o′ c′ s)
+            (runs (suc f) o c (b ∷ (p ++ s)) ≡ r ++ runs g o′ c′ s) × (stands (suc f) o c (b ∷ (p ++ s)) ≡ stands g o′ c′ s)
+            × (stays (suc f) o c (b ∷ (p ++ s)) ≡ stays g o′ c′ s)
 
 splits-none : (f g : ℕ) (o : Bool) (c : Chip) (s : List ℕ) → Alike f g o c s → Splits f g o c [] s
 splits-none zero g o c s a = a
 splits-none (suc f) g o c s a = a
 
-splits : {o : Bool} {c : Chip} {p : List ℕ} (w : Whole-records o c p) (f g : ℕ) (s : List ℕ) → length (p ++ s) ≤ f → length s ≤ g → Splits f g o c p s
+splits : {o : Bool} {c : Chip} {p : List ℕ} (w : Whole-records o c p) (f g : ℕ) (s : List ℕ) → length (p ++ s) ≤ f → length s ≤ g
+    → Splits f g o c p s
 splits (none-left o c) f g s x y = splits-none f g o c s (enough f g o c s x y)
 splits (one-more o c b p l w) zero g s x y = absurd (omega (arith, x))
 splits (one-more o c b p l w) (suc f) g s x y =
@@ -147,13 +152,16 @@ fed-in-two {o} {c} {a} w b =
     by (runs f o c a) (stays f o c a) (stands f o c a) (e .0) (e .2) (e .1) (i .0) (i .1) (i .2)
   where
     by : (r : List Entry) (o′ : Bool) (c′ : Chip) → r ≡ runs (length a) o c a → o′ ≡ stays (length a) o c a → c′ ≡ stands (length a) o c a
-        → runs (length (a ++ b)) o c (a ++ b) ≡ r ++ runs (length b) o′ c′ b → stands (length (a ++ b)) o c (a ++ b) ≡ stands (length b) o′ c′ b
+        → runs (length (a ++ b)) o c (a ++ b) ≡ r ++ runs (length b) o′ c′ b
+        → stands (length (a ++ b)) o c (a ++ b) ≡ stands (length b) o′ c′ b
         → stays (length (a ++ b)) o c (a ++ b) ≡ stays (length b) o′ c′ b → In-two o c a b
     by r o′ c′ er eo ec x y z = record {
       gives =
-          x ∙ ap (λ (r : List Entry). r ++ runs (length b) o′ c′ b) er ∙ ap (λ (o′ : Bool). runs (length a) o c a ++ runs (length b) o′ c′ b) eo
+          x ∙ ap (λ (r : List Entry). r ++ runs (length b) o′ c′ b) er
+          ∙ ap (λ (o′ : Bool). runs (length a) o c a ++ runs (length b) o′ c′ b) eo
           ∙ ap (λ (c′ : Chip). runs (length a) o c a ++ runs (length b) (stays (length a) o c a) c′ b) ec;
-      leaves = y ∙ ap (λ (o′ : Bool). stands (length b) o′ c′ b) eo ∙ ap (λ (c′ : Chip). stands (length b) (stays (length a) o c a) c′ b) ec;
+      leaves = y ∙ ap (λ (o′ : Bool). stands (length b) o′ c′ b) eo
+          ∙ ap (λ (c′ : Chip). stands (length b) (stays (length a) o c a) c′ b) ec;
       opens = z ∙ ap (λ (o′ : Bool). stays (length b) o′ c′ b) eo ∙ ap (λ (c′ : Chip). stays (length b) (stays (length a) o c a) c′ b) ec;
     }
 
@@ -177,9 +185,11 @@ fedFresh o c (a ∷ ps) = fedFresh (freshFrom o c a) (chipFrom o c a) ps
 -- each is whole records on the chip that those before it leave
 pub data Whole-pieces : Bool → Chip → List (List ℕ) → Type 0 where
   no-piece : (o : Bool) (c : Chip) → Whole-pieces o c []
-  a-piece : (o : Bool) (c : Chip) (a : List ℕ) (ps : List (List ℕ)) → Whole-records o c a → Whole-pieces (freshFrom o c a) (chipFrom o c a) ps → Whole-pieces o c (a ∷ ps)
+  a-piece : (o : Bool) (c : Chip) (a : List ℕ) (ps : List (List ℕ)) → Whole-records o c a
+      → Whole-pieces (freshFrom o c a) (chipFrom o c a) ps → Whole-pieces o c (a ∷ ps)
 
--- FED IN PIECES of whole records, then a last piece of any bytes: the entries are those of the whole, and so are the chip that is left and whether it is still fresh
+-- FED IN PIECES of whole records, then a last piece of any bytes: the entries are those of the whole, and so are the chip that is left
+-- and whether it is still fresh
 pub record In-pieces (o : Bool) (c : Chip) (ps : List (List ℕ)) (s : List ℕ) : Type 0 where
   pub gives : entriesFrom o c (joined ps ++ s) ≡ fedEntries o c ps ++ entriesFrom (fedFresh o c ps) (fedChip o c ps) s
   pub leaves : chipFrom o c (joined ps ++ s) ≡ chipFrom (fedFresh o c ps) (fedChip o c ps) s
@@ -194,13 +204,15 @@ fed-in-pieces (a-piece o c a ps w ws) s =
     record {
       gives =
           ap (entriesFrom o c) j ∙ two .gives ∙ ap (λ (l : List Entry). entriesFrom o c a ++ l) (more .gives)
-          ∙ sym (append-assoc (entriesFrom o c a) (fedEntries (freshFrom o c a) (chipFrom o c a) ps) (entriesFrom (fedFresh o c (a ∷ ps)) (fedChip o c (a ∷ ps)) s));
+          ∙ sym (append-assoc (entriesFrom o c a) (fedEntries (freshFrom o c a) (chipFrom o c a) ps)
+          (entriesFrom (fedFresh o c (a ∷ ps)) (fedChip o c (a ∷ ps)) s));
       leaves = ap (chipFrom o c) j ∙ two .leaves ∙ more .leaves;
       opens = ap (freshFrom o c) j ∙ two .opens ∙ more .opens;
     }
 
 -- and so of a stream, fed to no chip yet
-pub played-in-pieces : {ps : List (List ℕ)} → Whole-pieces false none ps → (s : List ℕ) → entries (joined ps ++ s) ≡ fedEntries false none ps ++ entriesFrom (fedFresh false none ps) (fedChip false none ps) s
+pub played-in-pieces : {ps : List (List ℕ)} → Whole-pieces false none ps → (s : List ℕ)
+    → entries (joined ps ++ s) ≡ fedEntries false none ps ++ entriesFrom (fedFresh false none ps) (fedChip false none ps) s
 unfolding entries entriesFrom
 played-in-pieces {ps} w s = fed-in-pieces w s .gives
 

@@ -64,9 +64,11 @@ same-read part p s false false et eu w =
     ∙ ap (λ (m : List ℕ). asRead (4 + le16 p 0) (payloadOf (le16 p 2) part m)) q)
 
 -- a turn that is not the last is the same whatever follows
-same-turned : (o : Bool) (c : Chip) (p s : List ℕ) (x : Read) → Placed (length p) x → turned o c p x .last ≡ false → turned o c (p ++ s) x ≡ turned o c p x
+same-turned : (o : Bool) (c : Chip) (p s : List ℕ) (x : Read) → Placed (length p) x → turned o c p x .last ≡ false
+    → turned o c (p ++ s) x ≡ turned o c p x
 same-turned o c p s (Record e next) g l =
-    ap (λ (b : List ℕ). turn (acted o e (countsIn e b) c) (staysFresh o c (acted o e (countsIn e b) c)) next false) (same-part p s (next - 4) (omega (arith, g .0, g .1)))
+    ap (λ (b : List ℕ). turn (acted o e (countsIn e b) c) (staysFresh o c (acted o e (countsIn e b) c)) next false)
+    (same-part p s (next - 4) (omega (arith, g .0, g .1)))
 same-turned o c p s (Refused k next) g l = refl
 same-turned o c p s Cut g l = cc
 
@@ -79,10 +81,12 @@ pub same-turn : (o : Bool) (c : Chip) (p s : List ℕ) → turnOf o c p .last �
 unfolding turnOf
 same-turn o c p s l =
     let part : ℕ = c .setup .part in
-    ap (turned o c (p ++ s)) (same-read part p s (ltb (length p) 4) (ltb (length p - 4) (le16 p 0)) refl refl (last-whole o c p (readOf part p) l))
+    ap (turned o c (p ++ s))
+    (same-read part p s (ltb (length p) 4) (ltb (length p - 4) (le16 p 0)) refl refl (last-whole o c p (readOf part p) l))
     ∙ same-turned o c p s (readOf part p) (placed part p) l
 
-turned-inside : (o : Bool) (c : Chip) (p : List ℕ) (x : Read) → Placed (length p) x → turned o c p x .last ≡ false → turned o c p x .next ≤ length p
+turned-inside : (o : Bool) (c : Chip) (p : List ℕ) (x : Read) → Placed (length p) x → turned o c p x .last ≡ false
+    → turned o c p x .next ≤ length p
 turned-inside o c p (Record e next) g l = g .1
 turned-inside o c p (Refused k next) g l = g .1
 turned-inside o c p Cut g l = omega arith
@@ -132,14 +136,17 @@ read-alone part r n e h =
     let l : length p ≡ n = simp length-take (omega arith) in
     let j : p ++ drop n r ≡ r = take-append-drop n r in
     let w : le16 r 0 ≡ le16 p 0 = ap (λ (b : List ℕ). le16 b 0) (sym j) ∙ same16 p (drop n r) 0 (omega arith) in
-    sym (same-read part p (drop n r) (ltb (length p) 4) (ltb (length p - 4) (le16 p 0)) refl refl (alone-whole part p (omega (arith, l, w, e))))
+    sym (same-read part p (drop n r) (ltb (length p) 4) (ltb (length p - 4) (le16 p 0)) refl refl
+    (alone-whole part p (omega (arith, l, w, e))))
     ∙ ap (readOf part) j
 
 turned-alone : (o : Bool) (c : Chip) (r : List ℕ) (x : Read) → Ends r x → Placed (length r) x → turned o c r x .last ≡ false
-    → (turned o c (take (turned o c r x .next) r) x ≡ turned o c r x) × (readOf (c .setup .part) (take (turned o c r x .next) r) ≡ readOf (c .setup .part) r)
+    → (turned o c (take (turned o c r x .next) r) x ≡ turned o c r x)
+    × (readOf (c .setup .part) (take (turned o c r x .next) r) ≡ readOf (c .setup .part) r)
 turned-alone o c r (Record e next) q g l = (
   ap (λ (b : List ℕ). turn (acted o e (countsIn e b) c) (staysFresh o c (acted o e (countsIn e b) c)) next false)
-      (sym (same-part (take next r) (drop next r) (next - 4) (simp length-take (omega (arith, g .0, g .1)))) ∙ ap (λ (b : List ℕ). take (next - 4) (drop 4 b)) (take-append-drop next r)),
+      (sym (same-part (take next r) (drop next r) (next - 4) (simp length-take (omega (arith, g .0, g .1))))
+      ∙ ap (λ (b : List ℕ). take (next - 4) (drop 4 b)) (take-append-drop next r)),
   read-alone (c .setup .part) r next (q .0) (q .1),
 )
 turned-alone o c r (Refused k next) q g l = (refl, read-alone (c .setup .part) r next (q .0) (q .1))
@@ -153,7 +160,8 @@ turn-alone o c r l =
     ap (turned o c (take (turned o c r (readOf part r) .next) r)) (t .1) ∙ t .0
 
 -- THE RECORD that bytes begin with makes one turn, whatever follows it
-pub same-frame : (o : Bool) (c : Chip) (r q : List ℕ) → turnOf o c r .last ≡ false → turnOf o c (take (turnOf o c r .next) r ++ q) ≡ turnOf o c r
+pub same-frame : (o : Bool) (c : Chip) (r q : List ℕ) → turnOf o c r .last ≡ false
+    → turnOf o c (take (turnOf o c r .next) r ++ q) ≡ turnOf o c r
 same-frame o c r q l =
     let a : turnOf o c (take (turnOf o c r .next) r) ≡ turnOf o c r = turn-alone o c r l in
     same-turn o c (take (turnOf o c r .next) r) q (ap (λ (t : Turn). t .last) a ∙ l) ∙ a
@@ -161,7 +169,8 @@ same-frame o c r q l =
 -- ── whole records: each turn but the last is followed by another, and the last ends with the bytes ──
 pub data Whole-records : Bool → Chip → List ℕ → Type 0 where
   none-left : (o : Bool) (c : Chip) → Whole-records o c []
-  one-more : (o : Bool) (c : Chip) (b : ℕ) (p : List ℕ) → turnOf o c (b ∷ p) .last ≡ false → Whole-records (turnOf o c (b ∷ p) .fresh) (turnOf o c (b ∷ p) .chip) (drop (turnOf o c (b ∷ p) .next) (b ∷ p))
+  one-more : (o : Bool) (c : Chip) (b : ℕ) (p : List ℕ) → turnOf o c (b ∷ p) .last ≡ false
+      → Whole-records (turnOf o c (b ∷ p) .fresh) (turnOf o c (b ∷ p) .chip) (drop (turnOf o c (b ∷ p) .next) (b ∷ p))
       → Whole-records o c (b ∷ p)
 
 -- how many they are
@@ -169,16 +178,19 @@ abbrev pub many : {o : Bool} {c : Chip} {p : List ℕ} → Whole-records o c p �
 many (none-left o c) = 0
 many (one-more o c b p l w) = suc (many w)
 
--- THE PREFIX: the entries of whole records and what follows them are the entries of the records, then those of what follows on the chip that they leave
+-- THE PREFIX: the entries of whole records and what follows them are the entries of the records, then those of what follows on the chip
+-- that they leave
 pub prefix : {o : Bool} {c : Chip} {p : List ℕ} (w : Whole-records o c p) (f : ℕ) (s : List ℕ)
     → runs (many w + f) o c (p ++ s) ≡ runs (many w) o c p ++ runs f (stays (many w) o c p) (stands (many w) o c p) s
 prefix (none-left o c) f s = ap (λ (n : ℕ). runs n o c s) (zero-add f)
 prefix (one-more o c b p l w) f s =
     let g : (turnOf o c (b ∷ p) .next) ≤ length (b ∷ p) = turn-inside o c (b ∷ p) l in
     ap (λ (n : ℕ). runs n o c (b ∷ (p ++ s))) (suc-add (many w) f)
-    ∙ ap (λ (t : Turn). t .entry ∷ cond (t .last) [] (runs (many w + f) (t .fresh) (t .chip) (drop (t .next) (b ∷ (p ++ s))))) (same-turn o c (b ∷ p) s l)
+    ∙ ap (λ (t : Turn). t .entry ∷ cond (t .last) [] (runs (many w + f) (t .fresh) (t .chip) (drop (t .next) (b ∷ (p ++ s)))))
+    (same-turn o c (b ∷ p) s l)
     ∙ simp l (ap (λ (e : List Entry). turnOf o c (b ∷ p) .entry ∷ e)
-    (ap (runs (many w + f) (turnOf o c (b ∷ p) .fresh) (turnOf o c (b ∷ p) .chip)) (drop-append-le (turnOf o c (b ∷ p) .next) (b ∷ p) s g) ∙ prefix w f s))
+    (ap (runs (many w + f) (turnOf o c (b ∷ p) .fresh) (turnOf o c (b ∷ p) .chip)) (drop-append-le (turnOf o c (b ∷ p) .next) (b ∷ p) s g)
+    ∙ prefix w f s))
 
 -- each record takes a byte at least
 turned-past : (o : Bool) (c : Chip) (p : List ℕ) (x : Read) → Placed (length p) x → turned o c p x .last ≡ false → 1 ≤ turned o c p x .next
@@ -194,7 +206,8 @@ few : {o : Bool} {c : Chip} {p : List ℕ} (w : Whole-records o c p) → many w 
 few (none-left o c) = omega arith
 few (one-more o c b p l w) =
     let h : many w ≤ length (drop (turnOf o c (b ∷ p) .next) (b ∷ p)) = few w in
-    let d : length (drop (turnOf o c (b ∷ p) .next) (b ∷ p)) ≡ length (b ∷ p) - turnOf o c (b ∷ p) .next = length-drop (turnOf o c (b ∷ p) .next) (b ∷ p) in
+    let d : length (drop (turnOf o c (b ∷ p) .next) (b ∷ p)) ≡ length (b ∷ p) - turnOf o c (b ∷ p) .next =
+    length-drop (turnOf o c (b ∷ p) .next) (b ∷ p) in
     omega (arith, turn-past o c (b ∷ p) l)
 
 no-more : (f : ℕ) (o : Bool) (c : Chip) → runs f o c [] ≡ []
@@ -206,13 +219,16 @@ alone : {o : Bool} {c : Chip} {p : List ℕ} (w : Whole-records o c p) → runs 
 alone {o} {c} {p} w =
     let k : ℕ = length p - many w in
     let e : length p ≡ many w + k = omega (arith, few w) in
-    ap (λ (n : ℕ). runs n o c p) e ∙ ap (runs (many w + k) o c) (sym (append-nil p)) ∙ prefix w k [] ∙ ap (λ (l : List Entry). runs (many w) o c p ++ l) (no-more k _ _) ∙ append-nil _
+    ap (λ (n : ℕ). runs n o c p) e ∙ ap (runs (many w + k) o c) (sym (append-nil p)) ∙ prefix w k []
+    ∙ ap (λ (l : List Entry). runs (many w) o c p ++ l) (no-more k _ _) ∙ append-nil _
 
 -- the same of streams: whole records from the first on give a prefix of the entries of every stream that they begin
-pub entries-prefix : (p s : List ℕ) (w : Whole-records false none p) → entries (p ++ s) ≡ entries p ++ runs (length (p ++ s) - many w) (stays (many w) false none p) (stands (many w) false none p) s
+pub entries-prefix : (p s : List ℕ) (w : Whole-records false none p)
+    → entries (p ++ s) ≡ entries p ++ runs (length (p ++ s) - many w) (stays (many w) false none p) (stands (many w) false none p) s
 unfolding entries
 entries-prefix p s w =
     let k : ℕ = length (p ++ s) - many w in
     let l : length (p ++ s) ≡ length p + length s = length-append p s in
     let e : length (p ++ s) ≡ many w + k = omega (arith, few w) in
-    ap (λ (n : ℕ). runs n false none (p ++ s)) e ∙ prefix w k s ∙ ap (λ (x : List Entry). x ++ runs k (stays (many w) false none p) (stands (many w) false none p) s) (sym (alone w))
+    ap (λ (n : ℕ). runs n false none (p ++ s)) e ∙ prefix w k s
+    ∙ ap (λ (x : List Entry). x ++ runs k (stays (many w) false none p) (stands (many w) false none p) s) (sym (alone w))

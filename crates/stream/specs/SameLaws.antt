@@ -1,5 +1,5 @@
--- Document 01, "What every call owes": any two answers that a promise for C allows are the same, and so is what they leave in what was lent.
--- Assumes nothing.
+-- Document 01, "What every call owes": any two answers that a promise for C allows are the same, and so is what they leave in what was
+-- lent. Assumes nothing.
 use mathlib.Core.Path.{_≡_, sym, ap, _∙_}
 use mathlib.Core.Bool.{Bool, true, false}
 use mathlib.Core.List.{List, _∷_}
@@ -7,12 +7,10 @@ use Prim.Native.Nat.{ℕ}
 use lib.IntN.{ℤ}
 use lib.Ieee.{Float}
 use lib.ListN.{length, drop}
-use Rattle.values.specs.Values.{Said}
 use Rattle.values.specs.SameLaws.{same-reading}
 use Rattle.values.specs.declared.Reading.{Reading}
 use Rattle.chip.specs.declared.Chip.{Chip}
 use Rattle.stream.specs.Stream.{lastChip, Played}
-use Rattle.stream.specs.Convert.{Gives}
 use Rattle.stream.specs.Forecast.{isGiven, Contents, Read4}
 
 -- two that equal a third
@@ -21,9 +19,6 @@ both p q = p ∙ sym q
 
 pub same-played : {s old new new′ : List ℕ} {r r′ : ℤ} → Played s old r new → Played s old r′ new′ → (r ≡ r′) × (new ≡ new′)
 same-played p q = (both (p .answer) (q .answer), both (p .contents) (q .contents))
-
-pub same-gives : {A : Type 0} {said : Said A} {old new new′ : A} {r r′ : ℕ} → Gives said old r new → Gives said old r′ new′ → (r ≡ r′) × (new ≡ new′)
-same-gives p q = (both (p .answer) (q .answer), both (p .contents) (q .contents))
 
 same-contents : (t : Bool) (c : Chip) (old new new′ : List Float) → Contents t c old new → Contents t c old new′ → new ≡ new′
 same-contents true c old new new′ p q =

@@ -1,5 +1,5 @@
--- Whether a chip stands: a first record that is read with success makes one, whose setup stays, but for the cells, and its part 1 to 3; else the first record's number is not 0,
--- so that no reading is done with nothing given. Assumes nothing.
+-- Whether a chip stands: a first record that is read with success makes one, whose setup stays, but for the cells, and its part 1 to 3;
+-- else the first record's number is not 0, so that no reading is done with nothing given. Assumes nothing.
 use mathlib.Core.Path.{_≡_, refl, ap, sym, _∙_, subst}
 use mathlib.Core.Bool.{Bool, true, false, cond, _&&_, not, true≢false}
 use mathlib.Core.Logic.{_≢_}
@@ -14,7 +14,8 @@ use Rattle.events.specs.declared.Counts.{Counts}
 use Rattle.events.specs.declared.Checked.{Checked}
 use Rattle.events.specs.declared.Checked.the-variants.{Good, Bad}
 use Rattle.events.specs.declared.Event.{Event}
-use Rattle.events.specs.declared.Event.the-variants.{Setup, Por, Boot, Scan, Temp, Count, Sense, Pin, Load, Xready, OnBus, Level, Ticks, Soak, Wires}
+use Rattle.events.specs.declared.Event.the-variants.{Setup, Por, Boot, Scan, Temp, Count, Sense, Pin, Load, Xready, OnBus, Level, Ticks}
+use Rattle.events.specs.declared.Event.the-variants.{Soak, Wires}
 use Rattle.events.specs.Setup.{setupFits, checkedOf, withCells}
 use Rattle.wiring.specs.Rows.{hasRow, wiredWith}
 use Rattle.wiring.specs.declared.Wiring.the-variants.{With, NoRow}
@@ -71,7 +72,8 @@ setup-stays : (o : Bool) (e : Event) (k : Counts) (c : Chip) → Meaning (c .set
 setup-stays o e k c m = ap (λ (s : Stepped). s .chip .setup) (acted-is o e k c m) ∙ setup-as (meantOf (c .setup) e k) c
 
 -- ── the setup of a chip that stands stays, but for the number of cells ──
-wired-keeps : (o t : Bool) (n : ℕ) (c : Chip) → withCells 0 (cond o (wiredAs (cond t (With (withCells n (c .setup))) NoRow) c) (numbered 2 c) .chip .setup) ≡ withCells 0 (c .setup)
+wired-keeps : (o t : Bool) (n : ℕ) (c : Chip)
+    → withCells 0 (cond o (wiredAs (cond t (With (withCells n (c .setup))) NoRow) c) (numbered 2 c) .chip .setup) ≡ withCells 0 (c .setup)
 wired-keeps true true n c = refl
 wired-keeps true false n c = refl
 wired-keeps false t n c = refl
@@ -80,12 +82,14 @@ pub acted-keeps : (o : Bool) (c : Chip) (r : List ℕ) (e : Event) (next : ℕ) 
     → withCells 0 (acted o e (countsBeside r (Record e next)) c .chip .setup) ≡ withCells 0 (c .setup)
 unfolding acted wiredWith
 acted-keeps o c r e next p =
-    wires-by (λ (e : Event). readOf (c .setup .part) r ≡ Record e next → withCells 0 (acted o e (countsBeside r (Record e next)) c .chip .setup) ≡ withCells 0 (c .setup))
+    wires-by (λ (e : Event). readOf (c .setup .part) r ≡ Record e next
+    → withCells 0 (acted o e (countsBeside r (Record e next)) c .chip .setup) ≡ withCells 0 (c .setup))
     (λ n q. wired-keeps o (hasRow (c .setup .part) n) n c)
     (λ e w q.
     ap (withCells 0) (setup-stays o e (countsBeside r (Record e next)) c (later-means (c .setup) r e next p q w))) e
 
-setup-turned : (o : Bool) (c : Chip) (r : List ℕ) → c .setup .part ≢ 0 → (x : Read) → readOf (c .setup .part) r ≡ x → withCells 0 (turned o c r x .chip .setup) ≡ withCells 0 (c .setup)
+setup-turned : (o : Bool) (c : Chip) (r : List ℕ) → c .setup .part ≢ 0 → (x : Read) → readOf (c .setup .part) r ≡ x
+    → withCells 0 (turned o c r x .chip .setup) ≡ withCells 0 (c .setup)
 setup-turned o c r p (Record e next) q = acted-keeps o c r e next p q
 setup-turned o c r p (Refused k next) q = refl
 setup-turned o c r p Cut q = refl
@@ -94,7 +98,8 @@ pub setup-turn : (o : Bool) (c : Chip) (r : List ℕ) → c .setup .part ≢ 0 �
 unfolding turnOf
 setup-turn o c r p = setup-turned o c r p (readOf (c .setup .part) r) refl
 
-pub setup-stands : (f : ℕ) (o : Bool) (c : Chip) (s : List ℕ) → c .setup .part ≢ 0 → withCells 0 (stands f o c s .setup) ≡ withCells 0 (c .setup)
+pub setup-stands : (f : ℕ) (o : Bool) (c : Chip) (s : List ℕ) → c .setup .part ≢ 0
+    → withCells 0 (stands f o c s .setup) ≡ withCells 0 (c .setup)
 setup-stands zero o c s p = refl
 setup-stands (suc f) o c [] p = refl
 setup-stands (suc f) o c (b ∷ s) p =
@@ -103,15 +108,21 @@ setup-stands (suc f) o c (b ∷ s) p =
     by (t .last) (t .chip) (stands f (t .fresh) (t .chip) (drop (t .next) (b ∷ s))) same
     (setup-stands f (t .fresh) (t .chip) (drop (t .next) (b ∷ s)) (λ z. p (ap (λ (v : SetupValues). v .part) (sym same) ∙ z)) ∙ same)
   where
-    by : (t : Bool) (d e : Chip) → withCells 0 (d .setup) ≡ withCells 0 (c .setup) → withCells 0 (e .setup) ≡ withCells 0 (c .setup) → withCells 0 (cond t d e .setup) ≡ withCells 0 (c .setup)
+    by : (t : Bool) (d e : Chip) → withCells 0 (d .setup) ≡ withCells 0 (c .setup) → withCells 0 (e .setup) ≡ withCells 0 (c .setup)
+        → withCells 0 (cond t d e .setup) ≡ withCells 0 (c .setup)
     by true d e x y = x
     by false d e x y = y
 
 -- ── the first record ──
 pub good-part : (v : SetupValues) → setupGood v ≡ true → (1 ≤ v .part) × (v .part ≤ 3)
 good-part v h =
-    let both : leb 1 (v .part) && leb (v .part) 3 ≡ true = first (leb 1 (v .part)) (leb (v .part) 3) (leb (bitOf (v .crc)) 1) (leb 0x08 (v .address)) (leb (v .address) 0x77) (leb (v .«gain_code») 31) (leb (v .floor) 4095) (and-left (setupFits (v .part) (bitOf (v .crc)) (v .address) (v .«gain_code») (v .floor)) (eqb (v .cells) 0) h) in
-    (leb-true 1 (v .part) (and-left (leb 1 (v .part)) (leb (v .part) 3) both), leb-true (v .part) 3 (and-right (leb 1 (v .part)) (leb (v .part) 3) both))
+    let both : leb 1 (v .part) && leb (v .part) 3 ≡ true =
+    first (leb 1 (v .part)) (leb (v .part) 3) (leb (bitOf (v .crc)) 1) (leb 0x08 (v .address)) (leb (v .address) 0x77)
+    (leb (v .«gain_code») 31) (leb (v .floor) 4095)
+    (and-left (setupFits (v .part) (bitOf (v .crc)) (v .address) (v .«gain_code») (v .floor)) (eqb (v .cells) 0) h) in (
+      leb-true 1 (v .part) (and-left (leb 1 (v .part)) (leb (v .part) 3) both),
+      leb-true (v .part) 3 (and-right (leb 1 (v .part)) (leb (v .part) 3) both),
+    )
   where
     first : (a b c d e f g : Bool) → a && b && c && d && e && f && g ≡ true → a && b ≡ true
     first true true c d e f g h = refl
@@ -119,12 +130,15 @@ good-part v h =
     first false b c d e f g h = h
 
 -- it makes the chip, and no later record another
-pub first-stands : (s : List ℕ) (v : SetupValues) (next : ℕ) → readOf 0 s ≡ Record (Setup v) next → lastChip s ≡ stands (length s - 1) true (inShip v) (drop next s)
+pub first-stands : (s : List ℕ) (v : SetupValues) (next : ℕ) → readOf 0 s ≡ Record (Setup v) next
+    → lastChip s ≡ stands (length s - 1) true (inShip v) (drop next s)
 unfolding lastChip turnOf acted readOf
 first-stands [] v next q = let z : _≡_ {A = ℕ} 0 1 = cc in absurd (omega arith)
 first-stands (b ∷ s) v next q =
     let n : length s ≡ length (b ∷ s) - 1 = omega arith in
-    ap (λ (x : Read). cond (turned false none (b ∷ s) x .last) (turned false none (b ∷ s) x .chip) (stands (length s) (turned false none (b ∷ s) x .fresh) (turned false none (b ∷ s) x .chip) (drop (turned false none (b ∷ s) x .next) (b ∷ s)))) q
+    ap (λ (x : Read). cond (turned false none (b ∷ s) x .last) (turned false none (b ∷ s) x .chip)
+    (stands (length s) (turned false none (b ∷ s) x .fresh) (turned false none (b ∷ s) x .chip)
+    (drop (turned false none (b ∷ s) x .next) (b ∷ s)))) q
     ∙ ap (λ (f : ℕ). stands f true (inShip v) (drop next (b ∷ s))) n
 
 pub first-entries : (s : List ℕ) (v : SetupValues) (next : ℕ) → readOf 0 s ≡ Record (Setup v) next
@@ -133,13 +147,17 @@ unfolding entries turnOf acted readOf
 first-entries [] v next q = let z : _≡_ {A = ℕ} 0 1 = cc in absurd (omega arith)
 first-entries (b ∷ s) v next q =
     let n : length s ≡ length (b ∷ s) - 1 = omega arith in
-    ap (λ (x : Read). turned false none (b ∷ s) x .entry ∷ cond (turned false none (b ∷ s) x .last) [] (runs (length s) (turned false none (b ∷ s) x .fresh) (turned false none (b ∷ s) x .chip) (drop (turned false none (b ∷ s) x .next) (b ∷ s)))) q
+    ap (λ (x : Read). turned false none (b ∷ s) x .entry ∷ cond (turned false none (b ∷ s) x .last) []
+    (runs (length s) (turned false none (b ∷ s) x .fresh) (turned false none (b ∷ s) x .chip)
+    (drop (turned false none (b ∷ s) x .next) (b ∷ s)))) q
     ∙ ap (λ (f : ℕ). entryOf (bornOf v) ∷ runs f true (inShip v) (drop next (b ∷ s))) n
 
-pub first-setup-stays : (s : List ℕ) (v : SetupValues) (next : ℕ) → readOf 0 s ≡ Record (Setup v) next → withCells 0 (lastChip s .setup) ≡ withCells 0 v
+pub first-setup-stays : (s : List ℕ) (v : SetupValues) (next : ℕ) → readOf 0 s ≡ Record (Setup v) next
+    → withCells 0 (lastChip s .setup) ≡ withCells 0 v
 first-setup-stays s v next q =
     let g : (1 ≤ v .part) × (v .part ≤ 3) = good-part v (first-setup s (Setup v) next q) in
-    ap (λ (c : Chip). withCells 0 (c .setup)) (first-stands s v next q) ∙ setup-stands (length s - 1) true (inShip v) (drop next s) (λ z. omega (arith, g .0))
+    ap (λ (c : Chip). withCells 0 (c .setup)) (first-stands s v next q)
+    ∙ setup-stands (length s - 1) true (inShip v) (drop next s) (λ z. omega (arith, g .0))
 
 -- refused, its number is not 0
 abbrev Numbered : Payload → Type 0
@@ -157,7 +175,8 @@ payload-numbered : (kind : ℕ) (b : List ℕ) → Numbered (payloadOf kind 0 b)
 unfolding payloadOf setupIn
 payload-numbered kind b =
     cond-by Numbered (eqb kind SETUP) _ (Unfit 2)
-    (λ k. cond-by Numbered (eqb (length b) 7) _ (Unfit 2) (λ l. numbered-checked (checkedOf (getD b 0 0) (getD b 1 0) (getD b 2 0) (getD b 3 0) (getD b 4 0) (le16 b 5))) two)
+    (λ k. cond-by Numbered (eqb (length b) 7) _ (Unfit 2)
+    (λ l. numbered-checked (checkedOf (getD b 0 0) (getD b 1 0) (getD b 2 0) (getD b 3 0) (getD b 4 0) (le16 b 5))) two)
     two
 
 abbrev Said-why : Read → Type 0
@@ -176,7 +195,9 @@ why r = by (ltb (length r) 4) (ltb (length r - 4) (le16 r 0))
     by : (t u : Bool) → Said-why (cond t Cut (cond u Cut (asRead (4 + le16 r 0) (payloadOf (le16 r 2) 0 (take (le16 r 0) (drop 4 r))))))
     by true u = tt
     by false true = tt
-    by false false = why-as (4 + le16 r 0) (payloadOf (le16 r 2) 0 (take (le16 r 0) (drop 4 r))) (payload-numbered (le16 r 2) (take (le16 r 0) (drop 4 r)))
+    by false false =
+        why-as (4 + le16 r 0) (payloadOf (le16 r 2) 0 (take (le16 r 0) (drop 4 r)))
+        (payload-numbered (le16 r 2) (take (le16 r 0) (drop 4 r)))
 
 -- ── number 0 of the first record is a SETUP, and a chip ──
 pub record Made (s : List ℕ) : Type 0 where
@@ -213,7 +234,8 @@ made s h = made-by s (readOf 0 s) refl (why s) h
 pub chip-stands : (s : List ℕ) → numberOf (readOf 0 s) ≡ 0 → (1 ≤ lastChip s .setup .part) × (lastChip s .setup .part ≤ 3)
 chip-stands s h =
     let m : Made s = made s h in
-    subst (λ (v : SetupValues). (1 ≤ v .part) × (v .part ≤ 3)) (sym (first-setup-stays s (m .setup) (m .next) (m .first))) (good-part (m .setup) (first-setup s (Setup (m .setup)) (m .next) (m .first)))
+    subst (λ (v : SetupValues). (1 ≤ v .part) × (v .part ≤ 3)) (sym (first-setup-stays s (m .setup) (m .next) (m .first)))
+    (good-part (m .setup) (first-setup s (Setup (m .setup)) (m .next) (m .first)))
 
 -- .. and where none stands the number is not 0
 pub no-chip : (s : List ℕ) → lastChip s .setup .part ≡ 0 → numberOf (readOf 0 s) ≢ 0
@@ -221,9 +243,12 @@ no-chip s z h = omega (arith, chip-stands s h .0, z)
 
 -- so a reading that is done is given
 pub done-gives : (s : List ℕ) (room : ℕ) → readingNumber s (lastChip s) room ≡ 0 → isGiven (lastChip s) room ≡ true
-done-gives s room h = by (eqb (lastChip s .setup .part) 0) (forecastNumber (lastChip s)) (ltb room 4) (λ e. no-chip s (eqb-true (lastChip s .setup .part) 0 e)) h
+done-gives s room h =
+    by (eqb (lastChip s .setup .part) 0) (forecastNumber (lastChip s)) (ltb room 4)
+    (λ e. no-chip s (eqb-true (lastChip s .setup .part) 0 e)) h
   where
-    by : (n : Bool) (k : ℕ) (t : Bool) → (n ≡ true → numberOf (readOf 0 s) ≢ 0) → cond n (numberOf (readOf 0 s)) (cond (eqb k 0) (cond t 5 0) k) ≡ 0 → not n && eqb k 0 && not t ≡ true
+    by : (n : Bool) (k : ℕ) (t : Bool) → (n ≡ true → numberOf (readOf 0 s) ≢ 0)
+        → cond n (numberOf (readOf 0 s)) (cond (eqb k 0) (cond t 5 0) k) ≡ 0 → not n && eqb k 0 && not t ≡ true
     by true k t f h = absurd (f refl h)
     by false zero true f h = absurd (omega (arith, h))
     by false zero false f h = refl

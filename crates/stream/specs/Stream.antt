@@ -1,4 +1,5 @@
--- Document 01, "Values on the way out" and "Numbers given back": a whole stream, and the five bytes that each record gives. Assumes nothing.
+-- Document 01, "Values on the way out" and "Numbers given back": a whole stream, and the five bytes that each record gives. Assumes
+-- nothing.
 use mathlib.Core.Path.{_≡_}
 use Prim.Native.Nat.{ℕ, zero, suc, _+_, _-_, _*_, _/_}
 use mathlib.Core.List.{List, [], _∷_, _++_}
@@ -10,7 +11,8 @@ use lib.IntN.{ℤ, pos, negsuc}
 use Rattle.events.specs.declared.Setup.{Setup as SetupValues}
 use Rattle.events.specs.declared.Counts.{Counts}
 use Rattle.events.specs.declared.Event.{Event}
-use Rattle.events.specs.declared.Event.the-variants.{Setup, Por, Boot, Scan, Temp, Count, Sense, Pin, Load, Xready, OnBus, Level, Ticks, Soak, Wires}
+use Rattle.events.specs.declared.Event.the-variants.{Setup, Por, Boot, Scan, Temp, Count, Sense, Pin, Load, Xready, OnBus, Level, Ticks}
+use Rattle.events.specs.declared.Event.the-variants.{Soak, Wires}
 use Rattle.records.specs.declared.Read.{Read}
 use Rattle.records.specs.declared.Read.the-variants.{Record, Refused, Cut}
 use Rattle.records.specs.Record.{standing, readOf, countsIn, countsBeside}
@@ -67,8 +69,8 @@ wiredAs NoRow c = numbered (wiredNumber NoRow) c
 abbrev pub wires : Bool → ℕ → Chip → Stepped
 wires fresh n c = cond fresh (wiredAs (wiredWith (c .setup) n) c) (numbered 2 c)
 
--- SETUP, which the reader gives only first, makes the chip; every other event happens to it. `fresh` says that only SETUP and refused records
--- stand before
+-- SETUP, which the reader gives only first, makes the chip; every other event happens to it. `fresh` says that only SETUP and refused
+-- records stand before
 unfoldable pub acted : Bool → Event → Counts → Chip → Stepped
 acted o (Setup v) k c = bornOf v
 acted o Por k c = steppedBy Por k c
@@ -118,7 +120,8 @@ runs zero o c s = []
 runs (suc f) o c [] = []
 runs (suc f) o c (b ∷ s) =
     turnOf o c (b ∷ s) .entry
-    ∷ cond (turnOf o c (b ∷ s) .last) [] (runs f (turnOf o c (b ∷ s) .fresh) (turnOf o c (b ∷ s) .chip) (drop (turnOf o c (b ∷ s) .next) (b ∷ s)))
+    ∷ cond (turnOf o c (b ∷ s) .last) []
+    (runs f (turnOf o c (b ∷ s) .fresh) (turnOf o c (b ∷ s) .chip) (drop (turnOf o c (b ∷ s) .next) (b ∷ s)))
 
 abbrev pub stands : ℕ → Bool → Chip → List ℕ → Chip
 stands zero o c s = c

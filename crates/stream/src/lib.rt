@@ -26,7 +26,6 @@ use records::Read;
 use registers::Registers;
 use wiring::Wiring;
 
-mod convert;
 pub mod end;
 mod forecast;
 

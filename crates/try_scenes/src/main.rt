@@ -113,7 +113,7 @@ fn microvolts(v: i64) {
         text(b" below 0");
     } else {
         text(b" = ");
-        io::print_decimal(STDOUT_FILENO, absolute::size_of(v));
+        io::print_decimal(STDOUT_FILENO, try_print::size_of(v));
     }
 }
 

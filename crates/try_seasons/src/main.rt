@@ -59,7 +59,7 @@ fn signed(v: i64) {
     if v < 0 {
         text(b"-");
     }
-    put(absolute::size_of(v));
+    put(try_print::size_of(v));
 }
 
 // The least or the greatest, and the first scan that had it.

@@ -122,7 +122,7 @@ fn put_signed(v: i64) {
     if v < 0 {
         io::write_all(STDOUT_FILENO, b"-");
     }
-    io::print_decimal(STDOUT_FILENO, absolute::size_of(v));
+    io::print_decimal(STDOUT_FILENO, try_print::size_of(v));
 }
 
 fn put_refusal(why: Refusal) {

@@ -1,4 +1,5 @@
--- What the reading's definitions mean: the least and the greatest bound every cell and are cells, and the offset is in the total once a cell. Assumes nothing.
+-- What the reading's definitions mean: the least and the greatest bound every cell and are cells, and the offset is in the total once a
+-- cell. Assumes nothing.
 use mathlib.Core.Path.{_≡_, refl, sym, ap, subst, _∙_}
 use mathlib.Core.Bool.{Bool, true, false, not, cond}
 use mathlib.Core.List.{List, [], _∷_, map}
@@ -36,7 +37,8 @@ greater-ge a b = pick (ltZ a b) (λ z. (a ≤ℤ z) × (b ≤ℤ z)) b a (λ t. 
 
 -- ---- a fold that picks: what it gives bounds every element, in its order R
 
-module _ (f : ℤ → ℤ → ℤ) (R : ℤ → ℤ → Type 0) (join : (a b c : ℤ) → R a b → R b c → R a c) (both : (a b : ℤ) → R (f a b) a × R (f a b) b) where
+module _ (f : ℤ → ℤ → ℤ) (R : ℤ → ℤ → Type 0) (join : (a b c : ℤ) → R a b → R b c → R a c)
+    (both : (a b : ℤ) → R (f a b) a × R (f a b) b) where
   stays : (z w : ℤ) (g : ℕ → ℤ) (l : List ℕ) → R z w → R (fold f z (map g l)) w
   unfolding fold
   stays z w g [] h = h
@@ -70,17 +72,22 @@ module _ (code offset many : ℕ) (counts : List ℕ) where
   pub least-below : (i : ℕ) → i < many → i < length counts → leastOf code offset many counts ≤ℤ cellMicrovolts code offset (getD counts i 0)
   least-below i h k =
       subst (λ (n : ℕ). leastOf code offset many counts ≤ℤ cellMicrovolts code offset n) (getD-take many counts i 0 h)
-      (bounds lesser (λ a b. a ≤ℤ b) trans lesser-le (firstOf code offset counts) (cellMicrovolts code offset) (take many counts) i (short i h k))
+      (bounds lesser (λ a b. a ≤ℤ b) trans lesser-le (firstOf code offset counts) (cellMicrovolts code offset) (take many counts) i
+      (short i h k))
 
-  pub greatest-above : (i : ℕ) → i < many → i < length counts → cellMicrovolts code offset (getD counts i 0) ≤ℤ greatestOf code offset many counts
+  pub greatest-above : (i : ℕ) → i < many → i < length counts
+      → cellMicrovolts code offset (getD counts i 0) ≤ℤ greatestOf code offset many counts
   greatest-above i h k =
       subst (λ (n : ℕ). cellMicrovolts code offset n ≤ℤ greatestOf code offset many counts) (getD-take many counts i 0 h)
-      (bounds greater (λ a b. b ≤ℤ a) (λ a b c p q. trans c b a q p) greater-ge (firstOf code offset counts) (cellMicrovolts code offset) (take many counts) i (short i h k))
+      (bounds greater (λ a b. b ≤ℤ a) (λ a b c p q. trans c b a q p) greater-ge (firstOf code offset counts) (cellMicrovolts code offset)
+      (take many counts) i (short i h k))
 
   module _ (some : 0 < many) (first : 0 < length counts) where
-    one-of : (f : ℤ → ℤ → ℤ) → ((P : ℤ → Type 0) (a b : ℤ) → P a → P b → P (f a b)) → IsCell code offset many counts (fold f (firstOf code offset counts) (voltages code offset (take many counts)))
+    one-of : (f : ℤ → ℤ → ℤ) → ((P : ℤ → Type 0) (a b : ℤ) → P a → P b → P (f a b))
+        → IsCell code offset many counts (fold f (firstOf code offset counts) (voltages code offset (take many counts)))
     one-of f either =
-        keeps f (IsCell code offset many counts) (either (IsCell code offset many counts)) (firstOf code offset counts) (cellMicrovolts code offset) (take many counts)
+        keeps f (IsCell code offset many counts) (either (IsCell code offset many counts)) (firstOf code offset counts)
+        (cellMicrovolts code offset) (take many counts)
         (record { place = 0; counted = some; there = first; is = refl })
         (λ i h.
         let k : i < min many (length counts) = rw length-take at h in
@@ -106,7 +113,8 @@ regroup z a o b c =
     ∙ ap (λ (y : ℤ). z +ℤ y)
     (+ℤ-assoc a o (b +ℤ c) ∙ ap (λ (y : ℤ). a +ℤ y) (+ℤ-comm o (b +ℤ c) ∙ +ℤ-assoc b c o) ∙ sym (+ℤ-assoc a b (c +ℤ o)))
 
-total-from : (k : ℕ) (o z : ℤ) (l : List ℕ) → fold _+ℤ_ z (map (λ (n : ℕ). pos (k * n) +ℤ o) l) ≡ z +ℤ (pos (k * sumOf l) +ℤ pos (length l) *ℤ o)
+total-from : (k : ℕ) (o z : ℤ) (l : List ℕ)
+    → fold _+ℤ_ z (map (λ (n : ℕ). pos (k * n) +ℤ o) l) ≡ z +ℤ (pos (k * sumOf l) +ℤ pos (length l) *ℤ o)
 unfolding fold
 total-from k o z [] = rw (mul-zero, zero-*ℤ) (sym (+ℤ-idr z))
 total-from k o z (n ∷ l) =
@@ -117,5 +125,6 @@ total-from k o z (n ∷ l) =
 
 -- gain × the sum of the counts, and the offset exactly once a cell
 pub total-is : (code offset many : ℕ) (counts : List ℕ)
-    → totalOf code offset many counts ≡ pos (gain code * sumOf (take many counts)) +ℤ pos (length (take many counts)) *ℤ offsetMicrovolts offset
+    → totalOf code offset many counts
+    ≡ pos (gain code * sumOf (take many counts)) +ℤ pos (length (take many counts)) *ℤ offsetMicrovolts offset
 total-is code offset many counts = total-from (gain code) (offsetMicrovolts offset) (pos 0) (take many counts) ∙ +ℤ-idl _

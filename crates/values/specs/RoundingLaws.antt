@@ -1,4 +1,5 @@
--- What a threshold's full count means: the greatest count whose voltage, by the cells' own formula, is not above the wanted one. Assumes nothing.
+-- What a threshold's full count means: the greatest count whose voltage, by the cells' own formula, is not above the wanted one. Assumes
+-- nothing.
 use mathlib.Core.Path.{_≡_, refl, sym, ap, subst, _∙_}
 use Prim.Native.Nat.{ℕ, suc, _+_, _-_, _*_, _/_, _<_, _≤_}
 use native.Mathlib.Nat.{mul-div-le, lt-mul-div-succ}
@@ -67,7 +68,11 @@ module _ (code offset n : ℕ) (wanted : ℤ) (e : full code offset wanted ≡ p
   again = ap (λ (z : ℤ). z +ℤ offsetMicrovolts offset) (sym (counted .is)) ∙ -ℤ-+ℤ-cancel wanted (offsetMicrovolts offset)
 
   pub full-not-above : cellMicrovolts code offset n ≤ℤ wanted
-  full-not-above = subst (λ (z : ℤ). cellMicrovolts code offset n ≤ℤ z) again (plus-le (gain code * n) (counted .size) (offsetMicrovolts offset) (counted .from))
+  full-not-above =
+      subst (λ (z : ℤ). cellMicrovolts code offset n ≤ℤ z) again
+      (plus-le (gain code * n) (counted .size) (offsetMicrovolts offset) (counted .from))
 
   pub next-is-above : wanted <ℤ cellMicrovolts code offset (n + 1)
-  next-is-above = subst (λ (z : ℤ). z <ℤ cellMicrovolts code offset (n + 1)) again (plus-lt (counted .size) (gain code * (n + 1)) (offsetMicrovolts offset) (counted .below))
+  next-is-above =
+      subst (λ (z : ℤ). z <ℤ cellMicrovolts code offset (n + 1)) again
+      (plus-lt (counted .size) (gain code * (n + 1)) (offsetMicrovolts offset) (counted .below))

@@ -36,7 +36,8 @@ kept-none [] = refl
 kept-none (x ∷ xs) = kept-none xs
 
 module _ (such : ℕ → Bool) (f : ℕ → ℕ) where
-  kept-by : (i m b : ℕ) (l : List ℕ) → kept b (from f (suc i) m) ≡ map f l → (t : Bool) → kept (cond t 1 0 + 2 * b) (from f i (suc m)) ≡ map f (cond t (i ∷ l) l)
+  kept-by : (i m b : ℕ) (l : List ℕ) → kept b (from f (suc i) m) ≡ map f l → (t : Bool)
+      → kept (cond t 1 0 + 2 * b) (from f i (suc m)) ≡ map f (cond t (i ∷ l) l)
   kept-by i m b l ih true =
       let a : (1 + 2 * b) % 2 ≡ 1 = omega arith in
       let d : (1 + 2 * b) / 2 ≡ b = omega arith in

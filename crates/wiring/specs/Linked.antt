@@ -11,7 +11,8 @@ use Rattle.events.specs.declared.Setup.{Setup}
 use Rattle.events.specs.Setup.{inputs}
 use Rattle.events.specs.FewLaws.{few-inputs}
 use Rattle.cell_counts.specs.Scan.{some}
-use Rattle.wiring.specs.Rows.{hasRow, shorted, isWired, upward, wiredInputs, bits, wiredBits, packCells, inputOf, connected, linkedInputs, linkedBits, converts}
+use Rattle.wiring.specs.Rows.{hasRow, shorted, isWired, upward, wiredInputs, bits, wiredBits, packCells, inputOf, connected}
+use Rattle.wiring.specs.Rows.{linkedInputs, linkedBits, converts}
 use Rattle.wiring.specs.Numbered.{numbers, shorter, none-shorted}
 use Rattle.wiring.specs.Kept.{kept, picked, kept-bits}
 
@@ -23,7 +24,8 @@ linked-row u xs h = sym (ap (λ (t : Bool). bits (λ i. cond t (isWired u i) (le
 abbrev pub aboveFloor : ℕ → List ℕ → ℕ → Bool
 aboveFloor floor xs i = leb floor (getD xs (i - 1) 0)
 
-pub linked-none : (u : Setup) (xs : List ℕ) → hasRow (u .part) (u .cells) ≡ false → bits (aboveFloor (u .floor) xs) 1 (inputs u) ≡ linkedBits u xs
+pub linked-none : (u : Setup) (xs : List ℕ) → hasRow (u .part) (u .cells) ≡ false
+    → bits (aboveFloor (u .floor) xs) 1 (inputs u) ≡ linkedBits u xs
 unfolding linkedBits connected
 linked-none u xs h = sym (ap (λ (t : Bool). bits (λ i. cond t (isWired u i) (leb (u .floor) (getD xs (i - 1) 0))) 1 (inputs u)) h)
 
@@ -37,11 +39,14 @@ unfolding linkedInputs
 few-linked u xs = omega (arith, shorter (connected u xs) 1 (inputs u), few-inputs u)
 
 -- ── a cell of the pack is connected where it converts: a wired one always does ──
-pub cell-converts : (u : Setup) (xs : List ℕ) (n : ℕ) → 1 ≤ n → n ≤ packCells u → converts u (getD xs (inputOf u n - 1) 0) ≡ connected u xs (inputOf u n)
+pub cell-converts : (u : Setup) (xs : List ℕ) (n : ℕ) → 1 ≤ n → n ≤ packCells u
+    → converts u (getD xs (inputOf u n - 1) 0) ≡ connected u xs (inputOf u n)
 unfolding connected converts
 cell-converts u xs n l h = by (hasRow (u .part) (u .cells)) (numbers u .wired n l h .is)
   where
-    by : (t : Bool) → isWired u (inputOf u n) ≡ true → cond t true (leb (u .floor) (getD xs (inputOf u n - 1) 0)) ≡ cond t (isWired u (inputOf u n)) (leb (u .floor) (getD xs (inputOf u n - 1) 0))
+    by : (t : Bool) → isWired u (inputOf u n) ≡ true
+        → cond t true (leb (u .floor) (getD xs (inputOf u n - 1) 0))
+        ≡ cond t (isWired u (inputOf u n)) (leb (u .floor) (getD xs (inputOf u n - 1) 0))
     by true w = sym w
     by false w = refl
 
@@ -76,7 +81,8 @@ abbrev pub those : (ℕ → Bool) → List ℕ → List ℕ
 those p [] = []
 those p (x ∷ xs) = cond (p x) (x ∷ those p xs) (those p xs)
 
-those-by : (p : ℕ → Bool) (i : ℕ) (l m : List ℕ) → l ≡ those p m → (a w : Bool) → p i ≡ a → (a ≡ true → w ≡ true) → cond a (i ∷ l) l ≡ those p (cond w (i ∷ m) m)
+those-by : (p : ℕ → Bool) (i : ℕ) (l m : List ℕ) → l ≡ those p m → (a w : Bool) → p i ≡ a → (a ≡ true → w ≡ true)
+    → cond a (i ∷ l) l ≡ those p (cond w (i ∷ m) m)
 those-by p i l m ih true true e f = ap (λ (l : List ℕ). i ∷ l) ih ∙ sym (ap (λ (t : Bool). cond t (i ∷ those p m) (those p m)) e)
 those-by p i l m ih true false e f = absurd (true≢false (sym (f refl)))
 those-by p i l m ih false true e f = ih ∙ sym (ap (λ (t : Bool). cond t (i ∷ those p m) (those p m)) e)
@@ -90,7 +96,9 @@ wired-first : (u : Setup) (xs : List ℕ) (i : ℕ) → connected u xs i ≡ tru
 unfolding connected isWired
 wired-first u xs i = by (hasRow (u .part) (u .cells)) refl
   where
-    by : (t : Bool) → hasRow (u .part) (u .cells) ≡ t → cond t (not (some (λ s. eqb s i) (shorted (u .part) (u .cells)))) (leb (u .floor) (getD xs (i - 1) 0)) ≡ true → not (some (λ s. eqb s i) (shorted (u .part) (u .cells))) ≡ true
+    by : (t : Bool) → hasRow (u .part) (u .cells) ≡ t
+        → cond t (not (some (λ s. eqb s i) (shorted (u .part) (u .cells)))) (leb (u .floor) (getD xs (i - 1) 0)) ≡ true
+        → not (some (λ s. eqb s i) (shorted (u .part) (u .cells))) ≡ true
     by true h q = q
     by false h q = ap (λ (l : List ℕ). not (some (λ s. eqb s i) l)) (none-shorted (u .part) (u .cells) h)
 

@@ -1,5 +1,5 @@
--- Request M-107, THE NUMBERING: for each of the thirteen rows the pack's cells are as many as it says, and they are numbered upward over the
--- inputs that are not shorted: no wired input is lost, and none is named twice. Assumes nothing.
+-- Request M-107, THE NUMBERING: for each of the thirteen rows the pack's cells are as many as it says, and they are numbered upward over
+-- the inputs that are not shorted: no wired input is lost, and none is named twice. Assumes nothing.
 use mathlib.Core.Path.{_≡_, refl, sym, ap, subst, _∙_}
 use mathlib.Core.Bool.{Bool, true, false, not, _&&_, cond, true≢false}
 use mathlib.Core.List.{List, [], _∷_}
@@ -12,7 +12,8 @@ use Rattle.cell_counts.specs.Scan.{some}
 use Rattle.events.specs.declared.Setup.{Setup}
 use Rattle.events.specs.Setup.{inputs, setupOf, withCells}
 use Rattle.events.specs.FewLaws.{few-inputs}
-use Rattle.wiring.specs.Rows.{Row, rows, isRow, rowIn, shortedIn, hasRow, shorted, isWired, upward, wiredInputs, packCells, inputOf, bits, wiredBits}
+use Rattle.wiring.specs.Rows.{Row, rows, isRow, rowIn, shortedIn, hasRow, shorted, isWired, upward, wiredInputs, packCells}
+use Rattle.wiring.specs.Rows.{inputOf, bits, wiredBits}
 use Rattle.wiring.specs.UpwardLaws.{Stands, stands, climbs, finds}
 
 -- ── to know something of every row, it is enough to know it of the thirteen ──
@@ -21,14 +22,18 @@ Each P [] = Unit
 Each P (r ∷ rs) = P (r .part) (r .cells) × Each P rs
 
 module _ (P : ℕ → ℕ → Type 0) where
-  row-by : (r : Row) (part cells : ℕ) (rest : Bool) → P (r .part) (r .cells) → (rest ≡ true → P part cells) → (s t : Bool) → eqb part (r .part) ≡ s → eqb cells (r .cells) ≡ t → cond (s && t) true rest ≡ true → P part cells
-  row-by r part cells rest here there true true e f h = subst (λ (p : ℕ). P p cells) (sym (eqb-true part (r .part) e)) (subst (P (r .part)) (sym (eqb-true cells (r .cells) f)) here)
+  row-by : (r : Row) (part cells : ℕ) (rest : Bool) → P (r .part) (r .cells) → (rest ≡ true → P part cells) → (s t : Bool)
+      → eqb part (r .part) ≡ s → eqb cells (r .cells) ≡ t → cond (s && t) true rest ≡ true → P part cells
+  row-by r part cells rest here there true true e f h =
+      subst (λ (p : ℕ). P p cells) (sym (eqb-true part (r .part) e)) (subst (P (r .part)) (sym (eqb-true cells (r .cells) f)) here)
   row-by r part cells rest here there true false e f h = there h
   row-by r part cells rest here there false t e f h = there h
 
   row-in : (rs : List Row) → Each P rs → (part cells : ℕ) → rowIn rs part cells ≡ true → P part cells
   row-in [] a part cells h = absurd (true≢false (sym h))
-  row-in (r ∷ rs) a part cells h = row-by r part cells (rowIn rs part cells) (a .0) (λ h. row-in rs (a .1) part cells h) (eqb part (r .part)) (eqb cells (r .cells)) refl refl h
+  row-in (r ∷ rs) a part cells h =
+      row-by r part cells (rowIn rs part cells) (a .0) (λ h. row-in rs (a .1) part cells h) (eqb part (r .part))
+      (eqb cells (r .cells)) refl refl h
 
   pub each-row : Each P rows → (part cells : ℕ) → hasRow part cells ≡ true → P part cells
   unfolding hasRow
@@ -41,7 +46,8 @@ none-by false b x y ih h = ih h
 
 none-in : (rs : List Row) (part cells : ℕ) → rowIn rs part cells ≡ false → shortedIn rs part cells ≡ []
 none-in [] part cells h = refl
-none-in (r ∷ rs) part cells h = none-by (isRow part cells r) (rowIn rs part cells) (r .shorted) (shortedIn rs part cells) (λ h. none-in rs part cells h) h
+none-in (r ∷ rs) part cells h =
+    none-by (isRow part cells r) (rowIn rs part cells) (r .shorted) (shortedIn rs part cells) (λ h. none-in rs part cells h) h
 
 pub none-shorted : (part cells : ℕ) → hasRow part cells ≡ false → shorted part cells ≡ []
 unfolding hasRow shorted
@@ -76,7 +82,8 @@ numbers u = record { many = refl; wired = wired; upwards = upwards; named = name
     upwards (suc m) zero g k h = absurd (omega arith)
     upwards (suc m) (suc n) g k h = climbs (isWired u) 1 (inputs u) m n (omega arith) (omega arith)
 
-    named : (i : ℕ) → HasCell u i → (n : ℕ) × (1 ≤ n) × (n ≤ length (upward (isWired u) 1 (inputs u))) × (getD (0 ∷ upward (isWired u) 1 (inputs u)) n 0 ≡ i)
+    named : (i : ℕ) → HasCell u i
+        → (n : ℕ) × (1 ≤ n) × (n ≤ length (upward (isWired u) 1 (inputs u))) × (getD (0 ∷ upward (isWired u) 1 (inputs u)) n 0 ≡ i)
     named i s = let f = finds (isWired u) 1 (inputs u) i s in (suc (f .place), omega arith, omega (arith, f .there), f .found)
 
 -- a part with a number of cells, as a setup
@@ -110,7 +117,8 @@ all-such i (suc k) = ap suc (all-such (suc i) k)
 pub all-cells : (u : Setup) → hasRow (u .part) (u .cells) ≡ false → packCells u ≡ inputs u
 unfolding wiredInputs isWired
 all-cells u h =
-    ap (λ (l : List ℕ). length (upward (λ i. not (some (λ s. eqb s i) l)) 1 (inputs u))) (none-shorted (u .part) (u .cells) h) ∙ all-such 1 (inputs u)
+    ap (λ (l : List ℕ). length (upward (λ i. not (some (λ s. eqb s i) l)) 1 (inputs u))) (none-shorted (u .part) (u .cells) h)
+    ∙ all-such 1 (inputs u)
 
 -- and all of them are in its bits
 pub all-bits : (u : Setup) → hasRow (u .part) (u .cells) ≡ false → wiredBits u ≡ bits (λ i. true) 1 (inputs u)

@@ -1,5 +1,5 @@
--- Request M-107, "Packs with fewer cells": the shorted inputs by tables 3 to 5 of source document 000, and the numbering of the pack's cells.
--- Assumes nothing.
+-- Request M-107, "Packs with fewer cells": the shorted inputs by tables 3 to 5 of source document 000, and the numbering of the pack's
+-- cells. Assumes nothing.
 use mathlib.Core.Bool.{Bool, true, false, not, _&&_, cond}
 use mathlib.Core.List.{List, [], _∷_}
 use Prim.Native.Nat.{ℕ, zero, suc, _+_, _-_, _*_}
@@ -20,8 +20,8 @@ pub record Row : Type 0 where
 abbrev row : ℕ → ℕ → List ℕ → Row
 row part cells shorted = record { part = part; cells = cells; shorted = shorted }
 
--- 9920 with 3 cells: 3, 4; with 4: 4. 9930 with 6: 3, 4, 8, 9; with 7: 4, 8, 9; with 8: 4, 9; with 9: 9. 9940 with 11: 4, 9, 13, 14; with 12:
--- 4, 9, 14; with 13: 9, 14; with 14: 14. 5, 10 and 15 short none
+-- 9920 with 3 cells: 3, 4; with 4: 4. 9930 with 6: 3, 4, 8, 9; with 7: 4, 8, 9; with 8: 4, 9; with 9: 9. 9940 with 11: 4, 9, 13, 14; with
+-- 12: 4, 9, 14; with 13: 9, 14; with 14: 14. 5, 10 and 15 short none
 abbrev pub rows : List Row
 rows =
     row 1 3 (3 ∷ 4 ∷ [])

@@ -51,7 +51,8 @@ module _ (such : ℕ → Bool) where
     pub there : place < length l
     pub found : getD l place 0 ≡ x
 
-  finds-by : (i k x : ℕ) (l : List ℕ) → Stands i (suc k) x → (Stands (suc i) k x → Found l x) → (t b : Bool) → such i ≡ t → eqb x i ≡ b → Found (cond t (i ∷ l) l) x
+  finds-by : (i k x : ℕ) (l : List ℕ) → Stands i (suc k) x → (Stands (suc i) k x → Found l x) → (t b : Bool) → such i ≡ t → eqb x i ≡ b
+      → Found (cond t (i ∷ l) l) x
   finds-by i k x l s ih true true e q = record { place = 0; there = omega arith; found = sym (eqb-true x i q) }
   finds-by i k x l s ih false true e q = absurd (true≢false (sym (s .is) ∙ ap such (eqb-true x i q) ∙ e))
   finds-by i k x l s ih t false e q = on t (ih (record { from = above (eqb-false x i q); below = omega (arith, s .below); is = s .is }))

@@ -8,7 +8,8 @@ use lib.Dec.{leb}
 use Rattle.events.specs.Event.{countsWanted, countsFit}
 use Rattle.events.specs.declared.Counts.{Counts}
 use Rattle.events.specs.declared.Event.{Event}
-use Rattle.events.specs.declared.Event.the-variants.{Setup as Setup-, Por, Boot, Scan, Temp, Count, Sense, Pin, Load, Xready, OnBus, Level, Ticks, Soak, Wires}
+use Rattle.events.specs.declared.Event.the-variants.{Setup as Setup-, Por, Boot, Scan, Temp, Count, Sense, Pin, Load, Xready, OnBus}
+use Rattle.events.specs.declared.Event.the-variants.{Level, Ticks, Soak, Wires}
 use Rattle.ranges.specs.CountedLaws.{fit-is}
 use Rattle.records.specs.Record.{standing}
 use Rattle.records.specs.CountedLaws.{few-groups, few-inputs}
@@ -45,8 +46,10 @@ accepted-by false u n h = absurd (omega arith)
 pub accepted : (e : Event) (k : Counts) (part : ℕ) → refusalFor e k part ≡ 0 → Accepted e k part
 unfolding refusalFor
 accepted e k part h =
-    let a : (leb 1 (partFor e part) && leb (partFor e part) 3 ≡ true) × (countsFit (countsWanted (standing part) e) k ≡ true) × (valueRefusal e k part ≡ 0) =
-    accepted-by (leb 1 (partFor e part) && leb (partFor e part) 3) (countsFit (countsWanted (standing part) e) k) (valueRefusal e k part) h in
+    let a : (leb 1 (partFor e part) && leb (partFor e part) 3 ≡ true) × (countsFit (countsWanted (standing part) e) k ≡ true)
+    × (valueRefusal e k part ≡ 0) =
+    accepted-by (leb 1 (partFor e part) && leb (partFor e part) 3) (countsFit (countsWanted (standing part) e) k)
+    (valueRefusal e k part) h in
     record { part-fits = a .0; counts-fit = a .1; values-fit = a .2 }
 
 pub not-refused : (e : Event) (k : Counts) (part : ℕ) → Accepted e k part → refusalFor e k part ≡ 0
@@ -57,5 +60,6 @@ pub accepted-few : (e : Event) (k : Counts) (part : ℕ) → refusalFor e k part
 accepted-few e k part h = omega (arith, fit-is _ k (accepted e k part h .counts-fit) .0, wanted-few part e)
 
 -- ── one answer: what the promise allows twice is the same ──
-pub one-answer : (number : ℕ) (bytes old : List ℕ) (r r′ : Wrote) (new new′ : List ℕ) → Puts number bytes old r new → Puts number bytes old r′ new′ → (r ≡ r′) × (new ≡ new′)
+pub one-answer : (number : ℕ) (bytes old : List ℕ) (r r′ : Wrote) (new new′ : List ℕ) → Puts number bytes old r new
+    → Puts number bytes old r′ new′ → (r ≡ r′) × (new ≡ new′)
 one-answer number bytes old r r′ new new′ p q = (p .answer ∙ sym (q .answer), p .contents ∙ sym (q .contents))

@@ -1,5 +1,5 @@
--- The other way round: a record that was read is one that the writer accepts, but for a wiring record without a row, and its bytes are those
--- that the writer writes for it. Assumes nothing.
+-- The other way round: a record that was read is one that the writer accepts, but for a wiring record without a row, and its bytes are
+-- those that the writer writes for it. Assumes nothing.
 use mathlib.Core.Path.{_≡_, refl, ap, ap₂, sym, _∙_, subst}
 use Prim.Native.Nat.{ℕ, suc, zero, _+_, _-_, _*_, _/_, _%_, _<_, _≤_}
 use mathlib.Core.List.{List, [], _∷_}
@@ -11,24 +11,30 @@ use lib.ListN.{length, getD, take, drop, length-drop}
 use lib.Seq.{length-take-le}
 use borrow.Author.Tests.{le-leb, eqb-true, ne-eqb}
 use Rattle.events.specs.Setup.{setupFits, checkedOf}
-use Rattle.events.specs.Event.{within, countMost, senseFits, ticksMost, soakMost, ticksFit, fits, countsWanted, countsFit, Meant, unfit, eventOf, meantOf, inRange}
+use Rattle.events.specs.Event.{within, countMost, senseFits, ticksMost, soakMost, ticksFit, fits, countsWanted, countsFit, Meant, unfit}
+use Rattle.events.specs.Event.{eventOf, meantOf, inRange}
 use Rattle.events.specs.declared.Setup.{Setup as SetupValues}
 use Rattle.events.specs.declared.Counts.{Counts}
 use Rattle.events.specs.declared.BusEvent.the-variants.{Start, Out, In, Stop}
 use Rattle.events.specs.declared.Event.{Event}
-use Rattle.events.specs.declared.Event.the-variants.{Setup, Por, Boot, Scan, Temp, Count, Sense, Pin, Load, Xready, OnBus, Level, Ticks, Soak, Wires}
+use Rattle.events.specs.declared.Event.the-variants.{Setup, Por, Boot, Scan, Temp, Count, Sense, Pin, Load, Xready, OnBus, Level, Ticks}
+use Rattle.events.specs.declared.Event.the-variants.{Soak, Wires}
 use Rattle.wiring.specs.Rows.{hasRow}
-use Rattle.records.specs.Kind.{SETUP, POR, BOOT, SCAN, TEMP, COUNT, SENSE, PIN, LOAD, XREADY, START, OUT, IN, STOP, LEVEL, TICKS, SOAK, WIRES}
+use Rattle.records.specs.Kind.{SETUP, POR, BOOT, SCAN, TEMP, COUNT, SENSE, PIN, LOAD, XREADY, START, OUT, IN, STOP, LEVEL, TICKS, SOAK}
+use Rattle.records.specs.Kind.{WIRES}
 use Rattle.records.specs.Numbers.{le16, le32, signed32, bitOf, words}
-use Rattle.records.specs.Record.{setupGood, checkedIn, setupIn, countedIn, senseOf, repeatOf, ticksOf, soakOf, groupsAt, inputsAt, standing, laterOf, payloadOf, readOf, countsOf, countsIn, countsBeside}
+use Rattle.records.specs.Record.{setupGood, checkedIn, setupIn, countedIn, senseOf, repeatOf, ticksOf, soakOf, groupsAt, inputsAt}
+use Rattle.records.specs.Record.{standing, laterOf, payloadOf, readOf, countsOf, countsIn, countsBeside}
 use Rattle.records.specs.CountedLaws.{many-is, counts-taken, few-groups, few-inputs}
 use Rattle.records.specs.ReadingLaws.{WholeAt, read-whole, later-by, cond-by}
 use Rattle.records.specs.SoundLaws.{bit-back, crc-back, and-left, IsSetup, first-setup, Meaning, isWires, later-means}
 use Rattle.records.specs.declared.Payload.{Payload}
 use Rattle.records.specs.declared.Payload.the-variants.{Whole, Unfit}
 use Rattle.records.specs.declared.Read.the-variants.{Record}
-use Rattle.writer.specs.Write.{bytes16, wordBytes, recordOf, kindFor, payloadFor, countBytes, recordFor, partFor, valueRefusal, refusalFor}
-use Rattle.writer.specs.BytesLaws.{Bytes, byte-first, byte-rest, bytes-drop, bytes-take, low-forth, high-forth, words-forth, none-forth, one-forth, two-forth, four-forth, six-forth, eight-forth}
+use Rattle.writer.specs.Write.{bytes16, wordBytes, recordOf, kindFor, payloadFor, countBytes, recordFor, partFor, valueRefusal}
+use Rattle.writer.specs.Write.{refusalFor}
+use Rattle.writer.specs.BytesLaws.{Bytes, byte-first, byte-rest, bytes-drop, bytes-take, low-forth, high-forth, words-forth}
+use Rattle.writer.specs.BytesLaws.{none-forth, one-forth, two-forth, four-forth, six-forth, eight-forth}
 use Rattle.ranges.specs.CountedLaws.{fit-is}
 use Rattle.writer.specs.AcceptedLaws.{Accepted, not-refused}
 
@@ -52,8 +58,10 @@ module _ (b : List ℕ) (h : Bytes b) where
       later-by (Same b) part b
       (sized POR 0 (Whole Por) (λ l. (refl, none-forth b l)))
       (sized BOOT 0 (Whole Boot) (λ l. (refl, none-forth b l)))
-      (sized SCAN (2 * inputsAt part) (cond counts (Whole Scan) (Unfit 3)) (λ l. ranged SCAN counts (Whole Scan) (λ f. (refl, counts-forth (inputsAt part) (few-inputs part) l))))
-      (sized TEMP (2 * groupsAt part) (cond counts (Whole Temp) (Unfit 3)) (λ l. ranged TEMP counts (Whole Temp) (λ f. (refl, counts-forth (groupsAt part) (omega (arith, few-groups part)) l))))
+      (sized SCAN (2 * inputsAt part) (cond counts (Whole Scan) (Unfit 3))
+      (λ l. ranged SCAN counts (Whole Scan) (λ f. (refl, counts-forth (inputsAt part) (few-inputs part) l))))
+      (sized TEMP (2 * groupsAt part) (cond counts (Whole Temp) (Unfit 3))
+      (λ l. ranged TEMP counts (Whole Temp) (λ f. (refl, counts-forth (groupsAt part) (omega (arith, few-groups part)) l))))
       (sized COUNT 2 (Whole (Count (le16 b 0))) (λ l. (refl, two-forth b l h)))
       (sized SENSE 4 (senseOf (le32 b 0)) (λ l. ranged SENSE (senseFits value) (Whole (Sense value)) (λ f. (refl, four-forth b l h))))
       (sized PIN 0 (Whole Pin) (λ l. (refl, none-forth b l)))
@@ -61,11 +69,15 @@ module _ (b : List ℕ) (h : Bytes b) where
       (sized XREADY 0 (Whole Xready) (λ l. (refl, none-forth b l)))
       (sized START 0 (Whole (OnBus Start)) (λ l. (refl, none-forth b l)))
       (sized OUT 1 (Whole (OnBus (Out (getD b 0 0)))) (λ l. (refl, one-forth b l)))
-      (sized IN 1 (cond bit (Whole (OnBus (In level))) (Unfit 3)) (λ l. ranged IN bit (Whole (OnBus (In level))) (λ f. (refl, switch-forth l f))))
+      (sized IN 1 (cond bit (Whole (OnBus (In level))) (Unfit 3))
+      (λ l. ranged IN bit (Whole (OnBus (In level))) (λ f. (refl, switch-forth l f))))
       (sized STOP 0 (Whole (OnBus Stop)) (λ l. (refl, none-forth b l)))
-      (sized LEVEL 1 (cond bit (Whole (Level level)) (Unfit 3)) (λ l. ranged LEVEL bit (Whole (Level level)) (λ f. (refl, switch-forth l f))))
-      (sized TICKS 6 (repeatOf ticksOf ticksMost (le32 b 0) (le16 b 4)) (λ l. ranged TICKS (ticksFit ticksMost value (le16 b 4)) (Whole (Ticks value (le16 b 4))) (λ f. (refl, six-forth b l h))))
-      (sized SOAK 8 (repeatOf soakOf soakMost (le32 b 0) (le32 b 4)) (λ l. ranged SOAK (ticksFit soakMost value (le32 b 4)) (Whole (Soak value (le32 b 4))) (λ f. (refl, eight-forth b l h))))
+      (sized LEVEL 1 (cond bit (Whole (Level level)) (Unfit 3))
+      (λ l. ranged LEVEL bit (Whole (Level level)) (λ f. (refl, switch-forth l f))))
+      (sized TICKS 6 (repeatOf ticksOf ticksMost (le32 b 0) (le16 b 4))
+      (λ l. ranged TICKS (ticksFit ticksMost value (le16 b 4)) (Whole (Ticks value (le16 b 4))) (λ f. (refl, six-forth b l h))))
+      (sized SOAK 8 (repeatOf soakOf soakMost (le32 b 0) (le32 b 4))
+      (λ l. ranged SOAK (ticksFit soakMost value (le32 b 4)) (Whole (Soak value (le32 b 4))) (λ f. (refl, eight-forth b l h))))
       (sized WIRES 1 (Whole (Wires (getD b 0 0))) (λ l. (refl, one-forth b l)))
       (λ (k : ℕ). tt)
       kind
@@ -88,13 +100,15 @@ module _ (b : List ℕ) (h : Bytes b) where
       ranged : (kind : ℕ) (t : Bool) (x : Payload) → (t ≡ true → Same b kind x) → Same b kind (cond t x (Unfit 3))
       ranged kind t x f = cond-by (Same b kind) t x (Unfit 3) f tt
 
-  first-same : (p c a g o f : ℕ) (t : Bool) → setupFits p c a g f ≡ t → p ∷ c ∷ a ∷ g ∷ o ∷ bytes16 f ≡ b → Same b SETUP (checkedIn (checkedOf p c a g o f))
+  first-same : (p c a g o f : ℕ) (t : Bool) → setupFits p c a g f ≡ t → p ∷ c ∷ a ∷ g ∷ o ∷ bytes16 f ≡ b
+      → Same b SETUP (checkedIn (checkedOf p c a g o f))
   unfolding checkedOf
   first-same p c a g o f true e l = simp e (refl, ap (λ (n : ℕ). p ∷ n ∷ a ∷ g ∷ o ∷ bytes16 f) (crc-back p c a g f e) ∙ l)
   first-same p c a g o f false e l = simp e tt
 
 -- seven bytes, as SETUP has them
-seven-forth : (b : List ℕ) → length b ≡ 7 → Bytes b → getD b 0 0 ∷ getD b 1 0 ∷ getD b 2 0 ∷ getD b 3 0 ∷ getD b 4 0 ∷ bytes16 (le16 b 5) ≡ b
+seven-forth : (b : List ℕ) → length b ≡ 7 → Bytes b → getD b 0 0 ∷ getD b 1 0 ∷ getD b 2 0 ∷ getD b 3 0 ∷ getD b 4 0 ∷ bytes16 (le16 b 5)
+    ≡ b
 seven-forth [] l h = absurd (omega arith)
 seven-forth (x ∷ b) l h = ap (λ (l : List ℕ). x ∷ l) (six b (omega arith) (byte-rest x b h))
   where
@@ -121,7 +135,8 @@ setup-same : (b : List ℕ) → Bytes b → Same b SETUP (setupIn b)
 unfolding setupIn
 setup-same b h =
     cond-by (Same b SETUP) (eqb (length b) 7) _ (Unfit 2)
-    (λ l. first-same b h (getD b 0 0) (getD b 1 0) (getD b 2 0) (getD b 3 0) (getD b 4 0) (le16 b 5) _ refl (seven-forth b (eqb-true _ _ l) h))
+    (λ l. first-same b h (getD b 0 0) (getD b 1 0) (getD b 2 0) (getD b 3 0) (getD b 4 0) (le16 b 5) _ refl
+    (seven-forth b (eqb-true _ _ l) h))
     tt
 
 first-of : (kind : ℕ) (b : List ℕ) (t : Bool) → eqb kind SETUP ≡ t → Bytes b → Same b kind (cond t (setupIn b) (Unfit 2))
@@ -188,10 +203,13 @@ meant-by true x h = (refl, h)
 meant-by false x h = absurd (true≢false (sym h))
 
 module _ (k : Counts) (part : ℕ) where
-  counts-value : (n : ℕ) → countsFit n k ≡ true → within countMost (take n (k .of)) ≡ true → _≡_ {A = ℕ} (cond (within countMost (take (k .many) (k .of))) 0 3) 0
-  counts-value n c f = let w : within countMost (take (k .many) (k .of)) ≡ true = ap (λ (i : ℕ). within countMost (take i (k .of))) (fit-is n k c .0) ∙ f in simp w
+  counts-value : (n : ℕ) → countsFit n k ≡ true → within countMost (take n (k .of)) ≡ true
+      → _≡_ {A = ℕ} (cond (within countMost (take (k .many) (k .of))) 0 3) 0
+  counts-value n c f = let w : within countMost (take (k .many) (k .of)) ≡ true =
+      ap (λ (i : ℕ). within countMost (take i (k .of))) (fit-is n k c .0) ∙ f in simp w
 
-  value-fits : (e : Event) → countsFit (countsWanted (standing part) e) k ≡ true → inRange (eventOf (standing part) e (k .of)) ≡ true → valueRefusal e k part ≡ 0
+  value-fits : (e : Event) → countsFit (countsWanted (standing part) e) k ≡ true → inRange (eventOf (standing part) e (k .of)) ≡ true
+      → valueRefusal e k part ≡ 0
   unfolding valueRefusal fits
   value-fits (Setup v) c f = absurd (true≢false (sym f))
   value-fits Por c f = refl
@@ -209,7 +227,8 @@ module _ (k : Counts) (part : ℕ) where
   value-fits (Soak v n) c f = simp f
   value-fits (Wires n) c f = absurd (true≢false (sym f))
 
-  stood : (e : Event) → leb 1 part && leb part 3 ≡ true → inRange (eventOf (standing part) e (k .of)) ≡ true → leb 1 (partFor e part) && leb (partFor e part) 3 ≡ true
+  stood : (e : Event) → leb 1 part && leb part 3 ≡ true → inRange (eventOf (standing part) e (k .of)) ≡ true
+      → leb 1 (partFor e part) && leb (partFor e part) 3 ≡ true
   stood (Setup v) p f = absurd (true≢false (sym f))
   stood Por p f = p
   stood Boot p f = p
@@ -229,10 +248,12 @@ module _ (k : Counts) (part : ℕ) where
   later-accepted : (e : Event) → leb 1 part && leb part 3 ≡ true → Meaning (standing part) e k → Accepted e k part
   unfolding meantOf
   later-accepted e p g =
-      let m : (countsFit (countsWanted (standing part) e) k ≡ true) × (inRange (eventOf (standing part) e (k .of)) ≡ true) = meant-by _ _ g in
+      let m : (countsFit (countsWanted (standing part) e) k ≡ true) × (inRange (eventOf (standing part) e (k .of)) ≡ true) =
+      meant-by _ _ g in
       record { part-fits = stood e p (m .1); counts-fit = m .0; values-fit = value-fits e (m .0) (m .1) }
 
-accepted-at : (part : ℕ) (r : List ℕ) (e : Event) (next : ℕ) → part ≤ 3 → isWires e ≡ false → readOf part r ≡ Record e next → Accepted e (countsBeside r (Record e next)) part
+accepted-at : (part : ℕ) (r : List ℕ) (e : Event) (next : ℕ) → part ≤ 3 → isWires e ≡ false → readOf part r ≡ Record e next
+    → Accepted e (countsBeside r (Record e next)) part
 accepted-at zero r e next h w ok = setup-accepted e zero (take (next - 4) (drop 4 r)) (first-setup r e next ok)
 accepted-at (suc n) r e next h w ok =
     later-accepted (countsBeside r (Record e next)) (suc n) e (simp (le-leb 1 (suc n) (omega arith), le-leb (suc n) 3 h))

@@ -52,7 +52,9 @@ value-back (negsuc n) h =
 
 pub sense-back : (z : ℤ) → senseFits z ≡ true → senseOf (bits32 z) ≡ Whole (Sense z)
 unfolding senseOf
-sense-back z h = ap (λ (z : ℤ). cond (senseFits z) (Whole (Sense z)) (Unfit 3)) (value-back z h) ∙ ap (λ (t : Bool). cond t (Whole (Sense z)) (Unfit 3)) h
+sense-back z h =
+    ap (λ (z : ℤ). cond (senseFits z) (Whole (Sense z)) (Unfit 3)) (value-back z h)
+    ∙ ap (λ (t : Bool). cond t (Whole (Sense z)) (Unfit 3)) h
 
 fit-value : (most : ℕ) (z : ℤ) (n : ℕ) → ticksFit most z n ≡ true → senseFits z ≡ true
 unfolding ticksFit
@@ -61,7 +63,8 @@ fit-value most z n h = and-left (senseFits z) (leb 1 n) (and-left (senseFits z &
 pub ticks-back : (e : ℤ → ℕ → Event) (most : ℕ) (z : ℤ) (n : ℕ) → ticksFit most z n ≡ true → repeatOf e most (bits32 z) n ≡ Whole (e z n)
 unfolding repeatOf
 ticks-back e most z n h =
-    ap (λ (z : ℤ). cond (ticksFit most z n) (Whole (e z n)) (Unfit 3)) (value-back z (fit-value most z n h)) ∙ ap (λ (t : Bool). cond t (Whole (e z n)) (Unfit 3)) h
+    ap (λ (z : ℤ). cond (ticksFit most z n) (Whole (e z n)) (Unfit 3)) (value-back z (fit-value most z n h))
+    ∙ ap (λ (t : Bool). cond t (Whole (e z n)) (Unfit 3)) h
 
 -- ── read, then written: the numbers of a list are bytes ──
 abbrev pub Bytes : List ℕ → Type 0
@@ -85,7 +88,8 @@ both false t g h = g
 pub bytes-take : (n : ℕ) (b : List ℕ) → Bytes b → Bytes (take n b)
 bytes-take zero b h = refl
 bytes-take (suc n) [] h = refl
-bytes-take (suc n) (x ∷ b) h = both (leb x 255) (within 255 (take n b)) (and-left (leb x 255) (within 255 b) h) (bytes-take n b (byte-rest x b h))
+bytes-take (suc n) (x ∷ b) h =
+    both (leb x 255) (within 255 (take n b)) (and-left (leb x 255) (within 255 b) h) (bytes-take n b (byte-rest x b h))
 
 -- two bytes as a number, and the bytes of that
 module _ (x y : ℕ) (hx : x < 256) where
@@ -137,7 +141,8 @@ long-bytes x y z w hx hy hz =
     (ap₂ _∷_ (ap (λ (n : ℕ). n % 256) b ∙ low-forth z w hz)
     (ap (λ (n : ℕ). n ∷ []) (ap (λ (n : ℕ). n / 256) b ∙ high-forth z w hz))))
 
-four-bytes : (x y z w : ℕ) → x < 256 → y < 256 → z < 256 → w < 256 → bytes32 (bits32 (signed32 (x + 256 * y + 65536 * (z + 256 * w)))) ≡ x ∷ y ∷ z ∷ w ∷ []
+four-bytes : (x y z w : ℕ) → x < 256 → y < 256 → z < 256 → w < 256
+    → bytes32 (bits32 (signed32 (x + 256 * y + 65536 * (z + 256 * w)))) ≡ x ∷ y ∷ z ∷ w ∷ []
 four-bytes x y z w hx hy hz hw = ap bytes32 (signed-forth (x + 256 * y + 65536 * (z + 256 * w)) (omega arith)) ∙ long-bytes x y z w hx hy hz
 
 pub four-forth : (b : List ℕ) → length b ≡ 4 → Bytes b → bytes32 (bits32 (signed32 (le32 b 0))) ≡ b
@@ -172,7 +177,8 @@ value-then n tail forth x y z w b l h =
     let h1 : Bytes (y ∷ z ∷ w ∷ b) = byte-rest x (y ∷ z ∷ w ∷ b) h in
     let h2 : Bytes (z ∷ w ∷ b) = byte-rest y (z ∷ w ∷ b) h1 in
     let h3 : Bytes (w ∷ b) = byte-rest z (w ∷ b) h2 in
-    ap₂ _++_ (four-bytes x y z w (byte-first x (y ∷ z ∷ w ∷ b) h) (byte-first y (z ∷ w ∷ b) h1) (byte-first z (w ∷ b) h2) (byte-first w b h3)) (forth b l (byte-rest w b h3))
+    ap₂ _++_ (four-bytes x y z w (byte-first x (y ∷ z ∷ w ∷ b) h) (byte-first y (z ∷ w ∷ b) h1) (byte-first z (w ∷ b) h2)
+    (byte-first w b h3)) (forth b l (byte-rest w b h3))
 
 pub six-forth : (b : List ℕ) → length b ≡ 6 → Bytes b → bytes32 (bits32 (signed32 (le32 b 0))) ++ bytes16 (le16 b 4) ≡ b
 six-forth [] l h = absurd (omega arith)

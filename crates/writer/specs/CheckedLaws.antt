@@ -1,4 +1,5 @@
--- The writer's numbers 2 and 3 are those of the checks that the chip makes: at its part, for every event but SETUP and a wiring record. Assumes nothing.
+-- The writer's numbers 2 and 3 are those of the checks that the chip makes: at its part, for every event but SETUP and a wiring record.
+-- Assumes nothing.
 use mathlib.Core.Path.{_≡_, refl, ap, sym, _∙_}
 use Prim.Native.Nat.{ℕ}
 use mathlib.Core.List.{List}
@@ -8,7 +9,8 @@ use lib.ListN.{take}
 use Rattle.events.specs.Event.{within, countMost, fits, countsWanted, countsFit, Meant, unfit, eventOf, meantOf}
 use Rattle.events.specs.declared.Counts.{Counts}
 use Rattle.events.specs.declared.Event.{Event}
-use Rattle.events.specs.declared.Event.the-variants.{Setup, Por, Boot, Scan, Temp, Count, Sense, Pin, Load, Xready, OnBus, Level, Ticks, Soak, Wires}
+use Rattle.events.specs.declared.Event.the-variants.{Setup, Por, Boot, Scan, Temp, Count, Sense, Pin, Load, Xready, OnBus, Level, Ticks}
+use Rattle.events.specs.declared.Event.the-variants.{Soak, Wires}
 use Rattle.ranges.specs.Refusal.{refusalOf}
 use Rattle.ranges.specs.CountedLaws.{fit-is}
 use Rattle.records.specs.Record.{standing}
@@ -49,13 +51,18 @@ as-many n k true f = ap (λ (n : ℕ). number (take n (k .of))) (sym (fit-is n k
 as-many n k false f = refl
 
 numbers-same : (e : Event) (k : Counts) (part : ℕ) → other e ≡ true
-    → cond (leb 1 part && leb part 3) (cond (countsFit (countsWanted (standing part) e) k) (refusalOf (eventOf (standing part) e (k .of))) 2) 1 ≡ refusalFor e k part
+    → cond (leb 1 part && leb part 3)
+    (cond (countsFit (countsWanted (standing part) e) k) (refusalOf (eventOf (standing part) e (k .of))) 2) 1 ≡ refusalFor e k part
 unfolding fits valueRefusal refusalFor
 numbers-same (Setup v) k part o = cc
 numbers-same Por k part o = refl
 numbers-same Boot k part o = refl
-numbers-same Scan k part o = ap (λ (n : ℕ). cond (leb 1 part && leb part 3) n 1) (as-many (countsWanted (standing part) Scan) k (countsFit (countsWanted (standing part) Scan) k) refl)
-numbers-same Temp k part o = ap (λ (n : ℕ). cond (leb 1 part && leb part 3) n 1) (as-many (countsWanted (standing part) Temp) k (countsFit (countsWanted (standing part) Temp) k) refl)
+numbers-same Scan k part o =
+    ap (λ (n : ℕ). cond (leb 1 part && leb part 3) n 1)
+    (as-many (countsWanted (standing part) Scan) k (countsFit (countsWanted (standing part) Scan) k) refl)
+numbers-same Temp k part o =
+    ap (λ (n : ℕ). cond (leb 1 part && leb part 3) n 1)
+    (as-many (countsWanted (standing part) Temp) k (countsFit (countsWanted (standing part) Temp) k) refl)
 numbers-same (Count n) k part o = refl
 numbers-same (Sense v) k part o = refl
 numbers-same Pin k part o = refl
@@ -70,4 +77,5 @@ numbers-same (Wires n) k part o = cc
 pub refusal-is : (e : Event) (k : Counts) (part : ℕ) → other e ≡ true → refusalAt e k part ≡ refusalFor e k part
 unfolding refusalAt meantOf
 refusal-is e k part o =
-    ap (λ (n : ℕ). cond (leb 1 part && leb part 3) n 1) (by-counts (countsFit (countsWanted (standing part) e) k) (eventOf (standing part) e (k .of))) ∙ numbers-same e k part o
+    ap (λ (n : ℕ). cond (leb 1 part && leb part 3) n 1)
+    (by-counts (countsFit (countsWanted (standing part) e) k) (eventOf (standing part) e (k .of))) ∙ numbers-same e k part o

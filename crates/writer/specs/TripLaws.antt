@@ -18,16 +18,19 @@ use Rattle.events.specs.declared.Counts.{Counts}
 use Rattle.events.specs.declared.Checked.the-variants.{Good}
 use Rattle.events.specs.declared.BusEvent.the-variants.{Start, Out, In, Stop}
 use Rattle.events.specs.declared.Event.{Event}
-use Rattle.events.specs.declared.Event.the-variants.{Setup, Por, Boot, Scan, Temp, Count, Sense, Pin, Load, Xready, OnBus, Level, Ticks, Soak, Wires}
+use Rattle.events.specs.declared.Event.the-variants.{Setup, Por, Boot, Scan, Temp, Count, Sense, Pin, Load, Xready, OnBus, Level, Ticks}
+use Rattle.events.specs.declared.Event.the-variants.{Soak, Wires}
 use Rattle.records.specs.Numbers.{bitOf, filled}
-use Rattle.records.specs.Record.{setupGood, checkedIn, setupIn, countedIn, ticksOf, soakOf, groupsAt, inputsAt, laterOf, payloadOf, asRead, readOf, noCounts, countsOf, countsIn, countsBeside, takenFrom, takenAt}
+use Rattle.records.specs.Record.{setupGood, checkedIn, setupIn, countedIn, ticksOf, soakOf, groupsAt, inputsAt, laterOf, payloadOf}
+use Rattle.records.specs.Record.{asRead, readOf, noCounts, countsOf, countsIn, countsBeside, takenFrom, takenAt}
 use Rattle.records.specs.CountedLaws.{many-is}
 use Rattle.records.specs.ReadingLaws.{taken-moved}
 use Rattle.records.specs.SoundLaws.{and-left, and-right}
 use Rattle.records.specs.declared.Payload.the-variants.{Whole}
 use Rattle.records.specs.declared.Read.the-variants.{Record}
 use Rattle.records.specs.declared.Taken.{Taken}
-use Rattle.writer.specs.Write.{bits32, wordBytes, recordOf, kindFor, payloadFor, countBytes, recordFor, valueRefusal, refusalFor, writtenOf, Puts}
+use Rattle.writer.specs.Write.{bits32, wordBytes, recordOf, kindFor, payloadFor, countBytes, recordFor, valueRefusal, refusalFor}
+use Rattle.writer.specs.Write.{writtenOf, Puts}
 use Rattle.writer.specs.declared.Wrote.the-variants.{Done, Refused}
 use Rattle.writer.specs.BytesLaws.{back16, back32, words-length, words-back, bit-same, sense-back, ticks-back}
 use Rattle.ranges.specs.CountedLaws.{fit-is}
@@ -52,11 +55,18 @@ standsFor (Soak v n) part = part
 standsFor (Wires n) part = part
 
 -- the frame of a record, whatever follows it
-pub framed : (part kind : ℕ) (b rest : List ℕ) → length b < 65536 → readOf part (recordOf kind b ++ rest) ≡ asRead (4 + length b) (payloadOf kind part b)
+pub framed : (part kind : ℕ) (b rest : List ℕ) → length b < 65536
+    → readOf part (recordOf kind b ++ rest) ≡ asRead (4 + length b) (payloadOf kind part b)
 unfolding readOf
 framed part kind b rest h =
     let l : length (b ++ rest) ≡ length b + length rest = length-append b rest in
-    simp (back16 (length b), back16 kind, le-ltb (length (recordOf kind b ++ rest)) 4 (omega arith), le-ltb (length (recordOf kind b ++ rest) - 4) (length b) (omega arith), take-append-seam b rest)
+    simp (
+      back16 (length b),
+      back16 kind,
+      le-ltb (length (recordOf kind b ++ rest)) 4 (omega arith),
+      le-ltb (length (recordOf kind b ++ rest) - 4) (length b) (omega arith),
+      take-append-seam b rest,
+    )
 
 -- ── each payload is read as its event ──
 setup-same : (v : SetupValues) → v .cells ≡ 0 → setupOf (v .part) (bitOf (v .crc)) (v .address) (v .«gain_code») (v .offset) (v .floor) ≡ v
@@ -64,13 +74,25 @@ setup-same v z =
     ap (λ (t : Bool). with-crc t 0) (bit-same (v .crc)) ∙ ap (with-crc (v .crc)) (sym z)
   where
     with-crc : Bool → ℕ → SetupValues
-    with-crc t n = record { part = v .part; crc = t; address = v .address; «gain_code» = v .«gain_code»; offset = v .offset; floor = v .floor; cells = n }
+    with-crc t n =
+        record {
+          part = v .part;
+          crc = t;
+          address = v .address;
+          «gain_code» = v .«gain_code»;
+          offset = v .offset;
+          floor = v .floor;
+          cells = n;
+        }
 
-checked-good : (v : SetupValues) → setupGood v ≡ true → checkedOf (v .part) (bitOf (v .crc)) (v .address) (v .«gain_code») (v .offset) (v .floor) ≡ Good v
+checked-good : (v : SetupValues) → setupGood v ≡ true
+    → checkedOf (v .part) (bitOf (v .crc)) (v .address) (v .«gain_code») (v .offset) (v .floor) ≡ Good v
 unfolding checkedOf
 checked-good v h =
     let f : setupFits (v .part) (bitOf (v .crc)) (v .address) (v .«gain_code») (v .floor) ≡ true = and-left _ (eqb (v .cells) 0) h in
-    simp f (ap Good (setup-same v (eqb-true (v .cells) 0 (and-right (setupFits (v .part) (bitOf (v .crc)) (v .address) (v .«gain_code») (v .floor)) _ h))))
+    simp f (ap Good
+    (setup-same v
+    (eqb-true (v .cells) 0 (and-right (setupFits (v .part) (bitOf (v .crc)) (v .address) (v .«gain_code») (v .floor)) _ h))))
 
 picked : (n : ℕ) (t : Bool) → cond t 0 (suc n) ≡ 0 → t ≡ true
 picked n true h = refl
@@ -90,10 +112,13 @@ module _ (k : Counts) (n : ℕ) (f : countsFit n k ≡ true) (few : n ≤ 15) (f
   unfolding countedIn
   counted-back e w = simp (eq-eqb (length (countBytes k)) (2 * n) counts-size, words-back (take (k .many) (k .of)), w)
 
-payload-back : (e : Event) (k : Counts) (part : ℕ) → Accepted e k part → length (k .of) ≡ 15 → payloadOf (kindFor e) (standsFor e part) (payloadFor e k) ≡ Whole e
+payload-back : (e : Event) (k : Counts) (part : ℕ) → Accepted e k part → length (k .of) ≡ 15
+    → payloadOf (kindFor e) (standsFor e part) (payloadFor e k) ≡ Whole e
 unfolding payloadOf laterOf setupIn valueRefusal
 payload-back (Setup v) k part a l =
-    ap checkedIn (ap (checkedOf (v .part) (bitOf (v .crc)) (v .address) (v .«gain_code») (v .offset)) (back16 (v .floor)) ∙ checked-good v (picked 0 _ (a .values-fit)))
+    ap checkedIn
+    (ap (checkedOf (v .part) (bitOf (v .crc)) (v .address) (v .«gain_code») (v .offset)) (back16 (v .floor))
+    ∙ checked-good v (picked 0 _ (a .values-fit)))
 payload-back Por k part a l = simp (ne-eqb part 0 (stands part (a .part-fits)))
 payload-back Boot k part a l = simp (ne-eqb part 0 (stands part (a .part-fits)))
 payload-back Scan k part a l =
@@ -104,7 +129,8 @@ payload-back Temp k part a l =
     (counted-back k (groupsAt part) (a .counts-fit) (wanted-few part Temp) l Temp (picked 2 _ (a .values-fit)))
 payload-back (Count n) k part a l = simp (ne-eqb part 0 (stands part (a .part-fits)), back16 n)
 payload-back (Sense z) k part a l =
-    simp (ne-eqb part 0 (stands part (a .part-fits)), back16 (bits32 z % 65536), back16 (bits32 z / 65536), back32 (bits32 z)) (sense-back z (picked 2 _ (a .values-fit)))
+    simp (ne-eqb part 0 (stands part (a .part-fits)), back16 (bits32 z % 65536), back16 (bits32 z / 65536), back32 (bits32 z))
+    (sense-back z (picked 2 _ (a .values-fit)))
 payload-back Pin k part a l = simp (ne-eqb part 0 (stands part (a .part-fits)))
 payload-back (Load true) k part a l = simp (ne-eqb part 0 (stands part (a .part-fits)))
 payload-back (Load false) k part a l = simp (ne-eqb part 0 (stands part (a .part-fits)))
@@ -117,9 +143,18 @@ payload-back (OnBus Stop) k part a l = simp (ne-eqb part 0 (stands part (a .part
 payload-back (Level true) k part a l = simp (ne-eqb part 0 (stands part (a .part-fits)))
 payload-back (Level false) k part a l = simp (ne-eqb part 0 (stands part (a .part-fits)))
 payload-back (Ticks z n) k part a l =
-    simp (ne-eqb part 0 (stands part (a .part-fits)), back16 (bits32 z % 65536), back16 (bits32 z / 65536), back32 (bits32 z), back16 n) (ticks-back ticksOf ticksMost z n (picked 2 _ (a .values-fit)))
+    simp (ne-eqb part 0 (stands part (a .part-fits)), back16 (bits32 z % 65536), back16 (bits32 z / 65536), back32 (bits32 z), back16 n)
+    (ticks-back ticksOf ticksMost z n (picked 2 _ (a .values-fit)))
 payload-back (Soak z n) k part a l =
-    simp (ne-eqb part 0 (stands part (a .part-fits)), back16 (bits32 z % 65536), back16 (bits32 z / 65536), back32 (bits32 z), back16 (n % 65536), back16 (n / 65536), back32 n)
+    simp (
+      ne-eqb part 0 (stands part (a .part-fits)),
+      back16 (bits32 z % 65536),
+      back16 (bits32 z / 65536),
+      back32 (bits32 z),
+      back16 (n % 65536),
+      back16 (n / 65536),
+      back32 n,
+    )
     (ticks-back soakOf soakMost z n (picked 2 _ (a .values-fit)))
 payload-back (Wires n) k part a l = simp (ne-eqb part 0 (stands part (a .part-fits)))
 
@@ -171,7 +206,8 @@ of-back xs = ap (filled 15) (words-back xs)
 
 module _ (k : Counts) (n : ℕ) (f : countsFit n k ≡ true) (fifteen : length (k .of) ≡ 15) where
   fill : filled 15 (take (k .many) (k .of)) ≡ k .of
-  fill = subst (λ (m : ℕ). filled m (take (k .many) (k .of)) ≡ k .of) fifteen (filled-back (k .many) (k .of) (subst (λ (i : ℕ). within 0 (drop i (k .of)) ≡ true) (sym (fit-is n k f .0)) (fit-is n k f .1)))
+  fill = subst (λ (m : ℕ). filled m (take (k .many) (k .of)) ≡ k .of) fifteen
+      (filled-back (k .many) (k .of) (subst (λ (i : ℕ). within 0 (drop i (k .of)) ≡ true) (sym (fit-is n k f .0)) (fit-is n k f .1)))
 
   none-back : n ≡ 0 → noCounts ≡ k
   none-back z =
@@ -219,10 +255,13 @@ module _ (e : Event) (k : Counts) (part : ℕ) (ok : refusalFor e k part ≡ 0) 
   beside-back =
       let a : Accepted e k part = accepted e k part ok in
       let n : length (recordOf (kindFor e) (payloadFor e k)) - 4 ≡ length (payloadFor e k) = omega arith in
-      ap (λ (i : ℕ). countsIn e (take i (payloadFor e k ++ rest))) n ∙ ap (countsIn e) (take-append-seam (payloadFor e k) rest) ∙ counts-back e k part a fifteen
+      ap (λ (i : ℕ). countsIn e (take i (payloadFor e k ++ rest))) n ∙ ap (countsIn e) (take-append-seam (payloadFor e k) rest)
+      ∙ counts-back e k part a fifteen
 
   -- at any place: the same event, the same counts, and the place right after it
-  pub trip-at : (p : List ℕ) → takenAt (standsFor e part) (p ++ (recordFor e k ++ rest)) (length p) ≡ record { read = Record e (length p + length (recordFor e k)); counts = k }
+  pub trip-at : (p : List ℕ)
+      → takenAt (standsFor e part) (p ++ (recordFor e k ++ rest)) (length p)
+      ≡ record { read = Record e (length p + length (recordFor e k)); counts = k }
   trip-at p =
       taken-moved (standsFor e part) p (recordFor e k ++ rest)
       ∙ ap (takenFrom (length p) (recordFor e k ++ rest)) read-back ∙ ap (λ (c : Counts). as-taken c) beside-back
@@ -230,18 +269,24 @@ module _ (e : Event) (k : Counts) (part : ℕ) (ok : refusalFor e k part ≡ 0) 
       as-taken : Counts → Taken
       as-taken c = record { read = Record e (length p + length (recordFor e k)); counts = c }
 
--- said of the call: a buffer that was written begins with the record, and reading it gives the event, its counts and how many bytes were written
-wrote-by : (number : ℕ) (bytes old new : List ℕ) (n : ℕ) (t u : Bool) → eqb number 0 ≡ t → leb (length bytes) (length old) ≡ u → Puts number bytes old (Done n) new
+-- said of the call: a buffer that was written begins with the record, and reading it gives the event, its counts and how many bytes were
+-- written
+wrote-by : (number : ℕ) (bytes old new : List ℕ) (n : ℕ) (t u : Bool) → eqb number 0 ≡ t → leb (length bytes) (length old) ≡ u
+    → Puts number bytes old (Done n) new
     → (number ≡ 0) × (n ≡ length bytes) × (new ≡ writtenOf bytes old)
-wrote-by number bytes old new n true true et eu w = (eqb-true _ _ et, done-is (simp (et, eu) at (w .answer)), simp (et, eu) at (w .contents))
+wrote-by number bytes old new n true true et eu w =
+    (eqb-true _ _ et, done-is (simp (et, eu) at (w .answer)), simp (et, eu) at (w .contents))
   where
     done-is : {m : ℕ} → Done n ≡ Done m → n ≡ m
     done-is q = cc
-wrote-by number bytes old new n true false et eu w = let q : Done n ≡ Refused 5 = simp (et, eu) at (w .answer) in absurd (let z : _≡_ {A = ℕ} 0 1 = cc in omega arith)
-wrote-by number bytes old new n false u et eu w = let q : Done n ≡ Refused number = simp et at (w .answer) in absurd (let z : _≡_ {A = ℕ} 0 1 = cc in omega arith)
+wrote-by number bytes old new n true false et eu w = let q : Done n ≡ Refused 5 =
+    simp (et, eu) at (w .answer) in absurd (let z : _≡_ {A = ℕ} 0 1 = cc in omega arith)
+wrote-by number bytes old new n false u et eu w = let q : Done n ≡ Refused number =
+    simp et at (w .answer) in absurd (let z : _≡_ {A = ℕ} 0 1 = cc in omega arith)
 
 pub wrote-reads : (e : Event) (k : Counts) (part : ℕ) (old new : List ℕ) (n : ℕ) → length (k .of) ≡ 15
-    → Puts (refusalFor e k part) (recordFor e k) old (Done n) new → takenAt (standsFor e part) new 0 ≡ record { read = Record e n; counts = k }
+    → Puts (refusalFor e k part) (recordFor e k) old (Done n) new
+    → takenAt (standsFor e part) new 0 ≡ record { read = Record e n; counts = k }
 wrote-reads e k part old new n fifteen w =
     let g : (refusalFor e k part ≡ 0) × (n ≡ length (recordFor e k)) × (new ≡ writtenOf (recordFor e k) old) =
     wrote-by (refusalFor e k part) (recordFor e k) old new n _ _ refl refl w in

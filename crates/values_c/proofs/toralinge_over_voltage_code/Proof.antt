@@ -4,10 +4,10 @@ use mir.Facts.{toZ-ofZ}
 use Rattle.values.specs.Values.{overSaid}
 use mathlib.Core.Path.{refl, ap, _∙_}
 use Rattle.values.specs.Said.{saidCode}
-use Rattle.stream.proofs.Given.{gives-as}
+use Rattle.values_c.proofs.Given.{gives-as}
 use borrow.Author.Needs.{needs}
-use Rattle.stream.proofs.convert.toralinge_over_voltage_code.Statement.{statement}
-use Rattle.stream.proofs.convert.toralinge_over_voltage_code.Tie as tie
+use Rattle.values_c.proofs.toralinge_over_voltage_code.Statement.{statement}
+use Rattle.values_c.proofs.toralinge_over_voltage_code.Tie as tie
 
 returns : tie.Need-returns
 returns c = gives-as saidCode (c .before .before .before .over-voltage-code .ensures ∙ ap (overSaid (c .before .before .before .before .args .gain-code) (c .before .before .before .before .args .offset)) (toZ-ofZ {w = w64} (c .before .before .before .before .fits .wanted))) (c .before .answer .given .1) refl (refl)

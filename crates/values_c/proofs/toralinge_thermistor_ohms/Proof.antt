@@ -1,10 +1,10 @@
 -- The value or the number that refuses, by what the conversion answers.
 use mathlib.Core.Path.{refl}
 use Rattle.values.specs.Said.{saidOhms}
-use Rattle.stream.proofs.Given.{gives-as}
+use Rattle.values_c.proofs.Given.{gives-as}
 use borrow.Author.Needs.{needs}
-use Rattle.stream.proofs.convert.toralinge_thermistor_ohms.Statement.{statement}
-use Rattle.stream.proofs.convert.toralinge_thermistor_ohms.Tie as tie
+use Rattle.values_c.proofs.toralinge_thermistor_ohms.Statement.{statement}
+use Rattle.values_c.proofs.toralinge_thermistor_ohms.Tie as tie
 
 returns : tie.Need-returns
 returns c = gives-as saidOhms (c .before .before .before .thermistor-ohms .ensures) (c .before .answer .given .1) refl (refl)

@@ -2,10 +2,10 @@
 use mathlib.Core.Path.{refl}
 use Rattle.values.specs.Said.{saidVoltage}
 use Rattle.values.proofs.Within.{result}
-use Rattle.stream.proofs.Given.{gives-as}
+use Rattle.values_c.proofs.Given.{gives-as}
 use borrow.Author.Needs.{needs}
-use Rattle.stream.proofs.convert.toralinge_cell_microvolts.Statement.{statement}
-use Rattle.stream.proofs.convert.toralinge_cell_microvolts.Tie as tie
+use Rattle.values_c.proofs.toralinge_cell_microvolts.Statement.{statement}
+use Rattle.values_c.proofs.toralinge_cell_microvolts.Tie as tie
 
 returns : tie.Need-returns
 returns c = gives-as saidVoltage (c .before .before .before .before .cell-voltage .ensures) (c .before .before .answer .given .1) refl (result (c .struct-told .given .0 .1) refl)

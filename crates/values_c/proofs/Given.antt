@@ -2,7 +2,7 @@
 use mathlib.Core.Path.{_≡_, sym, ap, _∙_}
 use Prim.Native.Nat.{ℕ}
 use Rattle.values.specs.Values.{Said, numberSaid, valueSaid}
-use Rattle.stream.specs.Convert.{Gives}
+use Rattle.values_c.specs.Convert.{Gives}
 
 -- the answer r says what was asked, and was found to be a
 pub gives-as : {A : Type 0} {B : Type 0} {asked : Said A} (says : B → Said A) {r a : B} {old new : A} {n : ℕ}

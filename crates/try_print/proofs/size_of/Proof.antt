@@ -1,8 +1,8 @@
 -- The size of a negative number is 1 more than that of the number above it (Below).
 use borrow.Author.Needs.{needs}
-use Rattle.absolute.proofs.Below.{Less, negative, one-more, more-fits, turned, turned-fits, cast-fits, size-fits, sized, whole}
-use Rattle.absolute.proofs.size_of.Statement.{statement}
-use Rattle.absolute.proofs.size_of.Tie as tie
+use Rattle.try_print.proofs.Below.{Less, negative, one-more, more-fits, turned, turned-fits, cast-fits, size-fits, sized, whole}
+use Rattle.try_print.proofs.size_of.Statement.{statement}
+use Rattle.try_print.proofs.size_of.Tie as tie
 
 module _ (c : tie.Then1) where
   less : Less (c .before .args .v)

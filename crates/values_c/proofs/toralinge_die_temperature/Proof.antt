@@ -3,10 +3,10 @@ use mir.Syntax.{w64}
 use mir.Val.{toZ, ofZ}
 use mathlib.Core.Path.{_≡_, refl}
 use Rattle.values.specs.Said.{saidDie}
-use Rattle.stream.proofs.Given.{gives-as}
+use Rattle.values_c.proofs.Given.{gives-as}
 use borrow.Author.Needs.{needs}
-use Rattle.stream.proofs.convert.toralinge_die_temperature.Statement.{statement}
-use Rattle.stream.proofs.convert.toralinge_die_temperature.Tie as tie
+use Rattle.values_c.proofs.toralinge_die_temperature.Statement.{statement}
+use Rattle.values_c.proofs.toralinge_die_temperature.Tie as tie
 
 returns : tie.Need-returns
 returns c =

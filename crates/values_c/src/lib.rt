@@ -2,7 +2,7 @@
 ghost use mathlib.Core.Path.{_≡_};
 ghost use Rattle.values.specs.Values.{cellSaid, ohmsSaid, dieSaid, overSaid, underSaid, ccHundredths};
 ghost use Rattle.crc8.specs.Crc.{crcOn};
-ghost use Rattle.stream.specs.Convert.{Gives};
+ghost use Rattle.values_c.specs.Convert.{Gives};
 use values::CellVoltage;
 use values::DieTemperature;
 use values::Microvolts;
