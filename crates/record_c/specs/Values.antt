@@ -11,8 +11,10 @@ use Rattle.events.specs.declared.Setup.{Setup as SetupValues}
 use Rattle.events.specs.declared.Counts.{Counts}
 use Rattle.events.specs.declared.BusEvent.the-variants.{Start, Out, In, Stop}
 use Rattle.events.specs.declared.Event.{Event}
-use Rattle.events.specs.declared.Event.the-variants.{Setup, Por, Boot, Scan, Temp, Count, Sense, Pin, Load, Xready, OnBus, Level, Ticks, Soak, Wires}
-use Rattle.records.specs.Kind.{SETUP, POR, BOOT, SCAN, TEMP, COUNT, SENSE, PIN, LOAD, XREADY, START, OUT, IN, STOP, LEVEL, TICKS, SOAK, WIRES}
+use Rattle.events.specs.declared.Event.the-variants.{Setup, Por, Boot, Scan, Temp, Count, Sense, Pin, Load, Xready, OnBus, Level, Ticks}
+use Rattle.events.specs.declared.Event.the-variants.{Soak, Wires}
+use Rattle.records.specs.Kind.{SETUP, POR, BOOT, SCAN, TEMP, COUNT, SENSE, PIN, LOAD, XREADY, START, OUT, IN, STOP, LEVEL, TICKS, SOAK}
+use Rattle.records.specs.Kind.{WIRES}
 use Rattle.records.specs.Numbers.{bitOf, filled}
 use Rattle.records.specs.Record.{checkedIn, loadOf, levelOf, inOf, ticksOf, soakOf, inputsAt, groupsAt, noCounts}
 use Rattle.records.specs.declared.Payload.{Payload}
@@ -70,7 +72,9 @@ unfoldable pub setupBy : List ℤ → Payload
 setupBy vs =
     cond (eqb (length vs) 6)
     (cond (leb (natAt vs 4) 255)
-    (checkedIn (checkedOf (byteOf (natAt vs 0)) (byteOf (natAt vs 1)) (byteOf (natAt vs 2)) (byteOf (natAt vs 3)) (byteOf (natAt vs 4)) (wordOf (natAt vs 5))))
+    (checkedIn
+    (checkedOf (byteOf (natAt vs 0)) (byteOf (natAt vs 1)) (byteOf (natAt vs 2)) (byteOf (natAt vs 3)) (byteOf (natAt vs 4))
+    (wordOf (natAt vs 5))))
     (Unfit 1))
     (Unfit 2)
 
@@ -97,7 +101,8 @@ abbrev pub senseBy : List ℤ → Payload
 senseBy vs = cond (eqb (length vs) 1) (cond (senseFits (valueAt vs 0)) (Whole (Sense (valueAt vs 0))) (Unfit 3)) (Unfit 2)
 
 abbrev pub repeatBy : (ℤ → ℕ → Event) → ℕ → List ℤ → Payload
-repeatBy e most vs = cond (eqb (length vs) 2) (cond (ticksFit most (valueAt vs 0) (natAt vs 1)) (Whole (e (valueAt vs 0) (natAt vs 1))) (Unfit 3)) (Unfit 2)
+repeatBy e most vs =
+    cond (eqb (length vs) 2) (cond (ticksFit most (valueAt vs 0) (natAt vs 1)) (Whole (e (valueAt vs 0) (natAt vs 1))) (Unfit 3)) (Unfit 2)
 
 -- the number of cells: no part has a row for one that a byte does not hold; who writes the record judges another
 abbrev pub wiresBy : List ℤ → Payload
