@@ -88,9 +88,9 @@ want_tool() {
     mv -f "$new" "$tool"
 }
 
-# want_turns NAME: the tool of tools/NAME.c, which plays a stream a record at a time.
+# want_turns NAME [CRATE ..]: the tool of tools/NAME.c, which plays a stream a record at a time, and has the calls of the crates too.
 want_turns() {
-    want_linked feed
+    want_linked feed "${@:2}"
     want_tool "$1" "$root/tools/$1.c" "$root/tools/turns.c" "$root/tools/input.c" "${linked[@]}"
 }
 

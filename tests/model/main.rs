@@ -10,6 +10,7 @@ mod stream;
 mod tables;
 mod tell;
 mod values;
+mod why;
 
 use plant::Plant;
 use std::io::{BufWriter, Read, Write};
@@ -17,7 +18,7 @@ use std::process::ExitCode;
 
 const USAGE: &str =
     "usage: model cases | plants [--seed S] [--streams N] | generate [--seed S] [--streams N] [--first K]
-    | stream [--seed S] [--first K] | play [FILE] | lines [FILE] | season [FILE] | reading [FILE] | scans [FILE] | tell [FILE] | values";
+    | stream [--seed S] [--first K] | play [FILE] | lines [FILE] | season [FILE] | reading [FILE] | scans [FILE] | why [FILE] | tell [FILE] | values";
 
 struct Options {
     seed: u64,
@@ -177,6 +178,7 @@ fn run(words: &[String]) -> Result<(), String> {
         "lines" => print!("{}", stream::all_lines(&stream_of(rest)?)),
         "season" => print!("{}", tables::season(&stream_of(rest)?)),
         "reading" => print!("{}", tables::reading(&stream_of(rest)?)),
+        "why" => print!("{}", why::why(&stream_of(rest)?)),
         "scans" => print!("{}", tables::scans(&stream_of(rest)?)),
         "tell" => print!("{}", tell::tell(&stream_of(rest)?)),
         "values" => print!("{}", tell::grid()),
