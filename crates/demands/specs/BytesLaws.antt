@@ -99,7 +99,8 @@ module _ (t : Status) where
       × (statusByte t / 2 % 2 ≡ weighed (t .scd) 1) × (statusByte t / 1 % 2 ≡ weighed (t .ocd) 1)
   fault-bits =
       sum-bit (weighed (t .«cc_ready») 1) (weighed (t .xready) 1) (weighed (t .«ovrd_alert») 1) (weighed (t .uv) 1) (weighed (t .ov) 1)
-      (weighed (t .scd) 1) (weighed (t .ocd) 1) (statusByte t) (one-most (t .uv)) (one-most (t .ov)) (one-most (t .scd)) (one-most (t .ocd)) sum
+      (weighed (t .scd) 1) (weighed (t .ocd) 1) (statusByte t) (one-most (t .uv)) (one-most (t .ov)) (one-most (t .scd))
+      (one-most (t .ocd)) sum
 
   pub status-bit : (k : Fault) → bit (statusByte t) (place k) ≡ bitOf k t
   status-bit Uv = ap (λ n. eqb n 1) (fault-bits .0) ∙ one-is (t .uv)
@@ -146,7 +147,8 @@ module _ (s : List ℕ) (u : SetupValues) (next : ℕ) (first : readOf 0 s ≡ R
       → judges k e ≡ true → Accepted u past e
       → (bit (getD (bytesOf (entries s)) (5 * n + 3) 0) (place k) ≡ true) ↔ ((up u k past ≡ true) ∨₁ Due u k (e ∷ past))
   fault-rises n h k past e l j a =
-      subst (λ b. (b ≡ true) ↔ ((up u k past ≡ true) ∨₁ Due u k (e ∷ past))) (sym (fault-shows n h k ∙ ap (up u k) l)) (rising u k past e j a)
+      subst (λ b. (b ≡ true) ↔ ((up u k past ≡ true) ∨₁ Due u k (e ∷ past))) (sym (fault-shows n h k ∙ ap (up u k) l))
+      (rising u k past e j a)
 
   -- BYTE 4: ALERT and the drives
   pub pins-show : (n : ℕ) → n < length (entries s)

@@ -71,7 +71,8 @@ discharge-on b v en s ask y c d p x = simp (ask, y, c, d, p, x)
 
 -- a write elsewhere, a clearing one too, leaves both
 pub write-leaves : (b a v : ℕ) (en : Bool) (s : Shown) → eqb a 0x05 ≡ false
-    → (heard (OnBus (Out b)) (At a v) en none s .«chg_on» ≡ s .«chg_on») × (heard (OnBus (Out b)) (At a v) en none s .«dsg_on» ≡ s .«dsg_on»)
+    → (heard (OnBus (Out b)) (At a v) en none s .«chg_on» ≡ s .«chg_on»)
+    × (heard (OnBus (Out b)) (At a v) en none s .«dsg_on» ≡ s .«dsg_on»)
 write-leaves b a v en s h = (simp h, simp h)
 
 -- and so does every event but PIN and XREADY that raises none of its faults
