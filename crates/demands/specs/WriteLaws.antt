@@ -1,4 +1,4 @@
--- Document 01, "Registers", "Modes" and the drives: what is read back after a write of SYS_CTRL1 and SYS_CTRL2; when a drive comes on, when
+-- CHIP.md, "Registers", "Modes" and the drives: what is read back after a write of SYS_CTRL1 and SYS_CTRL2; when a drive comes on, when
 -- it is left, and that a clearing write alone never puts it on. Assumes nothing.
 use mathlib.Core.Path.{_≡_, refl, sym, ap, _∙_}
 use mathlib.Core.Bool.{Bool, true, false, not, _&&_, _||_, cond}
