@@ -29,8 +29,8 @@ pub record Entry : Type 0 where
   pub byte : ℕ
   pub status : ℕ
   pub alerts : Bool
-  pub chg : Bool
-  pub dsg : Bool
+  pub «chg_on» : Bool
+  pub «dsg_on» : Bool
 
 abbrev entry : Stepped → Entry
 entry s =
