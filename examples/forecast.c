@@ -1,13 +1,18 @@
 /*
- * What forecasting takes from a stream of records on standard input, as lines for a sheet: the pack's voltages as they stand at
- * its end, then the season's totals of each cell. `./forecast FILE` builds and runs it.
+ * What forecasting takes from a stream of records on standard input, one table for a sheet:
+ *   forecast --season    the totals of each cell over every scan that was stored
+ *   forecast --reading   the pack's voltages as they stand at the end
+ *   forecast --scans     each scan that was stored, in microvolts
+ * Where there is nothing to give it says the number and its words on standard error and ends with 1. `./forecast` builds and runs it.
  */
 #include <inttypes.h>
 #include <stdio.h>
 #include <stdlib.h>
+#include <string.h>
 #include "toralinge.h"
 
 #define MOST_CELLS 15
+#define HEADER 4 /* bytes of a record before its payload: payload length, kind */
 
 /* All of standard input; NULL where there is no memory for it. */
 static uint8_t *read_all(size_t *length)
@@ -26,17 +31,25 @@ static uint8_t *read_all(size_t *length)
     return bytes;
 }
 
-/* Microvolts, and the coulomb counter in hundredths of one. Each double is a whole number. */
-static void print_reading(const uint8_t *stream, size_t length)
+/* Says that there is no table, and why. */
+static int refused(const char *what, int64_t number)
+{
+    fprintf(stderr, "forecast: no %s, %d: %s\n", what, (int)number, toralinge_words(number));
+    return 1;
+}
+
+/* Each double is a whole number. */
+static int print_reading(const uint8_t *stream, size_t length)
 {
     double reading[TORALINGE_READING_SIZE];
     uint8_t number = toralinge_reading(stream, length, reading, TORALINGE_READING_SIZE);
     if (number != TORALINGE_DONE) {
-        printf("reading refused,%d\n", number);
-        return;
+        return refused("reading", number);
     }
-    printf("least,greatest,total,charge\n%.0f,%.0f,%.0f,%.0f\n", reading[TORALINGE_READING_LEAST],
-           reading[TORALINGE_READING_GREATEST], reading[TORALINGE_READING_TOTAL], reading[TORALINGE_READING_CC]);
+    printf("least cell in microvolts,greatest cell in microvolts,total in microvolts,coulomb counter in hundredths of a microvolt\n");
+    printf("%.0f,%.0f,%.0f,%.0f\n", reading[TORALINGE_READING_LEAST], reading[TORALINGE_READING_GREATEST],
+           reading[TORALINGE_READING_TOTAL], reading[TORALINGE_READING_CC]);
+    return 0;
 }
 
 /* A line a cell. Without scans there is no least and no greatest, and their places stay empty. */
@@ -53,31 +66,89 @@ static void print_cell(int cell, const int64_t *row)
            row[TORALINGE_SEASON_MICROVOLTS]);
 }
 
-static void print_season(const uint8_t *stream, size_t length)
+static int print_season(const uint8_t *stream, size_t length)
 {
     int64_t rows[MOST_CELLS * TORALINGE_SEASON_SIZE];
     int64_t cells = toralinge_season(stream, length, rows, MOST_CELLS * TORALINGE_SEASON_SIZE);
     int cell;
     if (cells < 0) {
-        printf("season refused,%d\n", (int)-cells);
-        return;
+        return refused("season", -cells);
     }
-    printf("cell,scans,least,in scan,greatest,in scan,counts,connected,microvolts\n");
+    printf("cell,scans,least count,scan of least count,greatest count,scan of greatest count,sum of counts,scans connected,"
+           "sum in microvolts\n");
     for (cell = 1; cell <= cells; cell++) {
         print_cell(cell, rows + (cell - 1) * TORALINGE_SEASON_SIZE);
     }
+    return 0;
 }
 
-int main(void)
+/* How many cells the pack has, or minus a number: SETUP and wiring stand before the first BOOT, and no scan is stored before it. */
+static int64_t cells_of(const uint8_t *stream, size_t length)
+{
+    int64_t rows[MOST_CELLS * TORALINGE_SEASON_SIZE];
+    size_t at = 0;
+    while (length - at >= HEADER) {
+        size_t next = HEADER + stream[at] + 256u * stream[at + 1];
+        if (next > length - at || (next == HEADER && stream[at + 2] + 256u * stream[at + 3] == TORALINGE_KIND_BOOT)) {
+            break;
+        }
+        at += next;
+    }
+    return toralinge_season(stream, at, rows, MOST_CELLS * TORALINGE_SEASON_SIZE);
+}
+
+/* A line a stored scan. A cell that was not connected has an empty place. */
+static void print_scan(int64_t scan, int64_t cells, const int64_t *row)
+{
+    int64_t cell;
+    printf("%" PRId64 ",%" PRId64, scan, row[0]);
+    for (cell = 1; cell <= cells; cell++) {
+        if (row[1] >> (cell - 1) & 1) {
+            printf(",%" PRId64, row[1 + cell]);
+        } else {
+            printf(",");
+        }
+    }
+    printf("\n");
+}
+
+static int print_scans(const uint8_t *stream, size_t length)
+{
+    size_t room = (length / (HEADER + 10) + 1) * TORALINGE_SCAN_SIZE; /* the shortest scan has five counts */
+    int64_t *rows = malloc(room * sizeof *rows);
+    int64_t scans = rows == NULL ? -TORALINGE_NO_ROOM : toralinge_scans(stream, length, rows, room), cells, at;
+    if (scans < 0) {
+        free(rows);
+        return refused("scans", -scans);
+    }
+    cells = cells_of(stream, length);
+    printf("scan,record");
+    for (at = 1; at <= cells; at++) {
+        printf(",cell %d in microvolts", (int)at);
+    }
+    printf("\n");
+    for (at = 0; at < scans; at++) {
+        print_scan(at + 1, cells, rows + at * TORALINGE_SCAN_SIZE);
+    }
+    free(rows);
+    return 0;
+}
+
+int main(int count, char **words)
 {
     size_t length;
+    const char *table = count > 1 ? words[1] : "--season";
     uint8_t *stream = read_all(&length);
+    int status;
     if (stream == NULL) {
         fprintf(stderr, "forecast: no memory for the stream\n");
         return 1;
     }
-    print_reading(stream, length);
-    print_season(stream, length);
+    if (strcmp(table, "--reading") == 0) {
+        status = print_reading(stream, length);
+    } else {
+        status = strcmp(table, "--scans") == 0 ? print_scans(stream, length) : print_season(stream, length);
+    }
     free(stream);
-    return 0;
+    return fflush(stdout) == 0 ? status : 1;
 }

@@ -4,12 +4,11 @@
  * Link with target/libtoralinge.a, for x86-64 Linux; `./library` proves every call and writes it. A
  * program that wants less links with single ones, in any number: `rt staticlib NAME` writes
  * target/staticlib/libNAME.a, where NAME is i2c_lists for toralinge_list, services_stream for
- * toralinge_bleed and toralinge_reply, season_stream for toralinge_season, plain for toralinge_plain, and
- * stream for all other calls.
+ * toralinge_bleed and toralinge_reply, season_stream for toralinge_season, plain for toralinge_plain, feed for
+ * toralinge_feed, chip_c for the other calls on a kept chip, and stream for all other calls.
  *
- * "Document 01" is the paper that gives the rules; requests of document 02 have added to it and changed
- * some (docs/landings). Every call here answers for every value of its arguments, and is proved to
- * answer exactly as these papers say.
+ * The rules stand in docs/CHIP.md, each with a number. Every call here answers for every value of its
+ * arguments, and is proved to answer exactly as these rules say.
  *
  * What every call asks of its caller:
  *   - no pointer is NULL, also where its length or room is 0;
@@ -27,6 +26,16 @@
 extern "C" {
 #endif
 
+/* The version of this header, as text and as 10,000 x major + 100 x minor + patch. */
+#define TORALINGE_VERSION "1.0.0"
+#define TORALINGE_VERSION_NUMBER 10000
+
+/* The version of the library that is linked, as text: to be compared with TORALINGE_VERSION. */
+const char *toralinge_version(void);
+
+/* A line of text for a number of the list below, with either sign; "unknown number" for any other. */
+const char *toralinge_words(int64_t number);
+
 /* 0 for done, or why a record or a call is refused. */
 enum toralinge_number {
     TORALINGE_DONE = 0,
@@ -36,7 +45,7 @@ enum toralinge_number {
     TORALINGE_BAD_VALUE = 3,    /* a payload value, a count, a margin or a resistor is out of range */
     TORALINGE_ASLEEP = 4,       /* the chip is in SHIP */
     TORALINGE_NO_ROOM = 5,      /* the output buffer is too short */
-    TORALINGE_NO_CELL = 6,      /* no such cell; no call of this header answers it */
+    TORALINGE_NO_CELL = 6,      /* no such cell */
     TORALINGE_OPEN_SENSOR = 7,  /* thermistor count 9,323 or more */
     TORALINGE_NO_CODE = 8,      /* the wanted threshold lies outside its window */
     TORALINGE_CUT = 9,          /* a record is cut short, or there is none */
@@ -48,7 +57,83 @@ enum toralinge_number {
     TORALINGE_BAD_ADDRESS = 21, /* a list has an address outside 0x08 to 0x77 */
     TORALINGE_SEASON_FULL = 22, /* a season would have more than 65,535 scans */
     TORALINGE_BAD_COMMAND = 23, /* another Smart Battery command */
-    TORALINGE_TOO_LONG = 24     /* a stream is longer than toralinge_plain takes */
+    TORALINGE_TOO_LONG = 24,    /* a stream is longer than toralinge_plain takes */
+    TORALINGE_OTHER_CHIP = 25,  /* reports of different chips: part, gain, offset, row or floor */
+    TORALINGE_NO_CHIP = 26      /* bytes that are no chip, or no report */
+};
+
+/* The kinds of records. */
+enum toralinge_kind {
+    TORALINGE_KIND_SETUP = 0x0000,
+    TORALINGE_KIND_POR = 0x0001,
+    TORALINGE_KIND_BOOT = 0x0002,
+    TORALINGE_KIND_SCAN = 0x0003,
+    TORALINGE_KIND_TEMP = 0x0004,
+    TORALINGE_KIND_COUNT = 0x0005,
+    TORALINGE_KIND_SENSE = 0x0006,
+    TORALINGE_KIND_PIN = 0x0007,
+    TORALINGE_KIND_LOAD = 0x0008,
+    TORALINGE_KIND_XREADY = 0x0009,
+    TORALINGE_KIND_START = 0x0010,
+    TORALINGE_KIND_OUT = 0x0011,
+    TORALINGE_KIND_IN = 0x0012,
+    TORALINGE_KIND_STOP = 0x0013,
+    TORALINGE_KIND_TICKS = 0x0014,
+    TORALINGE_KIND_LEVEL = 0x0015,
+    TORALINGE_KIND_WIRING = 0x0016,
+    TORALINGE_KIND_SOAK = 0x0017
+};
+
+/* The addresses of the registers; of a word that of its high byte. VC1 is input 1, and each further one is two on. */
+enum toralinge_address {
+    TORALINGE_REG_SYS_STAT = 0x00,
+    TORALINGE_REG_CELLBAL1 = 0x01,
+    TORALINGE_REG_CELLBAL2 = 0x02,
+    TORALINGE_REG_CELLBAL3 = 0x03,
+    TORALINGE_REG_SYS_CTRL1 = 0x04,
+    TORALINGE_REG_SYS_CTRL2 = 0x05,
+    TORALINGE_REG_PROTECT1 = 0x06,
+    TORALINGE_REG_PROTECT2 = 0x07,
+    TORALINGE_REG_PROTECT3 = 0x08,
+    TORALINGE_REG_OV_TRIP = 0x09,
+    TORALINGE_REG_UV_TRIP = 0x0A,
+    TORALINGE_REG_CC_CFG = 0x0B,
+    TORALINGE_REG_VC1 = 0x0C,
+    TORALINGE_REG_BAT = 0x2A,
+    TORALINGE_REG_TS1 = 0x2C,
+    TORALINGE_REG_CC = 0x32,
+    TORALINGE_REG_ADCGAIN1 = 0x50,
+    TORALINGE_REG_ADCOFFSET = 0x51,
+    TORALINGE_REG_ADCGAIN2 = 0x59
+};
+
+/* The bits of SYS_STAT. Writing ones clears them. */
+enum toralinge_stat {
+    TORALINGE_STAT_OCD = 0x01,        /* over-current in discharge */
+    TORALINGE_STAT_SCD = 0x02,        /* short circuit in discharge */
+    TORALINGE_STAT_OV = 0x04,         /* over-voltage */
+    TORALINGE_STAT_UV = 0x08,         /* under-voltage */
+    TORALINGE_STAT_OVRD_ALERT = 0x10, /* ALERT pulled up from outside */
+    TORALINGE_STAT_XREADY = 0x20,     /* an internal fault */
+    TORALINGE_STAT_CC_READY = 0x80    /* a coulomb count is there */
+};
+
+/* The bits of SYS_CTRL1. */
+enum toralinge_ctrl1 {
+    TORALINGE_CTRL1_SHUT_B = 0x01,
+    TORALINGE_CTRL1_SHUT_A = 0x02,
+    TORALINGE_CTRL1_TEMP_SEL = 0x08,
+    TORALINGE_CTRL1_ADC_EN = 0x10,
+    TORALINGE_CTRL1_LOAD_PRESENT = 0x80
+};
+
+/* The bits of SYS_CTRL2. */
+enum toralinge_ctrl2 {
+    TORALINGE_CTRL2_CHG_ON = 0x01,
+    TORALINGE_CTRL2_DSG_ON = 0x02,
+    TORALINGE_CTRL2_CC_ONESHOT = 0x20,
+    TORALINGE_CTRL2_CC_EN = 0x40,
+    TORALINGE_CTRL2_DELAY_DIS = 0x80
 };
 
 /* An entry of toralinge_play: five bytes, in this order. */
@@ -86,6 +171,13 @@ enum toralinge_command {
 /* The three bytes of toralinge_bleed: CELLBAL1 to 3; and of toralinge_reply: low byte, high byte, PEC. */
 enum { TORALINGE_CELLBAL_SIZE = 3, TORALINGE_REPLY_SIZE = 3 };
 
+/*
+ * A chip that lives between calls is kept by the caller as this many bytes. They hold no pointer: they may be
+ * copied, saved and mapped. Byte 0 is the layout's version, 1. All zero: no chip yet. Two chips that differ have
+ * different bytes, and bytes that are no chip are refused with 26 by every call that takes one.
+ */
+enum { TORALINGE_CHIP_SIZE = 96 };
+
 /* The nine numbers of a cell in toralinge_season, in this order. */
 enum toralinge_season_place {
     TORALINGE_SEASON_SCANS = 0,          /* how many scans were stored */
@@ -104,7 +196,7 @@ enum toralinge_season_place {
  * Plays a whole stream of records on a new chip and writes one entry of five bytes for each record.
  *
  * stream, length   the records: payload length (2 bytes), kind (2 bytes), payload, little-endian.
- *                  Kinds 0000 to 0013 are document 01's. Kinds of later requests:
+ *                  Kinds 0000 to 0013 are in the table of docs/CHIP.md, with these:
  *                    0014  ticks of one value: 4 bytes signed, as SENSE has them, and a repeat number of
  *                          2 bytes, 1 to 4,096; one entry for the whole
  *                    0015  the outside level, one byte: while it is 1 a second protector holds ALERT
@@ -123,6 +215,55 @@ enum toralinge_season_place {
  * One entry for every four bytes of the stream, and one more, is always enough.
  */
 int64_t toralinge_play(const uint8_t *stream, size_t length, uint8_t *entries, size_t room);
+
+/*
+ * Plays records on a chip that the caller keeps. (In libfeed.a.)
+ *
+ * chip, size        the chip, and how many bytes may stand there; those after TORALINGE_CHIP_SIZE keep their
+ *                   values. Zeroed bytes are no chip yet: the first record then has to be a good SETUP
+ * records, length   the records, as toralinge_play takes them; none at all is fine
+ * entries, room     where the entries go, and how many bytes may stand there
+ *
+ * Returns how many entries there are, as toralinge_play does, and leaves the chip as the records leave it. Fed in
+ * any pieces of whole records, the entries are those of toralinge_play of the whole; toralinge_play is feeding no
+ * chip yet. A record that is cut short at the end gives its entry (number 9) and leaves the chip as before it, so
+ * it can be fed whole later. With no chip yet a refused first record is the only entry, and there is still none.
+ *
+ * Otherwise changes neither buffer and returns, looked at in this order: -5 (size is below TORALINGE_CHIP_SIZE),
+ * -26 (the bytes are no chip), -5 (the entries do not fit into room).
+ */
+int64_t toralinge_feed(uint8_t *chip, size_t size, const uint8_t *records, size_t length, uint8_t *entries,
+                       size_t room);
+
+/*
+ * What an address of a kept chip holds, the bus undisturbed: the byte that a read over the bus would give; in SHIP
+ * the reset values. (In libchip_c.a, as the four calls after it.)
+ *
+ * Returns 0 and writes *value, or leaves it alone and returns, looked at in this order: 26 (the bytes are no chip,
+ * or size is below TORALINGE_CHIP_SIZE), 9 (no chip yet), 3 (address above 0xFF).
+ */
+uint8_t toralinge_register(const uint8_t *chip, size_t size, uint32_t address, uint8_t *value);
+
+/*
+ * The voltage of a cell of the pack of a kept chip in microvolts, cell 1 first; without a wiring record the cells
+ * are the part's inputs. Exact; may be negative.
+ *
+ * Returns 0 and writes *microvolts, or leaves it alone and returns, looked at in this order: 26, 9 (both as
+ * toralinge_register), 4 (the chip is in SHIP), 6 (cell is 0 or past the pack's), 10 (the cell is not connected).
+ */
+uint8_t toralinge_voltage(const uint8_t *chip, size_t size, uint32_t cell, int64_t *microvolts);
+
+/*
+ * toralinge_reading, toralinge_bleed and toralinge_reply of a kept chip.
+ *
+ * Each returns 0 and writes what its namesake writes, or writes nothing and returns 26 or 9 (as toralinge_register),
+ * then, in its namesake's order: 4, 10, 5 for the reading; 3, 4, 10, 5 for the cells to bleed; 23, 3, 4, 12, 10, 11, 5
+ * for the reply.
+ */
+uint8_t toralinge_reading_of(const uint8_t *chip, size_t size, double *reading, size_t room);
+uint8_t toralinge_bleed_of(const uint8_t *chip, size_t size, uint32_t margin, uint8_t *cellbal, size_t room);
+uint8_t toralinge_reply_of(const uint8_t *chip, size_t size, uint32_t command, uint32_t milliohms, uint8_t *reply,
+                           size_t room);
 
 /*
  * Plays a whole stream as toralinge_play does, by an engine that keeps no count of scans or ticks: at each
@@ -280,7 +421,8 @@ uint8_t toralinge_crc8(uint8_t start, const uint8_t *bytes, size_t length);
  *
  * Returns how many bytes the records are, from records[0] on; every later byte keeps its value. Each
  * message is START, OUT of its address byte, and an OUT or IN for each of its bytes; in a read every
- * byte is acknowledged but the last. STOP comes after the last message. No SETUP is written.
+ * byte is acknowledged but the last. STOP comes after the last message. No SETUP is written. Playing goes
+ * on after a byte that is not acknowledged, where an adapter of Linux stops.
  *
  * Otherwise writes nothing and returns, looked at in this order: -20 (not a list of this grammar),
  * -21 (an address outside 0x08 to 0x77), -5 (the records do not fit into room). A message takes 9 bytes

@@ -1,5 +1,5 @@
 # shellcheck shell=bash
-# Sourced by ./play, ./forecast, ./listing, ./library, .ci/run and the scripts of tests/. What the proved crates are built into is for x86-64 Linux:
+# Sourced by .ci/run, the scripts of tests/ and, over tools/command.sh, the commands. What the proved crates are built into is for x86-64 Linux:
 # elsewhere it is compiled for with Debian's cross compiler and run under qemu-user.
 # shellcheck disable=SC2034,SC2154  # me, root and usage are set, runner, compiler, program and library read by the script that sources this
 
@@ -13,6 +13,9 @@ native() {
     [[ $(uname -s) = Linux && $(uname -m) = x86_64 ]]
 }
 
+# The status where a package is missing and cannot be installed.
+lacking=1
+
 # want COMMAND-OR-FILE PACKAGE..: installs the packages where the command or the file is missing.
 want() {
     local thing=$1
@@ -21,20 +24,41 @@ want() {
         return
     fi
     if ! command -v apt-get >/dev/null; then
-        give_up 1 "$thing is missing and there is no apt-get: install $* by hand"
+        give_up "$lacking" "$thing is missing and there is no apt-get: install $* by hand"
     fi
     if [[ $(id -u) != 0 ]]; then
-        give_up 1 "$thing is missing: run 'apt-get install $*' as root"
+        give_up "$lacking" "$thing is missing: run 'apt-get install $*' as root"
     fi
     printf '%s: installs %s\n' "$me" "$*" >&2
     export DEBIAN_FRONTEND=noninteractive
     if ! { apt-get install -y --no-install-recommends "$@" || { apt-get update && apt-get install -y --no-install-recommends "$@"; }; } \
         >&2 </dev/null; then
-        give_up 1 "apt-get cannot install $*"
+        give_up "$lacking" "apt-get cannot install $*"
     fi
     if ! command -v -- "$thing" >/dev/null && [[ ! -e $thing ]]; then
-        give_up 1 "$thing is still missing after installing $*"
+        give_up "$lacking" "$thing is still missing after installing $*"
     fi
+}
+
+# want_packages NAME..: installs those of the packages that are missing, in one go; where all are there nothing is fetched.
+want_packages() {
+    local name missing=()
+    for name in "$@"; do
+        [[ $(dpkg-query -W -f '${db:Status-Status}' "$name" 2>/dev/null) = installed ]] || missing+=("$name")
+    done
+    if [[ ${#missing[@]} -gt 0 ]]; then
+        want "/usr/share/doc/${missing[-1]}" "${missing[@]}"
+    fi
+}
+
+# want_all: every package that the gate's tests need, so that apt-get is asked once.
+want_all() {
+    local names=(python3 python3-crccheck gcc libc6-dev umockdev gir1.2-umockdev-1.0 python3-gi i2c-tools python3-smbus2
+        python3-pip python3-venv python3-numpy python3-pandas python3-matplotlib python3-dask python3-distributed python3-pytest
+        python3-hypothesis python3-selenium chromium chromium-driver mypy sigrok-cli mandoc)
+    command -v rustc >/dev/null || names+=(rustc)
+    native || names+=(qemu-user libc6-amd64-cross gcc-x86-64-linux-gnu libc6-dev-amd64-cross binutils-x86-64-linux-gnu)
+    want_packages "${names[@]}"
 }
 
 # Sets `runner`, the words that come before an x86-64 program.
@@ -73,9 +97,9 @@ want_library() {
 }
 
 # The crates whose calls include/toralinge.h declares.
-calls=(stream values_c i2c_lists services_stream season_stream plain)
+calls=(stream values_c i2c_lists services_stream season_stream plain chip_c feed record_c)
 
-# want_calls: all of them in one library; sets `library`.
+# want_calls: all of them in one library, with those of c/ that are text; sets `library`.
 want_calls() {
     local name room archiver=ar parts=()
     native || archiver=x86_64-linux-gnu-ar
@@ -85,16 +109,40 @@ want_calls() {
         parts+=("$root/target/staticlib/lib$name.a")
     done
     library=$root/target/libtoralinge.a
-    if [[ -e $library && -z $(find "${parts[@]}" -newer "$library") ]]; then
+    if [[ -e $library && -z $(find "${parts[@]}" "$root/c" "$root/include" -newer "$library") ]]; then
         return
     fi
+    want_compiler
     room=$(mktemp -d)
+    "${compiler[@]}" -std=c99 -O2 -fPIC -Wall -Wextra -Werror -pedantic "-I$root/include" -c "$root/c/toralinge.c" -o "$room/words.o"
     for name in "${parts[@]}"; do
         (cd "$room" && "$archiver" x "$name")
     done
     rm -f "$library"
     "$archiver" rcs "$library" "$room"/*.o
     rm -rf "$room"
+}
+
+# want_shared: the same as a shared library; sets `shared`.
+want_shared() {
+    want_calls
+    want_compiler
+    shared=$root/target/libtoralinge.so
+    if [[ ! -e $shared || $library -nt $shared ]]; then
+        "${compiler[@]}" -shared -Wl,--whole-archive "$library" -Wl,--no-whole-archive -Wl,-soname,libtoralinge.so -o "$shared"
+    fi
+}
+
+# want_bus: umockdev with its binding for Python, and i2c-tools where they can be installed.
+want_bus() {
+    local triplet
+    triplet=$(/usr/bin/python3 -c 'import sysconfig; print(sysconfig.get_config_var("MULTIARCH"))')
+    want umockdev-run umockdev
+    want /usr/lib/python3/dist-packages/gi python3-gi
+    want "/usr/lib/$triplet/girepository-1.0/UMockdev-1.0.typelib" gir1.2-umockdev-1.0
+    if [[ $(id -u) = 0 ]]; then
+        want /usr/sbin/i2cget i2c-tools
+    fi
 }
 
 # want_built NAME FILE VERB: has rt make FILE unless it is newer than every source.
@@ -107,17 +155,44 @@ want_built() {
         fi
     done
     command -v rt >/dev/null || give_up 1 "${2#"$root"/} is to be built, and there is no rt to prove and build it"
-    (cd "$root" && rt "$3" "$name") >&2 || give_up 1 "rt $3 $name does not pass"
+    proved "$3" "$name" || give_up 1 "rt $3 $name does not pass: target/log/$name.log has what it said"
     touch "$built"
+}
+
+# standing_on NAME: the crates of the repository that NAME stands on, and NAME itself.
+standing_on() {
+    awk -v name="$1" '
+        /^[^#]*:/ { sub(/#.*/, ""); crate = $1; sub(/:.*/, "", crate); sub(/^[^:]*:/, ""); below[crate] = $0 }
+        function take(crate,    words, n, i) {
+            if (!(crate in below) || crate in taken) return
+            taken[crate] = 1
+            n = split(below[crate], words, " ")
+            for (i = 1; i <= n; i++) take(words[i])
+        }
+        END { take(name); for (crate in taken) print crate }
+    ' "$root/crates.txt"
+}
+
+# proved VERB NAME: rt VERB NAME, with a line for each crate that is proved anew and how many are left; all else that rt says goes to a log.
+proved() {
+    local log=$root/target/log/$2.log left
+    mkdir -p "$root/target/log"
+    left=$(standing_on "$2" | wc -l)
+    printf '%s: rt %s %s proves %d crates where they changed; target/log/%s.log has what it says\n' "$me" "$1" "$2" "$left" "$2" >&2
+    (cd "$root" && rt "$1" "$2" 2>&1) | tee "$log" | awk -v me="$me" -v left="$left" '
+        /^rt: [a-z0-9_]+ proved/ {
+            left--
+            if ($0 !~ /unchanged/) { printf "%s: %s is proved %s, %d left\n", me, $2, $4 " " $5, left; fflush() }
+        }
+        /NOT PROVED/ { printf "%s: %s\n", me, $0; fflush() }
+    ' >&2
+    return "${PIPESTATUS[0]}"
 }
 
 # want_input WORD..: one file at most, which can be read, or standard input that is no terminal; `usage` says what is asked for.
 want_input() {
     if [[ $# -gt 1 ]]; then
         give_up 2 "one file at most: $usage"
-    elif [[ ${1-} = -h || ${1-} = --help ]]; then
-        echo "usage: $usage"
-        exit 0
     elif [[ $# -eq 1 ]]; then
         [[ -e $1 ]] || give_up 2 "no such file: $1"
         [[ ! -d $1 && -r $1 ]] || give_up 2 "not a file that can be read: $1"
@@ -126,37 +201,33 @@ want_input() {
     fi
 }
 
-# The bytes of a hex text as printf's %b wants them; one line and status 2 where something else stands there.
-escapes() {
-    LC_ALL=C awk '
-        function refuse(why) { printf "%s\n", "line " NR ": " why; refused = 1; exit 2 }
-        { sub(/#.*/, ""); gsub(/[ \t\r\f\v]+/, " ") }
-        {
-            for (i = 1; i <= NF; i++) {
-                if ($i ~ /[^0-9A-Fa-f]/) refuse("not hex: " $i)
-                if (length($i) % 2 == 1) refuse("odd number of hex digits: " $i)
-                for (j = 1; j < length($i); j += 2) bytes[NR] = bytes[NR] "\\x" substr($i, j, 2)
-            }
-        }
-        END { if (!refused) for (n = 1; n <= NR; n++) printf "%s", bytes[n] }
-    ' <"$1"
-}
-
-# want_stream WORD..: as want_input; the bytes of a file FILE.hex are set as `bytes`.
-want_stream() {
-    want_input "$@"
-    if [[ ${1-} = *.hex ]]; then
-        bytes=$(escapes "$1") || give_up 2 "$1, $bytes"
+# want_bridge: where the machine's own Python cannot load the library, the program that loads it for Python under the emulator.
+want_bridge() {
+    local bridge=$root/target/toralinge-bridge
+    if native; then
+        return
+    fi
+    want_runner
+    want_compiler
+    if [[ ! -e $bridge || $root/python/bridge.c -nt $bridge ]]; then
+        "${compiler[@]}" -std=c99 -O2 -Wall -Wextra -Werror -pedantic "$root/python/bridge.c" -o "$bridge"
     fi
 }
 
-# fed WORD..: runs `program` on the stream that want_stream was given.
-fed() {
-    if [[ $# -eq 0 ]]; then
-        "${runner[@]}" "$program"
-    elif [[ $1 = *.hex ]]; then
-        printf '%b' "$bytes" | "${runner[@]}" "$program"
-    else
-        "${runner[@]}" "$program" <"$1"
+# want_python: what the Python package and its tests are made of, in one go.
+want_python() {
+    local pair place=/usr/lib/python3/dist-packages last='' missing=()
+    for pair in "$place/pip python3-pip" "/usr/share/doc/python3-venv python3-venv" "$place/numpy python3-numpy" \
+        "$place/pandas python3-pandas" \
+        "$place/matplotlib python3-matplotlib" "$place/dask python3-dask" "$place/distributed python3-distributed" "$place/pytest python3-pytest" \
+        "$place/hypothesis python3-hypothesis" "$place/selenium python3-selenium" "/usr/bin/chromium chromium" "/usr/bin/chromedriver chromium-driver" \
+        "/usr/bin/mypy mypy"; do
+        if [[ ! -e ${pair% *} ]]; then
+            last=${pair% *}
+            missing+=("${pair#* }")
+        fi
+    done
+    if [[ -n $last ]]; then
+        want "$last" "${missing[@]}"
     fi
 }

@@ -1,4 +1,4 @@
-/* Document 01 in plain C: one chip, changed in place. Nothing here is proved. */
+/* The rules of docs/CHIP.md in plain C: one chip, changed in place. Nothing here is proved. */
 #include "byhand.h"
 
 #include <stdbool.h>

@@ -1,5 +1,5 @@
 /*
- * What workshops and chargers ask from C: cells to bleed and Smart Battery words, worked by hand from requests M-110 and M-111, their
+ * What workshops and chargers ask from C: cells to bleed and Smart Battery words, worked by hand from CHIP E1 to E5 and C1 to C6, their
  * refusals in their order, and every room up to what is needed, through include/toralinge.h alone, with guard bytes round every buffer.
  */
 #include "check.h"

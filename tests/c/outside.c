@@ -1,5 +1,5 @@
 /*
- * The library as a C program sees it: document 01's examples, both sides of its lines and its refusals, through
+ * The library as a C program sees it: worked examples, both sides of each line and refusals, through
  * include/toralinge.h alone, with guard bytes round every buffer that is lent.
  */
 #include "check.h"
@@ -7,7 +7,7 @@
 #include "streams.h"
 #include "toralinge.h"
 
-/* SETUP of the paper's example: part 1, address 0x08, gain code 10, offset 30, floor 1,000. */
+/* SETUP of CHIP X8: part 1, address 0x08, gain code 10, offset 30, floor 1,000. */
 static void add_setup(struct stream *to, uint8_t crc)
 {
     uint8_t payload[7] = {1, 0, 0x08, 0x0A, 0x1E, 0xE8, 0x03};

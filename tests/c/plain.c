@@ -1,5 +1,5 @@
 /*
- * The engine that keeps no runs, as a C program sees it: what document 01 and its requests say of runs, stated here by hand; 24 before 5; the
+ * The engine that keeps no runs, as a C program sees it: what the rules say of runs, stated here by hand; 24 before 5; the
  * longest stream and one byte more; and each scene named on the command line as the other engine plays it. Guard bytes stand round every buffer.
  */
 #include "check.h"

@@ -1,5 +1,5 @@
 /*
- * The season of a stream from C: totals worked by hand from requests M-104, M-107 and M-108, refusals in their order, the 65,535th scan
+ * The season of a stream from C: totals worked by hand from CHIP T1 to T7, W2 and W7, refusals in their order, the 65,535th scan
  * and the next, through include/toralinge.h alone, with guard bytes round every buffer that is lent.
  */
 #include "check.h"

@@ -1,4 +1,4 @@
-//! Requests M-110 and M-111: cells to bleed, by trying every choice, and Smart Battery words, in 128 bits so that nothing can wrap.
+//! CHIP E1 to E5 and C1 to C6: cells to bleed, by trying every choice, and Smart Battery words, in 128 bits so that nothing can wrap.
 
 use crate::chip::Chip;
 use crate::plant::Plant;

@@ -1,4 +1,4 @@
-//! Document 01's own examples and both sides of its lines, asked of the model.
+//! CHIP X1 to X8, the worked examples and both sides of each line, asked of the model.
 
 use crate::plant::Plant;
 use crate::stream::{bytes_of_hex, lines, play};
@@ -63,7 +63,7 @@ pub fn check() -> usize {
     let mut made = 0;
     let mut same = |what: &str, is: i128, wanted: i128| {
         made += 1;
-        assert!(is == wanted, "{what}: the model gives {is}, document 01 {wanted}");
+        assert!(is == wanted, "{what}: the model gives {is}, docs/CHIP.md {wanted}");
     };
     let none = Plant::None;
     same("cell 6,144", cell(10, 30, 6_144, none).unwrap().into(), 2_204_976);

@@ -1,4 +1,4 @@
-//! The chip of document 01, written a second time from the paper alone: registers as one plain page of bytes, and for
+//! The chip of docs/CHIP.md, written a second time from its rules alone: registers as one plain page of bytes, and for
 //! each fault the list of all verdicts since the chip woke, so that no run is ever counted.
 
 use crate::plant::{Fault, Plant, FAULTS};
@@ -40,7 +40,7 @@ pub struct Setup {
     pub cells: Option<u8>,
 }
 
-/// Tables 3 to 5 of source document 000, a digit an input, input 1 first: 1 has a cell, 0 is shorted.
+/// The rows of CHIP W2, a digit an input, input 1 first: 1 has a cell, 0 is shorted.
 const WIRINGS: [(u8, u8, &str); 13] = [
     (1, 3, "11001"),
     (1, 4, "11101"),

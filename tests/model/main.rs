@@ -1,4 +1,4 @@
-//! A second Toralinge, written from documents 01 and 02 alone, to hold the proved library against. See ../README.md.
+//! A second Toralinge, written from the rules alone, to hold the proved library against. See ../README.md.
 
 mod asks;
 mod cases;
@@ -7,7 +7,10 @@ mod generate;
 mod plant;
 mod season;
 mod stream;
+mod tables;
+mod tell;
 mod values;
+mod why;
 
 use plant::Plant;
 use std::io::{BufWriter, Read, Write};
@@ -15,7 +18,7 @@ use std::process::ExitCode;
 
 const USAGE: &str =
     "usage: model cases | plants [--seed S] [--streams N] | generate [--seed S] [--streams N] [--first K]
-    | stream [--seed S] [--first K] | play [FILE] | forecast [FILE]";
+    | stream [--seed S] [--first K] | play [FILE] | lines [FILE] | season [FILE] | reading [FILE] | scans [FILE] | why [FILE] | tell [FILE] | values";
 
 struct Options {
     seed: u64,
@@ -160,29 +163,10 @@ fn stream_of(words: &[String]) -> Result<Vec<u8>, String> {
     Ok(bytes)
 }
 
-/// What ./forecast prints: the reading, then the season, a line a cell.
-fn forecast(bytes: &[u8]) -> String {
-    let outcome = stream::play(bytes, Plant::None);
-    let mut lines = match outcome.reading {
-        Ok([least, greatest, total, charge]) => format!("least,greatest,total,charge\n{least},{greatest},{total},{charge}\n"),
-        Err(number) => format!("reading refused,{number}\n"),
-    };
-    let rows = match season::rows(&outcome.chip, Plant::None) {
-        Ok(rows) => rows,
-        Err(number) => return lines + &format!("season refused,{number}\n"),
-    };
-    lines += "cell,scans,least,in scan,greatest,in scan,counts,connected,microvolts\n";
-    for (place, row) in rows.iter().enumerate() {
-        let told = |at: usize| if row[1] == 0 { String::new() } else { row[at].to_string() };
-        lines += &format!("{},{},{},{},{},{},{},{},{}\n", place + 1, row[0], told(2), told(3), told(4), told(5), row[6], row[7], row[8]);
-    }
-    lines
-}
-
 fn run(words: &[String]) -> Result<(), String> {
     let (mode, rest) = words.split_first().ok_or(USAGE)?;
     match mode.as_str() {
-        "cases" => println!("model: {} cases of document 01 hold", cases::check()),
+        "cases" => println!("model: {} cases of docs/CHIP.md hold", cases::check()),
         "plants" => println!("{}", plants(&options(rest)?)?),
         "generate" => generate(&options(rest)?).map_err(|e| format!("model: {e}"))?,
         "stream" => {
@@ -191,7 +175,13 @@ fn run(words: &[String]) -> Result<(), String> {
             std::io::stdout().write_all(&bytes).map_err(|e| format!("model: {e}"))?;
         }
         "play" => print!("{}", stream::lines(&stream_of(rest)?)),
-        "forecast" => print!("{}", forecast(&stream_of(rest)?)),
+        "lines" => print!("{}", stream::all_lines(&stream_of(rest)?)),
+        "season" => print!("{}", tables::season(&stream_of(rest)?)),
+        "reading" => print!("{}", tables::reading(&stream_of(rest)?)),
+        "why" => print!("{}", why::why(&stream_of(rest)?)),
+        "scans" => print!("{}", tables::scans(&stream_of(rest)?)),
+        "tell" => print!("{}", tell::tell(&stream_of(rest)?)),
+        "values" => print!("{}", tell::grid()),
         _ => return Err(USAGE.to_string()),
     }
     Ok(())

@@ -1,4 +1,4 @@
-//! Errors that can be planted in the model. Each changes one rule of document 01; the generated streams must show it.
+//! Errors that can be planted in the model. Each changes one rule of docs/CHIP.md; the generated streams must show it.
 
 #[derive(Clone, Copy, PartialEq, Eq, Debug)]
 pub enum Fault {
@@ -13,7 +13,7 @@ pub const FAULTS: [Fault; 4] = [Fault::Ov, Fault::Uv, Fault::Scd, Fault::Ocd];
 #[derive(Clone, Copy, PartialEq, Eq, Debug)]
 pub enum Plant {
     None,
-    // document 01, "Errors that look right"
+    // errors that look right (CHIP X9)
     WriteBeforeCrc,
     AddressInEveryWriteCrc,
     AddressInEveryReadCrc,

@@ -1,4 +1,4 @@
-//! Records, entries and the lines of the program, as document 01 gives them.
+//! Records, entries and the lines of the program, as CHIP R1 to R8 and P1 to P13 give them.
 
 use crate::chip::{wiring, Chip, Setup};
 use crate::plant::Plant;
@@ -306,6 +306,11 @@ pub fn lines(bytes: &[u8]) -> String {
     if bytes.len() > 65_536 {
         return "too long\n".to_string();
     }
+    all_lines(bytes)
+}
+
+/// The lines of an input of any length.
+pub fn all_lines(bytes: &[u8]) -> String {
     let outcome = play(bytes, Plant::None);
     let mut text = String::new();
     for (record, (kind, entry)) in outcome.kinds.iter().zip(&outcome.entries).enumerate() {

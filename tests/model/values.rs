@@ -1,4 +1,4 @@
-//! Document 01, "Values on the way out": the conversions on bare numbers, in 128 bits so that nothing can wrap.
+//! CHIP V1 to V8: the conversions on bare numbers, in 128 bits so that nothing can wrap.
 
 use crate::plant::Plant;
 

@@ -1,4 +1,4 @@
--- Document 01, "Registers": a bit of a byte, and the byte that bits make. Assumes nothing.
+-- A bit of a byte, and the byte that bits make. Assumes nothing.
 use mathlib.Core.Bool.{Bool, cond}
 use Prim.Native.Nat.{ℕ, _/_, _%_}
 use lib.Dec.{eqb}

@@ -1,4 +1,4 @@
--- Request M-110: the choice is the best. Of all that are allowed none has a larger total excess, and of those with an equal one none is a
+-- CHIP E4: the choice is the best. Of all that are allowed none has a larger total excess, and of those with an equal one none is a
 -- smaller number. Assumes nothing.
 use mathlib.Core.Path.{_≡_, refl, sym, ap, subst, _∙_}
 use mathlib.Core.Bool.{Bool, true, false, _&&_, cond}

@@ -1,4 +1,4 @@
--- Request M-110, "Which cells to bleed": choices of inputs as the three CELLBAL bytes, what is allowed, and which is best. An input's
+-- CHIP E3 and E4: choices of inputs as the three CELLBAL bytes, what is allowed, and which is best. An input's
 -- excess is how far it stands above the lowest connected cell; 0 says that it may not be bled. Assumes nothing.
 use mathlib.Core.Bool.{Bool, true, false, not, _&&_, _||_, cond}
 use mathlib.Core.List.{List}

@@ -1,4 +1,4 @@
--- Request M-110, "Which cells to bleed": the lowest connected cell, which cells may be bled, and how far each stands above the lowest.
+-- CHIP E2: the lowest connected cell, which cells may be bled, and how far each stands above the lowest.
 -- Inputs are counted from 0. Assumes nothing.
 use mathlib.Core.Path.{_≡_, refl}
 use mathlib.Core.Bool.{Bool, true, _&&_, cond}
@@ -45,7 +45,7 @@ lowestBelow cells linked (suc k) = lowerAt cells linked k (lowestBelow cells lin
 unfoldable pub lowest : List ℕ → ℕ → ℕ
 lowest cells linked = lowestBelow cells linked 15
 
--- a cell may be bled if connected and at least the margin above the lowest
+-- whether a cell may be bled (CHIP E2)
 abbrev pub mayBleed : List ℕ → ℕ → ℕ → ℕ → ℕ → Bool
 mayBleed cells linked low margin i = linkedAt linked i && leb (low + margin) (getD cells i 0)
 

@@ -1,4 +1,4 @@
--- Request M-110 read in its words: the lowest connected cell is the lowest, only what may be bled has an excess, and where nothing may be
+-- CHIP E2 and E4 in their words: the lowest connected cell is the lowest, only what may be bled has an excess, and where nothing may be
 -- bled the proposal is three zero bytes. Assumes nothing.
 use mathlib.Core.Path.{_≡_, refl, sym, ap, subst, _∙_}
 use mathlib.Core.Bool.{Bool, true, false, not, _&&_, cond}

@@ -1,4 +1,4 @@
--- Document 01, "Bus". It knows no register: OUT gives the acknowledgement and at most one accepted store, IN asks for a register and is
+-- CHIP B1 to B20. It knows no register: OUT gives the acknowledgement and at most one accepted store, IN asks for a register and is
 -- told it. `Line` moves by the host's bytes alone. What depends on what a register held stands apart, in `Owed`. Assumes nothing.
 use mathlib.Core.Bool.{Bool, true, false, not, _&&_, cond}
 use Prim.Native.Nat.{ℕ, _+_, _*_, _/_, _%_}
@@ -27,15 +27,15 @@ withLine l b = record { line = l; owed = b .owed }
 abbrev pub withPhase : Phase → Bus → Bus
 withPhase p b = withLine (lineOf p (b .line .pointer)) b
 
--- 0xFF to 0x00
+-- CHIP B10
 abbrev pub grown : ℕ → ℕ
 grown a = (a + 1) % 256
 
--- on entering SHIP
+-- on entering SHIP (CHIP M3)
 abbrev pub idleBus : Bus
 idleBus = record { line = lineOf Idle 0; owed = record { sum = 0; low = 0 } }
 
--- ── START begins afresh, STOP ends; the pointer outlives both ──
+-- ── START and STOP (CHIP B1, B2) ──
 abbrev pub started : Line → Line
 started l = lineOf Address (l .pointer)
 
@@ -49,7 +49,7 @@ goes p a = record { line = lineOf p a; acked = true; byte = 0; store = Nothing }
 abbrev pub refuses : ℕ → Outed
 refuses a = record { line = lineOf Idle a; acked = false; byte = 1; store = Nothing }
 
--- the pointer grows after each accepted data byte; the CRC of later ones has the data only
+-- an accepted data byte (CHIP B10); the CRC of later ones has the data alone (CHIP B12)
 abbrev pub stores : ℕ → ℕ → Outed
 stores a v = record { line = lineOf (Writing 0) (grown a); acked = true; byte = 0; store = At a v }
 
@@ -77,7 +77,7 @@ outIn u (Summing k) a b = refuses a
 unfoldable pub outed : Setup → Line → ℕ → Outed
 outed u l b = outIn u (l .phase) (l .pointer) b
 
--- ── IN: data, then (CRC on) its CRC, alternately; `nack`: the host does not acknowledge ──
+-- ── IN (CHIP B13 to B17); `nack`: the host does not acknowledge ──
 abbrev pub isHigh : ℕ → Bool
 isHigh a = eqb (a % 2) 0 && leb VC1 a && leb a CC
 
@@ -115,7 +115,7 @@ inByte here o (Summing k) = o .sum
 unfoldable pub byteGiven : ℕ → Bus → ℕ
 byteGiven here b = inByte here (b .owed) (b .line .phase)
 
--- when the high byte of a pair is given, its low byte is kept
+-- what a data byte given leaves owed: its CRC, and the low byte of a pair (CHIP B14, B18)
 unfoldable pub keeps : Owed → ℕ → Bool → ℕ → ℕ → ℕ → Owed
 keeps o s k a here low = record { sum = byteOn s (nextByte k (o .low) here); low = cond (isHigh a) low (o .low) }
 

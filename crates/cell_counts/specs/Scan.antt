@@ -1,4 +1,4 @@
--- Document 01, "Judging": what one look over the counts of a scan finds. Assumes nothing.
+-- CHIP J1 to J3: what one look over the counts of a scan finds. Assumes nothing.
 use mathlib.Core.Bool.{Bool, false, _&&_, _||_}
 use mathlib.Core.List.{List, [], _∷_}
 use Prim.Native.Nat.{ℕ, zero, suc, _+_}
@@ -15,11 +15,11 @@ abbrev pub some : (ℕ → Bool) → List ℕ → Bool
 some p [] = false
 some p (x ∷ xs) = p x || some p xs
 
--- over: some count above the line
+-- over (CHIP J2)
 abbrev pub someAbove : ℕ → List ℕ → Bool
 someAbove line xs = some (λ x. ltb line x) xs
 
--- under: some count not below the floor and below the line
+-- under (CHIP J3)
 abbrev pub someBetween : ℕ → ℕ → List ℕ → Bool
 someBetween floor line xs = some (λ x. leb floor x && ltb x line) xs
 

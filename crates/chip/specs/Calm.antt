@@ -1,4 +1,4 @@
--- Document 02, M-103: from SHIP on, over any events, the outside level 1 and SYS_STAT 0 never stand together; so the level does something
+-- CHIP L2: from SHIP on, over any events, the outside level 1 and SYS_STAT 0 never stand together; so the level does something
 -- only after a clearing write and after its own event. Assumes nothing.
 use mathlib.Core.Path.{_≡_, sym, ap}
 use mathlib.Core.List.{List}

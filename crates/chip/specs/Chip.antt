@@ -1,5 +1,5 @@
--- The chip: setup, mode, bus, registers and runs, and what each event does and answers. Document 01, "Numbers given back", "Modes",
--- "Bus" and "Judging" put together over the rooms below. Assumes nothing.
+-- The chip (CHIP S7): setup, mode, bus, registers and runs, and what each event does and answers: CHIP M1 to M10,
+-- and the rules of the bus, the registers and judging put together over the rooms below. Assumes nothing.
 use mathlib.Core.Bool.{Bool, true, false, cond}
 use mathlib.Core.List.{List, [], _∷_}
 use Prim.Native.Nat.{ℕ, zero, suc}
@@ -54,18 +54,18 @@ withRegisters r c = record { setup = c .setup; normal = c .normal; bus = c .bus;
 abbrev pub withRuns : Runs → Chip → Chip
 withRuns n c = record { setup = c .setup; normal = c .normal; bus = c .bus; registers = c .registers; runs = n }
 
--- ── Modes: on entering SHIP every register takes its reset value, all runs end, the bus is idle and its pointer 0 ──
+-- ── what SHIP leaves (CHIP M3) ──
 abbrev pub inShip : Setup → Chip
 inShip u = record { setup = u; normal = false; bus = idleBus; registers = reset; runs = noRuns }
 
--- ── Judging: the runs go on, and what rises is shown and puts off its drive ──
+-- ── the runs go on, and what rises is shown and puts off its drive (CHIP J9, J13) ──
 abbrev pub judged : Event → Chip → Chip
 judged e c =
     withRuns (counted (c .setup .floor) (c .registers .settings) (c .runs) e)
     (withRegisters
     (withShown (raised (risen (c .setup .floor) (c .registers .settings) (c .runs) e) (c .registers .shown)) (c .registers)) c)
 
--- ── Bus: an accepted store; the byte that ships is acknowledged, then the bus is idle and the pointer 0 ──
+-- ── an accepted store, or the byte that ships (CHIP M10) ──
 abbrev pub lineMoved : Line → Chip → Chip
 lineMoved l c = withBus (withLine l (c .bus)) c
 
@@ -101,9 +101,7 @@ onBus Stop c = numbered DONE (lineMoved (stopped (c .bus .line)) c)
 onBus (Out b) c = sent (outed (c .setup) (c .bus .line) b) c
 onBus (In nack) c = fetched nack c
 
--- ── document 02, M-103: after any event that leaves the chip in NORMAL and is not refused, if the outside level is 1 and SYS_STAT is 0,
--- OVRD_ALERT
--- rises and both drives go off. In SHIP the level is 0, so an event that enters SHIP is left as it is ──
+-- ── the outside level is looked at (CHIP L2). In SHIP it is 0, so an event that enters SHIP is left as it is ──
 abbrev pub watched : Chip → Chip
 watched c = withRegisters (pulledByLevel (c .registers)) c
 
@@ -124,14 +122,14 @@ normally (Load l) c = numbered DONE (withRegisters (withLoadLevel l (c .register
 normally (OnBus b) c = onBus b c
 normally (Level l) c = numbered DONE (withRegisters (withOutsideLevel l (c .registers)) c)
 
--- bus events are no refusals: the bus stays idle, OUT is not acknowledged and IN gives 0xFF
+-- the bus asleep (CHIP M6)
 abbrev pub busAsleep : BusEvent → Chip → Stepped
 busAsleep Start c = numbered DONE c
 busAsleep Stop c = numbered DONE c
 busAsleep (Out b) c = answered 1 c
 busAsleep (In nack) c = answered 0xFF c
 
--- number 4: SCAN to XREADY, and the outside level
+-- CHIP N4
 abbrev pub asleep : Event → Chip → Stepped
 asleep Por c = numbered DONE (inShip (c .setup))
 asleep Boot c = numbered DONE (watched (withNormal true c))
@@ -149,14 +147,14 @@ asleep (Level l) c = numbered ASLEEP c
 unfoldable pub happened : Event → Chip → Stepped
 happened e c = cond (c .normal) (settled (normally e c)) (asleep e c)
 
--- 3 before 4
+-- 3 before 4 (CHIP N30)
 unfoldable pub stepped : Event → Chip → Stepped
 stepped e c = cond (fits e) (happened e c) (numbered «BAD_VALUE» c)
 
 abbrev pub next : Event → Chip → Chip
 next e c = stepped e c .chip
 
--- ── requests M-100 and M-109: that many SENSE of one value, one after the other; asleep 4, and one answer for the whole ──
+-- ── ticks (CHIP R8): that many SENSE of one value, one after the other; asleep 4, and one answer for the whole ──
 abbrev pub ticking : ℕ → ℤ → Chip → Chip
 ticking zero v c = c
 ticking (suc n) v c = happened (Sense v) (ticking n v c) .chip

@@ -1,5 +1,5 @@
--- What leaves the chip: the pins, a cell's voltage and forecasting's reading. Document 01, "Numbers given back" (4 and 6) and "Values on
--- the way out": registers hold bare counts, and the offset enters here and nowhere else. Assumes nothing.
+-- What leaves the chip: the pins (CHIP G20), a cell's voltage (CHIP V9) and forecasting's reading (CHIP V10). By
+-- CHIP V3 registers hold bare counts, and the offset enters here and nowhere else. Assumes nothing.
 use mathlib.Core.Path.{_≡_}
 use mathlib.Core.Bool.{Bool, true, false, _&&_, cond}
 use Prim.Native.Nat.{ℕ, _+_, _-_}
@@ -26,11 +26,11 @@ abbrev pub pinsOf : Chip → ℕ
 pinsOf c =
     weighed (alert (c .registers .shown .status)) 4 + weighed (c .registers .shown .«chg_on») 2 + weighed (c .registers .shown .«dsg_on») 1
 
--- requests M-107 and M-108: the counts of the connected cells, the lowest first
+-- the counts of the connected cells (CHIP W7), the lowest first
 abbrev pub linkedCounts : Chip → List ℕ
 linkedCounts c = picked (c .registers .measured .cells) (linkedInputs (c .setup) (c .registers .measured .cells))
 
--- voltages: 4, then 6 for a number past the pack's, then 10 for a cell that is not connected
+-- CHIP V9
 unfoldable pub voltageSaid : ℕ → Chip → Said ℤ
 voltageSaid n c =
     cond (c .normal)
@@ -58,7 +58,7 @@ saidForecast Forecast.NotConnected = refuses 10
 abbrev pub Reads : Chip → Reading → Type 0
 Reads c r = IsReading (c .setup .«gain_code») (c .setup .offset) (length (linkedCounts c)) (linkedCounts c) (c .registers .measured .cc) r
 
--- 4 asleep, then 10 where no cell is connected: there is no reading
+-- the number of a reading (CHIP V10)
 abbrev pub forecastNumber : Chip → ℕ
 forecastNumber c = cond (c .normal) (cond (eqb (length (linkedCounts c)) 0) 10 0) 4
 

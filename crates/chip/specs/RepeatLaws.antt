@@ -1,4 +1,4 @@
--- Requests M-100 and M-109: what ticks of one value leave, said once over their number: m and then n are m + n, they are as many SENSE,
+-- CHIP R8: what ticks of one value leave, said once over their number: m and then n are m + n, they are as many SENSE,
 -- and the chip after them has the runs by their number and shows what is due at the last; the outside level is looked at after each, and
 -- finds nothing to raise after the first. Assumes nothing.
 use mathlib.Core.Path.{_≡_, refl, sym, ap, subst, _∙_}

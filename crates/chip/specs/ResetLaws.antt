@@ -1,4 +1,4 @@
--- Document 01, "Modes" and "Registers": what each address reads in SHIP, its reset value or what is from setup. Assumes nothing.
+-- CHIP M3 and G19: what each address reads in SHIP, its reset value or what is from setup. Assumes nothing.
 use mathlib.Core.Path.{_≡_, refl, sym, ap, subst, _∙_}
 use mathlib.Core.Bool.{Bool, true, false, cond}
 use Prim.Native.Nat.{ℕ, zero, suc, _-_, _/_, _%_, _<_, _≤_}

@@ -1,4 +1,4 @@
--- Document 01, "What every call owes": any two answers about voltages that a promise of the chip allows are the same. Assumes nothing.
+-- CHIP O2: any two answers about voltages that a promise of the chip allows are the same. Assumes nothing.
 use mathlib.Core.Path.{_≡_, refl, sym, ap, _∙_}
 use mathlib.Core.Bool.{cond}
 use native.Mathlib.Omega.{arith}

@@ -1,4 +1,4 @@
--- Document 01, "Bus", the CRC: x^8 + x^2 + x + 1, start 0, high bit first, nothing inverted.
+-- CHIP B11, the CRC.
 -- A polynomial over GF(2) is a number whose bit k is the coefficient of x^k, so that 263 is x^8 + x^2 + x + 1.
 -- Assumes nothing: these are definitions.
 use Prim.Native.Nat.{ℕ, suc, zero, _+_, _*_, _/_, _%_}

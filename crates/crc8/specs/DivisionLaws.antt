@@ -140,7 +140,7 @@ whole r (b ∷ s) hr hs =
     xor-lt 8 (turns r) b (turned _ (turned _ (turned _ (turned _ (turned _ (turned _ (turned _ (turned _ hr)))))))) (hs .0) in
     byte r b (bits s ++ replicate 8 0) hr (hs .0) ∙ whole (bitXor (turns r) b) s h (hs .1)
 
--- the CRC of the document is what the code's turns give from 0
+-- the CRC is what the code's turns give from 0
 pub crc-is : (s : List ℕ) → Bytes s → crc s ≡ crcOn 0 s
 unfolding crc
 crc-is s hs = whole 0 s (omega arith) hs

@@ -1,4 +1,4 @@
--- DEMAND 3, refused events left aside: the events that were done, by themselves, leave the same chip and the same verdicts. And the same
+-- CHIP J12, refused events left aside: the events that were done, by themselves, leave the same chip and the same verdicts. And the same
 -- of the code's events, whose counts may not fit. Assumes nothing.
 use mathlib.Core.Path.{_≡_, refl, sym, ap, _∙_}
 use mathlib.Core.Bool.{Bool, true, false, cond, true≢false}

@@ -1,4 +1,4 @@
--- DEMAND 2, bare counts: no event looks at the gain code or the offset. Two chips whose setups differ in these alone have, after any
+-- CHIP G16, bare counts: no event looks at the gain code or the offset. Two chips whose setups differ in these alone have, after any
 -- events, the same registers, runs, mode and bus line, and read the same at every address but the three that hold them. Assumes nothing.
 use mathlib.Core.Path.{_≡_, refl, sym, ap, _∙_}
 use mathlib.Core.Bool.{Bool, true, false, cond}

@@ -1,4 +1,4 @@
--- DEMAND 3, not postponed over several scans or ticks: host traffic put in anywhere, that leaves the rule of a fault (that it is
+-- CHIP H4 over several scans or ticks: host traffic put in anywhere, that leaves the rule of a fault (that it is
 -- measured, its limit, its delay) and the mode as they were, leaves every verdict on it, and so what is due. Assumes nothing.
 use mathlib.Core.Path.{_≡_, refl, sym, ap, _∙_}
 use mathlib.Core.Bool.{Bool, true, false, cond, true≢false}

@@ -1,4 +1,4 @@
--- DEMAND 2, the CRC over the whole chip: with CRC on a register changes only when the CRC of its byte is accepted. Of any chip in which
+-- CHIP B6 to B8 over the whole chip: with CRC on a register changes only when the CRC of its byte is accepted. Of any chip in which
 -- the outside level 1 and SYS_STAT 0 do not stand together, as they never do from power-up (History.calm-is); after a store the level is
 -- looked at. Assumes nothing.
 use mathlib.Core.Path.{_≡_, refl, sym, ap, _∙_}

@@ -1,4 +1,4 @@
--- M-106: clearing twice. With the outside level at 0, bus traffic whose accepted writes are all of SYS_STAT lowers every bit that one of
+-- CHIP H7: clearing twice. With the outside level at 0, bus traffic whose accepted writes are all of SYS_STAT lowers every bit that one of
 -- them has, and does nothing else to the registers, the mode and the runs. So order and repetition do not matter. Assumes nothing.
 use mathlib.Core.Path.{_≡_, refl, sym, ap, subst, _∙_}
 use mathlib.Core.Bool.{Bool, true, false, not, _&&_, _||_, or-comm}

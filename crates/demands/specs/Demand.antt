@@ -1,5 +1,5 @@
--- DEMAND 3 as it is read: the events from power-up, what each says of a fault, what is due, and the claims that Theorem proves of every
--- setup. Said of the events alone, as they come: bus bytes and CRCs, counts, ticks. No run and no counter is named here. Events stand
+-- CHIP H1 to H6 as they are read: the events from power-up, what each says of a fault, what is due, and the claims that Theorem proves of
+-- every setup. Said of the events alone, as they come: bus bytes and CRCs, counts, ticks. No run and no counter is named here. Events stand
 -- newest first: `e ∷ past` is `past` and then `e`; `later ++ past` is `past` and then `later`. Assumes nothing.
 use mathlib.Core.Path.{_≡_}
 use mathlib.Core.Bool.{Bool, true, false, not, _&&_, cond}
@@ -95,7 +95,7 @@ module _ (u : Setup) where
   abbrev pub shown : List Event → Shown
   shown past = chip past .registers .shown
 
-  -- the outside level (document 02, M-103)
+  -- the outside level (CHIP L1)
   abbrev pub outside : List Event → Bool
   outside past = chip past .registers .«outside_level»
 

@@ -1,4 +1,4 @@
--- DEMAND 3 leaves nothing open: any four bits that keep its claims over all events are the chip's. So a stand-in that judges only the
+-- CHIP H1 to H6 leave nothing open: any four bits that keep them over all events are the chip's. So a stand-in that judges only the
 -- first scan and then pretends, or that starts a run again when its bit is cleared, breaks one of them. Assumes nothing.
 use mathlib.Core.Path.{_≡_, refl, sym, ap, subst, _∙_}
 use mathlib.Core.Bool.{Bool, true, false}

@@ -1,4 +1,4 @@
--- Document 01's worked stream and both sides of its lines, over the whole chip, by computation. Assumes nothing.
+-- CHIP X6 to X8, the worked stream and both sides of lines, over the whole chip, by computation. Assumes nothing.
 use mathlib.Core.Path.{_≡_, refl}
 use mathlib.Core.Bool.{Bool, true, false}
 use mathlib.Core.List.{List, [], _∷_, _++_}
@@ -29,8 +29,8 @@ pub record Entry : Type 0 where
   pub byte : ℕ
   pub status : ℕ
   pub alerts : Bool
-  pub chg : Bool
-  pub dsg : Bool
+  pub «chg_on» : Bool
+  pub «dsg_on» : Bool
 
 abbrev entry : Stepped → Entry
 entry s =
@@ -86,7 +86,7 @@ tick drop = Sense (negℤ (pos drop))
 abbrev times : ℕ → Event → List Event
 times n e = replicate n e
 
--- ── the stream that document 01 prints ──
+-- ── the printed stream (CHIP X8) ──
 pub printed : entries (inShip plain) (Boot ∷ write 0x05 0x03 ++ OnBus Stop ∷ Xready ∷ [])
     ≡ quietly 0
     ∷ quietly 0

@@ -1,4 +1,4 @@
--- DEMAND 2, reads over the whole chip: IN gives what the register at the pointer reads, then (CRC on) its CRC. Assumes nothing.
+-- CHIP B13 and B14 over the whole chip: IN gives what the register at the pointer reads, then (CRC on) its CRC. Assumes nothing.
 use mathlib.Core.Path.{_≡_, refl, sym, ap, _∙_}
 use mathlib.Core.Bool.{Bool, true, false}
 use mathlib.Core.List.{[], _∷_}

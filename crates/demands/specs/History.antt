@@ -1,4 +1,4 @@
--- DEMAND 3, the rising: over any events from power-up the mode, the settings and the runs of the chip are what the events say. Assumes
+-- CHIP H1 to H3, the rising: over any events from power-up the mode, the settings and the runs of the chip are what the events say. Assumes
 -- nothing.
 use mathlib.Core.Path.{_≡_, refl, sym, ap, _∙_}
 use mathlib.Core.Bool.{true, false, _||_, cond}

@@ -1,4 +1,4 @@
--- DEMAND 3, the latch: what any one event does to the bit of a fault and to its drive, by what it writes. Assumes nothing.
+-- CHIP H5 and H6, the latch: what any one event does to the bit of a fault and to its drive, by what it writes. Assumes nothing.
 use mathlib.Core.Path.{_≡_, refl, sym, ap, subst, _∙_}
 use mathlib.Core.Bool.{Bool, true, false, not, _&&_, _||_, cond, true≢false}
 use Prim.Native.Nat.{ℕ}
@@ -64,7 +64,7 @@ granted true false true i h = (refl, sym (i refl))
 granted true false false i h = (refl, refl)
 granted false q u i h = (h, cc)
 
--- ── what demand 3 asks of one event ──
+-- ── what the latch asks of one event ──
 -- The bit goes from u to u′ and its drive from d to d′; `jud`: the event judges the fault; `clr`: it writes a one to the bit; `ask`: it
 -- is a write that asks for the drive; `on`: it leaves the chip in NORMAL.
 pub record Kept (jud clr ask on u d u′ d′ : Bool) : Type 0 where

@@ -1,5 +1,5 @@
--- DEMAND 3, the latch of every bit of SYS_STAT: a bit that is up stays up, keeps ALERT up and the drives that it puts off off; OVRD_ALERT
--- and XREADY put off both. A write of a one lowers a bit, but OVRD_ALERT only where the outside level (document 02, M-103) is 0. Assumes
+-- CHIP H5 and H6, the latch of every bit of SYS_STAT: a bit that is up stays up, keeps ALERT up and the drives that it puts off off;
+-- OVRD_ALERT and XREADY put off both. A write of a one lowers a bit, but OVRD_ALERT only where the outside level is 0 (CHIP L3). Assumes
 -- nothing.
 use mathlib.Core.Path.{_≡_, refl, sym, ap, subst, _∙_}
 use mathlib.Core.Bool.{Bool, true, false, not, _&&_, _||_, cond, true≢false}

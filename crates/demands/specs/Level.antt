@@ -1,4 +1,4 @@
--- M-103 over any events from power-up: what the outside level is, when OVRD_ALERT is up by it, and how demand 3 reads a clearing write
+-- CHIP L1 to L4 over any events from power-up: what the outside level is, when OVRD_ALERT is up by it, and how a clearing write is read
 -- that finds it up again. Assumes nothing.
 use mathlib.Core.Path.{_≡_, refl, sym, ap, subst, _∙_}
 use mathlib.Core.Bool.{Bool, true, false, not, _&&_, _||_, cond, true≢false}

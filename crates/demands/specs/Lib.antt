@@ -24,3 +24,14 @@ pub mod Latches
 pub mod Between
 pub mod Level
 pub mod Ticks
+pub mod Moves
+pub mod MovesLaws
+pub mod ShownLaws
+pub mod Table
+pub mod TableLaws
+pub mod LineLaws
+pub mod RefusalLaws
+pub mod CellLaws
+pub mod KindLaws
+pub mod BytesLaws
+pub mod WriteLaws

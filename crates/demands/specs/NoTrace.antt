@@ -1,4 +1,4 @@
--- M-113, the proof: what remains of a stream, played by itself, shows what the full stream showed. Assumes nothing.
+-- CHIP H8, the proof: what remains of a stream, played by itself, shows what the full stream showed. Assumes nothing.
 use mathlib.Core.Path.{_≡_, refl, sym, ap, subst, subst₂, _∙_}
 use mathlib.Core.Bool.{Bool, true, false, not, cond, true≢false}
 use mathlib.Core.List.{List, [], _∷_}
@@ -188,7 +188,7 @@ claim (e ∷ es) =
       lost = λ s base m a. lost-step es (claim es) e s base m a (view e);
     }
 
--- M-113: what remains of a stream, played by itself, shows at every record what the full stream showed there, its registers with the
+-- CHIP H8: what remains of a stream, played by itself, shows at every record what the full stream showed there, its registers with the
 -- outside level included; from any chip in which the level 1 and SYS_STAT 0 do not stand together ..
 pub no-trace : (c : Chip) (es : List Event) → Calmed c → played c (remains Whole c es) ≡ remained Whole c es
 no-trace c es m = claim es .whole c m

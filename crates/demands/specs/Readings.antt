@@ -1,4 +1,4 @@
--- DEMAND 3 read fault by fault, in document 01's words and numbers: what a verdict is, how many are needed, and when the bit is up.
+-- CHIP H1 and H2 read fault by fault, in the numbers of CHIP J2 to J8: what a verdict is, how many are needed, and when the bit is up.
 -- Assumes nothing.
 use mathlib.Core.Path.{_≡_, refl}
 use mathlib.Core.Bool.{true, _&&_, cond}

@@ -1,4 +1,4 @@
--- DEMAND 1: a refused event leaves the chip as it stood, whatever its number; of the definitions' events and of the code's. Assumes
+-- CHIP N31: a refused event leaves the chip as it stood, whatever its number; of the definitions' events and of the code's. Assumes
 -- nothing.
 use mathlib.Core.Path.{_≡_, refl}
 use mathlib.Core.Bool.{Bool, true, false, cond}

@@ -1,4 +1,4 @@
--- Document 01, "Modes", over any events: whenever the chip is in SHIP it is as after setup, every register at its reset value, all runs
+-- CHIP M3 over any events: whenever the chip is in SHIP it is as after setup, every register at its reset value, all runs
 -- ended, the load level, the outside level and the pointer 0, the bus idle. Assumes nothing.
 use mathlib.Core.Path.{_≡_, refl, sym, ap, _∙_}
 use mathlib.Core.Bool.{true, false, true≢false}

@@ -1,4 +1,4 @@
--- M-113 as it is read: which records of a stream a spoiled frame drops, what remains, and what is seen of a record. Assumes nothing.
+-- CHIP H8 as it is read: which records of a stream a spoiled frame drops, what remains, and what is seen of a record. Assumes nothing.
 use mathlib.Core.Path.{_≡_, refl}
 use mathlib.Core.Bool.{Bool, true, false, not, _&&_, _||_, cond}
 use mathlib.Core.List.{List, [], _∷_}

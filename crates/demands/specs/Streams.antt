@@ -1,5 +1,5 @@
--- DEMAND 3 of streams: the chip at the end of a stream, and what each of its entries shows, are those of the events that its records mean.
--- So every claim of Demand over events is one over the bytes of a stream. Assumes nothing.
+-- CHIP H1 to H6 of streams: the chip at the end of a stream, and what each of its entries shows, are those of the events that its records
+-- mean. So every claim of Demand over events is one over the bytes of a stream. Assumes nothing.
 use mathlib.Core.Path.{_≡_, refl, sym, ap, subst, ap₂, _∙_}
 use mathlib.Core.Bool.{Bool, true, false, cond, not, _&&_, _||_, true≢false}
 use mathlib.Core.Logic.{_≢_}
@@ -81,7 +81,7 @@ module _ (u : SetupValues) where
       heardNext (b ∷ r) (readOf (u .part) (b ∷ r)) past ∷ historiesBy f (restAfter (b ∷ r) (readOf (u .part) (b ∷ r)))
       (heardNext (b ∷ r) (readOf (u .part) (b ∷ r)) past)
 
-  -- ── what each is answered; `o` says that since SETUP only refused records came, so that a wiring record is taken (request M-107) ──
+  -- ── what each is answered; `o` says that since SETUP only refused records came, so that a wiring record is taken (CHIP W1) ──
   abbrev pub answered : Bool → Coded → Counts → List Event → Stepped
   answered o e k past = cond (isWires e) (acted o e k (chip u past)) (steppedAs (meantOf u e k) (chip u past))
 

@@ -1,4 +1,4 @@
--- DEMAND 3: the claims of Demand, proved over any events from power-up for every setup. Assumes nothing.
+-- CHIP H1 to H6: the claims of Demand, proved over any events from power-up for every setup. Assumes nothing.
 use mathlib.Core.Path.{_≡_, refl, sym, ap, subst, _∙_}
 use mathlib.Core.Bool.{Bool, true, false, _&&_, cond, or-eq-true-iff, true≢false}
 use mathlib.Core.List.{List, [], _∷_, _++_}
@@ -176,7 +176,7 @@ module _ (u : Setup) where
   pub on-again-only-asked : OnAgainOnlyAsked u
   on-again-only-asked k later past p o = asked-since k later past (off k past p) o
 
--- THE THIRD DEMAND, of every setup
+-- ALL CLAIMS, of every setup
 pub third : (u : Setup) → ThirdDemand u
 third u =
     record {

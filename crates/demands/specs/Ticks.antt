@@ -1,4 +1,4 @@
--- DEMAND 3 of repeated ticks (requests M-100 and M-109): every tick of a record is a verdict, by the settings that stand, and after the
+-- CHIP H2 of repeated ticks (CHIP R8): every tick of a record is a verdict, by the settings that stand, and after the
 -- record a current bit is up exactly when it was up before or is due by these verdicts. Assumes nothing.
 use mathlib.Core.Path.{_≡_, refl, sym, ap, ap₂, _∙_}
 use mathlib.Core.Bool.{Bool, true, false, _&&_, _||_}

@@ -1,4 +1,4 @@
--- M-106 in the request's words: clearing a and then b, b and then a, every bit in either at once, the same bits again, and none. Assumes
+-- CHIP H7 in its words: clearing a and then b, b and then a, every bit in either at once, the same bits again, and none. Assumes
 -- nothing.
 use mathlib.Core.Path.{_≡_, refl, sym, ap, subst, _∙_}
 use mathlib.Core.Bool.{Bool, true, false, _||_}

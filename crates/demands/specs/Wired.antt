@@ -1,4 +1,4 @@
--- Request M-107: the number of cells moves nothing. A chip with another number of cells answers every event alike and is left alike but
+-- CHIP W4: the number of cells moves nothing. A chip with another number of cells answers every event alike and is left alike but
 -- for that number, so that every claim over events holds of a wired chip as it does of one without a wiring record. Assumes nothing.
 use mathlib.Core.Path.{_≡_, refl, sym, ap, _∙_}
 use mathlib.Core.Bool.{Bool, true, false, cond}

@@ -1,4 +1,4 @@
--- Document 01, "Events and their records": an event with its counts, as the definitions and the demands speak of it,
+-- CHIP R3: an event with its counts, as the definitions and the theorems speak of it,
 -- and what makes it out of the code's enum and the counts beside it. Assumes nothing.
 use mathlib.Core.Bool.{Bool, true, false, not, _&&_, cond}
 use mathlib.Core.List.{List, [], _∷_}
@@ -27,7 +27,7 @@ pub data Event : Type 0 where
   OnBus : BusEvent → Event
   Level : Bool → Event
 
--- ── number 3: a payload value out of range ──
+-- ── values in range (CHIP R3), else 3 ──
 abbrev pub within : ℕ → List ℕ → Bool
 within most [] = true
 within most (x ∷ xs) = leb x most && within most xs
@@ -56,11 +56,11 @@ fits (Load l) = true
 fits (OnBus b) = true
 fits (Level l) = true
 
--- request M-100: kind 0014 repeats a tick 1 to 4,096 times, its value being one of SENSE
+-- how often TICKS repeats at most
 abbrev pub ticksMost : ℕ
 ticksMost = 4096
 
--- request M-109: kind 0017 repeats it 1 to 16,777,216 times
+-- and SOAK
 abbrev pub soakMost : ℕ
 soakMost = 16777216
 
@@ -68,7 +68,7 @@ soakMost = 16777216
 unfoldable pub ticksFit : ℕ → ℤ → ℕ → Bool
 ticksFit most v n = senseFits v && leb 1 n && leb n most
 
--- ── number 2: SETUP not first, or counts that do not fit the part ──
+-- ── number 2: SETUP not first, or counts that do not fit the part (CHIP R10) ──
 -- how many counts stand beside an event of the code
 abbrev pub countsWanted : Setup → Coded → ℕ
 countsWanted u (Setup- v) = 0

@@ -1,4 +1,4 @@
--- Document 01, "The chip that is modelled": the setup, and number 1. Assumes nothing.
+-- CHIP S1, S4 and S5: the setup, and number 1. Assumes nothing.
 use mathlib.Core.Bool.{Bool, true, false, _&&_, cond}
 use Prim.Native.Nat.{ℕ, _*_}
 use lib.Dec.{eqb, leb, ltb}
@@ -6,7 +6,7 @@ use Rattle.events.specs.declared.Setup.{Setup}
 use Rattle.events.specs.declared.Checked.{Checked}
 use Rattle.events.specs.declared.Checked.the-variants.{Good, Bad}
 
--- part 1 to 3, CRC 0 or 1, bus address 0x08 to 0x77, gain code 0 to 31, any offset, floor 0 to 4,095
+-- the ranges of CHIP S4
 abbrev pub setupFits : ℕ → ℕ → ℕ → ℕ → ℕ → Bool
 setupFits part crc address gain floor =
     leb 1 part && leb part 3 && leb crc 1 && leb 0x08 address && leb address 0x77 && leb gain 31 && leb floor 4095
@@ -19,7 +19,7 @@ unfoldable pub checkedOf : ℕ → ℕ → ℕ → ℕ → ℕ → ℕ → Check
 checkedOf part crc address gain offset floor =
     cond (setupFits part crc address gain floor) (Good (setupOf part crc address gain offset floor)) Bad
 
--- the paper's number of each answer
+-- the number of each answer (CHIP O4)
 abbrev pub setupNumber : Checked → ℕ
 setupNumber (Good v) = 0
 setupNumber Bad = 1
@@ -31,7 +31,7 @@ groups u = cond (ltb (u .part) 3) (u .part) 3
 unfoldable pub inputs : Setup → ℕ
 inputs u = cond (ltb (u .part) 3) (5 * u .part) 15
 
--- request M-107: the setup with the number of cells of a wiring record; 0 says that there is none
+-- the setup with the number of cells of a wiring record; 0 says that there is none
 abbrev pub withCells : ℕ → Setup → Setup
 withCells n u =
     record {

@@ -10,7 +10,7 @@ pub struct Setup {
     pub gain_code: u8,
     pub offset: u8,
     pub floor: u16,
-    // Request M-107: how many cells a wiring record gave the pack; 0 where there is none.
+    // How many cells a wiring record gave the pack (CHIP W3); 0 where there is none.
     pub cells: u8,
 }
 
@@ -37,9 +37,9 @@ pub enum Event {
     OnBus(BusEvent),
     // The outside level: a second protector holds ALERT up, or lets go.
     Level(bool),
-    // That many ticks of one value: request M-100.
+    // That many ticks of one value (CHIP R8).
     Ticks(i32, u16),
-    // The same with a longer repeat number: request M-109.
+    // The same with a longer repeat number.
     Soak(i32, u32),
     // The number of cells of a pack.
     Wires(u8),

@@ -1,4 +1,4 @@
--- Worked lists of request M-102, computed: what a line says, its records' bytes, and lines that are refused. Assumes nothing.
+-- Worked lists (CHIP I1 to I7), computed: what a line says, its records' bytes, and lines that are refused. Assumes nothing.
 use mathlib.Core.Path.{_≡_, refl}
 use Prim.Native.Nat.{ℕ}
 use mathlib.Core.List.{List, [], _∷_, map}

@@ -1,4 +1,4 @@
--- Request M-102, "Take our Linux command lists": the accepted lines, by a grammar apart from the reader. Assumes nothing.
+-- CHIP I1 to I4: the accepted lines, by a grammar apart from the reader. Assumes nothing.
 use Prim.Native.Nat.{ℕ}
 use mathlib.Core.List.{List, [], _∷_, _++_, map}
 use lib.ListN.{length}
@@ -14,17 +14,17 @@ pub data Message : Type 0 where
 abbrev pub byteWord : ℕ → Word
 byteWord b = Byte b
 
--- "messages `wN@ADDR` followed by N bytes, and `rN@ADDR`"
+-- the words of messages (CHIP I1)
 abbrev pub wordsOf : List Message → List Word
 wordsOf [] = []
 wordsOf (sends a bs ∷ ms) = Write (length bs) a ∷ (map byteWord bs ++ wordsOf ms)
 wordsOf (takes a n ∷ ms) = Read n a ∷ wordsOf ms
 
--- "one space between words", of which there is one or more
+-- one word or more, a space between two (CHIP I3)
 pub data Line : List ℕ → List Word → Type 0 where
   last : (w : List ℕ) (x : Word) → Spells w x → Line w (x ∷ [])
   more : (w l : List ℕ) (x : Word) (xs : List Word) → Spells w x → Line l xs → Line (w ++ (charSpace ∷ l)) (x ∷ xs)
 
--- "one list a line, of one message or more"
+-- what a line says
 abbrev pub Says : List ℕ → List Message → Type 0
 Says line ms = Line line (wordsOf ms)

@@ -1,4 +1,4 @@
--- Request M-102: the records of a list, with the numbers 20, 21 and 5. Assumes nothing.
+-- CHIP I5 to I7: the records of a list, with the numbers 20, 21 and 5. Assumes nothing.
 use mathlib.Core.Path.{_≡_}
 use Prim.Native.Nat.{ℕ, zero, suc, _+_, _*_}
 use mathlib.Core.List.{List, [], _∷_, _++_, map}
@@ -14,8 +14,8 @@ use Rattle.writer.specs.Write.{recordFor, writtenOf}
 use Rattle.i2c_lists.specs.Grammar.{Message, sends, takes}
 use Rattle.i2c_lists.specs.Reader.{Listing, lists, none, listIn}
 
--- ── "Each message is START, its address byte (as in 01) and its bytes, the last is followed by STOP" ──
--- "address × 2, plus 1 to read"
+-- ── the events of a message (CHIP I5) ──
+-- the address byte (CHIP B3)
 abbrev pub toWrite : ℕ → ℕ
 toWrite address = 2 * address
 
@@ -25,7 +25,7 @@ toRead address = 2 * address + 1
 abbrev pub outOf : ℕ → BusEvent
 outOf b = Out b
 
--- "in a read every byte is acknowledged but the last": IN holds whether the host does not acknowledge
+-- all but the last are acknowledged: IN holds whether the host does not acknowledge
 abbrev pub taken : ℕ → List BusEvent
 taken zero = []
 taken (suc n) = In (eqb n 0) ∷ taken n
@@ -38,7 +38,7 @@ abbrev pub eventsOf : List Message → List BusEvent
 eventsOf [] = Stop ∷ []
 eventsOf (m ∷ ms) = messageEvents m ++ eventsOf ms
 
--- their records, one after the other, as document 01 has them
+-- their records, one after the other (CHIP I6)
 abbrev pub recordsOf : List BusEvent → List ℕ
 recordsOf [] = []
 recordsOf (e ∷ es) = recordFor (OnBus e) noCounts ++ recordsOf es
@@ -47,7 +47,7 @@ abbrev pub bytesOf : Listing → List ℕ
 bytesOf (lists ms) = recordsOf (eventsOf ms)
 bytesOf none = []
 
--- ── refusals, in this order: 20 not a list of this grammar, 21 an address outside 0x08 to 0x77, then 5 ──
+-- ── refusals: 20, 21, then 5 (CHIP I7) ──
 abbrev pub near : ℕ → Bool
 near address = leb 0x08 address && leb address 0x77
 
@@ -67,7 +67,7 @@ numberFor (lists ms) room = cond (allNear ms) (cond (leb (length (recordsOf (eve
 abbrev pub answerWith : ℕ → List ℕ → ℤ
 answerWith number bytes = cond (eqb number 0) (pos (length bytes)) (negℤ (pos number))
 
--- "A list is either taken whole or nothing is written": no byte after the records changes
+-- taken whole, or nothing is written (CHIP I7): no byte after the records changes
 abbrev pub contentsWith : ℕ → List ℕ → List ℕ → List ℕ
 contentsWith number bytes old = cond (eqb number 0) (writtenOf bytes old) old
 

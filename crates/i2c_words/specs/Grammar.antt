@@ -1,4 +1,4 @@
--- Request M-102, the words of a list: the grammar, apart from the reader. A word is its characters. Assumes nothing.
+-- CHIP I1 to I3, the words of a list: the grammar, apart from the reader. A word is its characters. Assumes nothing.
 use Prim.Native.Nat.{ℕ, _+_, _*_, _<_, _≤_}
 use mathlib.Core.List.{List, [], _∷_, _++_}
 use Rattle.i2c_words.specs.declared.Word.{Word}
@@ -45,12 +45,12 @@ pub data HexDigit : ℕ → ℕ → Type 0 where
   small : (v : ℕ) → v < 6 → HexDigit (chara + v) (10 + v)
 
 -- ── numbers ──
--- "the address and bytes as 0x and one or two hex digits"
+-- addresses and bytes (CHIP I2)
 pub data Hex : List ℕ → ℕ → Type 0 where
   short : (c v : ℕ) → HexDigit c v → Hex (char0 ∷ charX ∷ c ∷ []) v
   long : (c v d w : ℕ) → HexDigit c v → HexDigit d w → Hex (char0 ∷ charX ∷ c ∷ d ∷ []) (16 * v + w)
 
--- "N from 1 to 64 in decimal without leading zeros"
+-- N (CHIP I2)
 pub data Count : List ℕ → ℕ → Type 0 where
   ones : (c v : ℕ) → Digit c v → 1 ≤ v → Count (c ∷ []) v
   tens : (c v d w : ℕ) → Digit c v → Digit d w → 1 ≤ v → 10 * v + w ≤ 64 → Count (c ∷ d ∷ []) (10 * v + w)

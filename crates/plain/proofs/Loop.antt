@@ -13,11 +13,12 @@ use mir.Val.{toZ}
 use mir.Facts.{toZ-pos}
 use borrow.Author.Tests.{le-leb, lt-leb}
 use Rattle.chip.specs.declared.Chip.{Chip}
-use Rattle.stream.specs.declared.Entry.{Entry}
-use Rattle.stream.specs.Stream.{none, Turn, turnOf, bytesOf, noted, Ran}
+use Rattle.stream.specs.declared.Left.{Left}
+use Rattle.stream.specs.Stream.{none, Turn, turnOf, noted, entered, entries, entriesFrom, Ran}
+use Rattle.chip.specs.Calm.{ship-calm}
 use Rattle.stream.specs.Frames.{framesOf}
 use Rattle.stream.specs.CountedLaws.{entries-count}
-use Rattle.stream.proofs.Loop.{rest-is, Going, going-none, going-end, going-last, going-place, going-more}
+use Rattle.stream.proofs.Loop.{rest-is, Going, going-none, going-end, going-stop, going-place, going-more, entered-all}
 use Rattle.turn.specs.declared.Turned.{Turned}
 use Rattle.turn.specs.TurnedLaws.{asTurn}
 use Rattle.plain_back.specs.Said.{most}
@@ -29,22 +30,19 @@ use Rattle.plain.specs.SameLaws.{plain-turn, plain-entries, Lent, lent-n
 pub record Playing (s old out : List ℕ) (o : Bool) (chip : Chip) (at n : ℕ) : Type 0 where
   pub base : Chip
   pub kept : chip ≡ unrun base
-  pub going : Going s old out o base at n
+  pub going : Going false none s old out o base at n
   pub lent : Lent (take at s) o base n
 
 pub playing-none : {c : Chip} (s old : List ℕ) → c ≡ none → Playing s old old false c 0 0
-playing-none s old h = record { base = none; kept = h; going = going-none s old; lent = lent-none }
+playing-none s old h = record { base = none; kept = h; going = going-none false none s old (ship-calm (none .setup)); lent = lent-none }
 
-noted-as : {s old new : List ℕ} {c : Chip} → Ran s old c new → Noted s old new
-noted-as {s} {old} {new} r =
-    record {
-      same = r .same;
-      wrote = subst (λ (es : List Entry). leb (5 * length es) (length old) ≡ true → new ≡ bytesOf es ++ drop (5 * length es) old) (sym (plain-entries s)) (r .wrote);
-    }
+noted-as : {s old new : List ℕ} {left : Left} → Ran false none s old left new → Noted s old new
+unfolding entriesFrom entries
+noted-as {s} {old} r = r .wrote ∙ ap (entered old) (sym (plain-entries s))
 
 module _ (s old out : List ℕ) (o : Bool) (chip : Chip) (at n : ℕ) (g : Playing s old out o chip at n) where
   pub playing-end : length s ≤ at → Noted s old out
-  playing-end h = noted-as (going-end s old out o (g .base) at n (g .going) h)
+  playing-end h = noted-as (going-end false none s old out o (g .base) at n (g .going) h)
 
   module _ (h : at < length s) (t : Turned) (q : asTurn t ≡ plainTurn (take at s) o chip (take (length s - at) (drop at s))) (new : List ℕ) (w : new ≡ noted out n (t .entry)) where
     abbrev b : Turn
@@ -65,11 +63,12 @@ module _ (s old out : List ℕ) (o : Bool) (chip : Chip) (at n : ℕ) (g : Playi
     last-is = ap (λ (x : Turn). x .last) turn-is
 
     pub playing-last : t .last ≡ true → Noted s old new
-    playing-last e = noted-as (going-last s old out o (g .base) at n (g .going) h b b-is new wrote (sym last-is ∙ e))
+    playing-last e =
+        noted-as (going-end false none s old new (b .fresh) (b .chip) (length s) (n + 1) (going-stop false none s old out o (g .base) at n (g .going) h b b-is new wrote (sym last-is ∙ e)) (omega arith))
 
     pub playing-place : t .last ≡ false → (4 ≤ t .next) × (at + t .next ≤ length s)
     playing-place e =
-        subst (λ (x : Turn). (4 ≤ x .next) × (at + x .next ≤ length s)) (sym turn-is) (going-place s old out o (g .base) at n (g .going) h b b-is new wrote (sym last-is ∙ e))
+        subst (λ (x : Turn). (4 ≤ x .next) × (at + x .next ≤ length s)) (sym turn-is) (going-place false none s old out o (g .base) at n (g .going) h b b-is new wrote (sym last-is ∙ e))
 
     pub playing-more : t .last ≡ false → Playing s old new (t .fresh) (t .chip) (at + t .next) (n + 1)
     playing-more e =
@@ -77,7 +76,7 @@ module _ (s old out : List ℕ) (o : Bool) (chip : Chip) (at n : ℕ) (g : Playi
         record {
           base = b .chip;
           kept = refl;
-          going = going-more s old out o (g .base) at n (g .going) h b b-is new wrote (sym last-is ∙ e);
+          going = going-more false none s old out o (g .base) at n (g .going) h b b-is new wrote (sym last-is ∙ e);
           lent = subst (λ (p : List ℕ). Lent p (b .fresh) (b .chip) (n + 1)) (sym (take-add at (b .next) s)) (lent-next (take at s) o (g .base) n (g .lent) (drop at s) (sym last-is ∙ e));
         }
 
@@ -100,4 +99,4 @@ module _ (s old : List ℕ) (n : ℕ) (h : length s ≤ most) (c : n ≡ framesO
   pub played-all : (new : List ℕ) → n ≤ length old / 5 → length old < 2 ^ 63 → Noted s old new → PlainPlayed s old (toZ w64 n) new
   played-all new r b w =
       let t : leb (5 * length (plainEntries s)) (length old) ≡ true = le-leb (5 * length (plainEntries s)) (length old) (omega (arith, count-is)) in
-      record { answer = simp (long, t) (toZ-pos w64 (omega arith) ∙ ap pos count-is); contents = simp (long, t) (w .wrote t) }
+      record { answer = simp (long, t) (toZ-pos w64 (omega arith) ∙ ap pos count-is); contents = simp (long, t) (w ∙ entered-all old (plainEntries s) (omega (arith, count-is))) }

@@ -1,4 +1,4 @@
--- Request M-112: the plain engine. The chip that it keeps has no runs; at a scan or tick it is lent, for that one record, what the
+-- CHIP P11: the plain engine. The chip that it keeps has no runs; at a scan or tick it is lent, for that one record, what the
 -- records before it say by themselves. Assumes nothing.
 use mathlib.Core.Path.{_≡_}
 use mathlib.Core.Bool.{Bool, true, false, cond, _&&_}
@@ -19,7 +19,7 @@ use Rattle.protection.specs.Rule.{cap}
 use Rattle.chip.specs.declared.Chip.{Chip}
 use Rattle.chip.specs.Chip.{withRuns}
 use Rattle.stream.specs.declared.Entry.{Entry}
-use Rattle.stream.specs.Stream.{none, Turn, turnOf, bytesOf}
+use Rattle.stream.specs.Stream.{none, Turn, turnOf, bytesOf, entered}
 use Rattle.plain_back.specs.declared.Streaks.{Streaks}
 use Rattle.plain_back.specs.Said.{streakOf, streaksIn, most}
 
@@ -73,11 +73,9 @@ plainRuns (suc f) before o c (b ∷ r) =
 unfoldable pub plainEntries : List ℕ → List Entry
 plainEntries s = plainRuns (length s) [] false none s
 
--- a run that is lent a buffer: the entries, where all of them fit
-pub record Noted (s old new : List ℕ) : Type 0 where
-  pub same : length new ≡ length old
-  pub wrote : leb (5 * length (plainEntries s)) (length old) ≡ true
-      → new ≡ bytesOf (plainEntries s) ++ drop (5 * length (plainEntries s)) old
+-- a run that is lent a buffer: the entries that fit
+abbrev pub Noted : List ℕ → List ℕ → List ℕ → Type 0
+Noted s old new = new ≡ entered old (plainEntries s)
 
 -- the answer of the C call: −24 for a longer stream, then −5 where the entries do not fit, with nothing written; else their count, and
 -- the entries

@@ -1,4 +1,4 @@
--- Request M-112: the plain engine's entries are the base engine's, and what it decides with are the verdicts of the records before.
+-- CHIP P11: the plain engine's entries are the base engine's, and what it decides with are the verdicts of the records before.
 -- Assumes nothing.
 use mathlib.Core.Path.{_≡_, refl, sym, ap, _∙_}
 use mathlib.Core.Bool.{Bool, true, false, cond, _&&_, true≢false}
@@ -244,7 +244,7 @@ pub plain-entries : (s : List ℕ) → plainEntries s ≡ entries s
 unfolding plainEntries entries
 plain-entries s = plain-runs (length s) [] false none 0 s lent-none
 
--- .. so each shows the SYS_STAT and the pins of the events heard so far, of which demand 3 says when a bit is up
+-- .. so each shows the SYS_STAT and the pins of the events heard so far, of which CHIP H1 to H6 say when a bit is up
 pub plain-shows : (s : List ℕ) (u : SetupValues) (next : ℕ) → readOf 0 s ≡ Record (Setup u) next
     → map shows (plainEntries s) ≡ map (λ past. toShow (chip u past)) (histories u next s)
 plain-shows s u next first = ap (map shows) (plain-entries s) ∙ entries-show s u next first

@@ -1,4 +1,5 @@
-// Request M-112: a second engine that keeps no runs. At each scan or tick it looks back over the records lent so far, and decides from them alone.
+// CHIP P11: a second engine that keeps no runs. At each scan or tick it looks back over the records lent so far, and decides from them
+// alone.
 ghost use mathlib.Core.Path.{_≡_};
 ghost use Prim.Native.Nat.{_≤_, min};
 ghost use lib.ListN.{length};

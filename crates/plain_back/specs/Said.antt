@@ -1,4 +1,4 @@
--- Request M-112: what the records lent so far say of a fault, by themselves: the verdicts of the waking spell in which they end, each by
+-- CHIP P11: what the records lent so far say of a fault, by themselves: the verdicts of the waking spell in which they end, each by
 -- the settings that stood when its scan or tick came, and how many of the newest are true. No run is kept. Assumes nothing.
 use mathlib.Core.Path.{_≡_, refl, sym, ap, _∙_}
 use mathlib.Core.Bool.{Bool, cond}

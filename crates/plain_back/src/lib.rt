@@ -1,4 +1,5 @@
-// Request M-112: what the records lent so far say of the four faults, found by walking them from the first on. Nothing is kept between two calls.
+// CHIP P11: what the records lent so far say of the four faults, found by walking them from the first on. Nothing is kept between two
+// calls.
 ghost use mathlib.Core.Path.{_≡_};
 ghost use Prim.Native.Nat.{_≤_, _^_};
 ghost use lib.ListN.{length, take};

@@ -1,4 +1,4 @@
--- Document 01, "Both sides of each line": the line that `play` prints for a record. Assumes nothing.
+-- CHIP P13: the line that `play` prints for a record. Assumes nothing.
 use Prim.Native.Nat.{ℕ, _+_, _/_, _%_}
 use mathlib.Core.List.{List, [], _∷_, _++_}
 use mathlib.Core.Bool.{cond}
@@ -19,14 +19,14 @@ lineEnd = 10
 abbrev pub digit : ℕ → ℕ
 digit d = 48 + d
 
--- ── the two numbers are decimal: a digit for each power of ten that the number reaches, and the last one always ──
+-- ── decimal: a digit for each power of ten that the number reaches, and the last one always ──
 abbrev pub leading : ℕ → ℕ → List ℕ
 leading n power = cond (ltb n power) [] (digit (n / power % 10) ∷ [])
 
 unfoldable pub decimal : ℕ → List ℕ
 decimal n = leading n 10000 ++ leading n 1000 ++ leading n 100 ++ leading n 10 ++ (digit (n % 10) ∷ [])
 
--- ── the rest capital hex: 0 to 9, then A to F ──
+-- ── capital hex ──
 abbrev pub hexGlyph : ℕ → ℕ
 hexGlyph d = cond (ltb d 10) (digit d) (55 + d)
 
@@ -37,7 +37,7 @@ hexByte b = hexGlyph (b / 16) ∷ hexGlyph (b % 16) ∷ []
 unfoldable pub kindText : List ℕ → List ℕ
 kindText rest = cond (ltb (length rest) 4) (dash ∷ dash ∷ dash ∷ dash ∷ []) (hexByte (getD rest 3 0) ++ hexByte (getD rest 2 0))
 
--- bus answer: OUT 00 acknowledged, 01 not; IN the byte; else --
+-- the bus answer
 unfoldable pub busText : ℕ → ℕ → List ℕ
 busText flag byte = cond (eqb flag 1) (hexByte byte) (dash ∷ dash ∷ [])
 

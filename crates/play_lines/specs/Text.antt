@@ -1,4 +1,4 @@
--- Document 01, "Both sides of each line": all that `play` prints for its input. Assumes nothing.
+-- CHIP P12: all that `play` prints for its input. Assumes nothing.
 use mathlib.Core.Path.{_≡_}
 use Prim.Native.Nat.{ℕ, suc, _+_, _*_, _≤_}
 use mathlib.Core.List.{List, [], _∷_, _++_}
@@ -25,7 +25,7 @@ abbrev pub linesFrom : ℕ → List ℕ → List Entry → List ℕ
 linesFrom n rest [] = []
 linesFrom n rest (e ∷ es) = lineOf n rest e ++ linesFrom (suc n) (drop (frameOf rest) rest) es
 
--- it ends where the C call's entries end
+-- it ends where the entries end
 unfoldable pub textOf : List ℕ → List ℕ
 textOf s = cond (ltb mostInput (length s)) tooLong (linesFrom 0 s (entries s))
 

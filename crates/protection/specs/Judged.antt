@@ -1,4 +1,4 @@
--- Document 01, "Judging": what an event does to the four runs and which faults it raises; and that one look over the counts,
+-- CHIP J4 and J9: what an event does to the four runs and which faults it raises; and that one look over the counts,
 -- or one tick's value, is enough for it. Assumes nothing.
 use mathlib.Core.Path.{_≡_, refl}
 use mathlib.Core.Bool.{Bool, false, _&&_}
@@ -22,7 +22,7 @@ judgedBy floor s n e = record { runs = counted floor s n e; risen = faultsOf (ri
 abbrev pub lasts : Fault → Settings → ℕ → Bool
 lasts k s run = leb (rule k s .need) run
 
--- SCAN with ADC_EN 0 ends both runs, and no current run
+-- SCAN with ADC_EN 0 (CHIP J4)
 unfoldable pub scanJudged : Settings → Bool → Bool → Runs → Judged
 scanJudged s above between n =
     let ov : ℕ = bump (cap Ov) (s .«adc_en» && above) (n .ov) in

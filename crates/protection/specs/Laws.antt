@@ -1,4 +1,4 @@
--- Document 01, "Judging": laws of the runs, for every value of them. Assumes nothing.
+-- CHIP J4 and J9: laws of the runs, for every value of them. Assumes nothing.
 use mathlib.Core.Path.{_≡_, refl}
 use mathlib.Core.Bool.{Bool, true, false}
 use Prim.Native.Nat.{ℕ, _≤_}

@@ -1,4 +1,4 @@
--- Requests M-100 and M-109: ticks of one value, one after the other, and what they come to without counting them one by one: the runs by
+-- CHIP R8: ticks of one value, one after the other, and what they come to without counting them one by one: the runs by
 -- their number, and what is due at the last of them, since what was due at one stays due at the next. Assumes nothing.
 use mathlib.Core.Path.{_≡_, refl, ap, sym, _∙_}
 use mathlib.Core.Bool.{Bool, true, false, _&&_, true≢false}

@@ -1,4 +1,4 @@
--- Document 01, "Judging": the rule of a fault as the settings now have it, the verdict of a scan or tick, and the runs. Assumes nothing.
+-- CHIP J2 to J9: the rule of a fault as the settings now have it, the verdict of a scan or tick, and the runs. Assumes nothing.
 use mathlib.Core.Bool.{Bool, true, false, _&&_, cond}
 use mathlib.Core.List.{List, [], _∷_}
 use Prim.Native.Nat.{ℕ, zero, suc, _+_, _*_, _/_, _%_, max}
@@ -15,7 +15,7 @@ use Rattle.protection.specs.Streak.{bumps}
 use Rattle.protection.specs.declared.Runs.{Runs}
 use Rattle.protection.specs.Fault.{runOf, runsOf}
 
--- OCD ticks: code 0 gives 256, code k from 1 to 7 gives 640 doubled k − 1 times
+-- OCD ticks by doubling (CHIP J7)
 abbrev pub doubled : ℕ → ℕ → ℕ
 doubled zero x = x
 doubled (suc n) x = 2 * doubled n x
@@ -24,7 +24,7 @@ abbrev pub ocdTicks : ℕ → ℕ
 ocdTicks zero = 256
 ocdTicks (suc k) = doubled k 640
 
--- ── delays: scans needed for OV and UV, ticks for SCD and OCD, and the longest of each, where a run stops ──
+-- ── delays (CHIP J7), and the longest of each, where a run stops ──
 abbrev pub delayTable : Fault → List ℕ
 delayTable Ov = 4 ∷ 8 ∷ 16 ∷ 32 ∷ []
 delayTable Uv = 4 ∷ 16 ∷ 32 ∷ 64 ∷ []
@@ -38,18 +38,18 @@ longest (x ∷ xs) = max x (longest xs)
 abbrev pub cap : Fault → ℕ
 cap k = longest (delayTable k)
 
--- UV delay 7:6 and OV delay 5:4 of 0x08, SCD delay 4:3 of 0x06, OCD delay 6:4 of 0x07
+-- their codes in PROTECT1 to 3
 abbrev pub delayCode : Fault → Settings → ℕ
 delayCode Ov s = s .protect3 / 16 % 4
 delayCode Uv s = s .protect3 / 64 % 4
 delayCode Scd s = s .protect1 / 8 % 4
 delayCode Ocd s = s .protect2 / 16 % 8
 
--- with DELAY_DIS one scan, or one tick (request M-101: for all four)
+-- DELAY_DIS (CHIP J8)
 abbrev pub short : Fault → Settings → Bool
 short k s = s .«delay_dis»
 
--- ── thresholds in µV, RSNS 0 then 1, code 0 first ──
+-- ── thresholds (CHIP J6) ──
 abbrev pub scdLimit : Bool → List ℕ
 scdLimit false = 18500 ∷ 29000 ∷ 39000 ∷ 49000 ∷ 59000 ∷ 69500 ∷ 79500 ∷ 91000 ∷ []
 scdLimit true = 37000 ∷ 59000 ∷ 78500 ∷ 98000 ∷ 119000 ∷ 139000 ∷ 159000 ∷ 181500 ∷ []
@@ -82,15 +82,15 @@ unfoldable pub rule : Fault → Settings → Rule
 rule k s = record { on = measuredBy k s; limit = limitOf k s; need = cond (short k s) 1 (getD (delayTable k) (delayCode k s) 0) }
 
 -- ── verdicts ──
--- over: some count above the line
+-- over (CHIP J2)
 unfoldable pub over : Rule → List ℕ → Bool
 over r xs = r .on && someAbove (r .limit) xs
 
--- under: some count not below the floor and below the line
+-- under (CHIP J3)
 unfoldable pub under : ℕ → Rule → List ℕ → Bool
 under floor r xs = r .on && someBetween floor (r .limit) xs
 
--- over, of a tick: minus the value exceeds the threshold
+-- over, of a tick (CHIP J5)
 unfoldable pub beyond : Rule → ℤ → Bool
 beyond r v = r .on && ltZ (pos (r .limit)) (negℤ v)
 

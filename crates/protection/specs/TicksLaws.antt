@@ -1,4 +1,4 @@
--- The over-current ticks by doubling are those of document 01's list, at every code: one computed test each. Assumes nothing.
+-- The over-current ticks by doubling are those of the list in CHIP J7, at every code: one computed test each. Assumes nothing.
 use mathlib.Core.Path.{_≡_, refl}
 use mathlib.Core.Bool.{Bool, true, false, _&&_}
 use mathlib.Core.List.{List, [], _∷_}

@@ -1,4 +1,4 @@
--- Document 01, "Numbers given back", 2 and 3: the number of what an event made by hand means to a chip that stands. Assumes nothing.
+-- CHIP O5: the number, 2 or 3, of what an event made by hand means to a chip that stands. Assumes nothing.
 use Prim.Native.Nat.{ℕ}
 use mathlib.Core.Bool.{cond}
 use Rattle.events.specs.Event.{fits, ticksFit, Meant, means, ticks, unfit}

@@ -12,6 +12,6 @@ use Rattle.records.specs.declared.Framed.the-variants.{Header, Short}
 unfoldable pub frameOf : List ℕ → ℕ
 frameOf r = cond (ltb (length r) 4) 0 (cond (ltb (length r - 4) (le16 r 0)) 0 (4 + le16 r 0))
 
--- payload length (2 bytes), kind (2 bytes); the place after the payload
+-- the payload's length, the kind, and the place after the payload
 unfoldable pub headerOf : List ℕ → Framed
 headerOf r = cond (ltb (length r) 4) Short (cond (ltb (length r - 4) (le16 r 0)) Short (Header (le16 r 2) (4 + le16 r 0)))

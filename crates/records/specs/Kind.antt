@@ -1,4 +1,4 @@
--- Document 01, "Events and their records": the kinds, hexadecimal. Assumes nothing.
+-- CHIP R2 and R3: the kinds. Assumes nothing.
 use Prim.Native.Nat.{ℕ}
 
 abbrev pub SETUP : ℕ
@@ -46,14 +46,14 @@ STOP = 0x0013
 abbrev pub LEVEL : ℕ
 LEVEL = 0x0015
 
--- request M-100: ticks of one value
+-- ticks of one value (CHIP R8)
 abbrev pub TICKS : ℕ
 TICKS = 0x0014
 
--- request M-109: ticks of one value with a longer repeat number
+-- the same with a longer repeat number
 abbrev pub SOAK : ℕ
 SOAK = 0x0017
 
--- request M-107: the wiring record
+-- the wiring record (CHIP W1)
 abbrev pub WIRES : ℕ
 WIRES = 0x0016

@@ -1,4 +1,4 @@
--- Document 01, "Events and their records": all numbers little-endian. Assumes nothing.
+-- CHIP R1: every number has its low byte first. Assumes nothing.
 use Prim.Native.Nat.{ℕ, zero, suc, _+_, _-_, _*_}
 use mathlib.Core.List.{List, [], _∷_}
 use mathlib.Core.Bool.{Bool, cond}

@@ -132,7 +132,7 @@ nine-by part r false false et eu h = absurd (omega (arith, ltb-false (length r) 
 pub nine-first : (part : ℕ) (r : List ℕ) → length r < 4 + le16 r 0 → numberOf (readOf part r) ≡ 9
 nine-first part r h = nine-by part r (ltb (length r) 4) (ltb (length r - 4) (le16 r 0)) refl refl h
 
--- a first record that is no SETUP is 2, and so is a second SETUP, good or bad, and every unknown kind: 000A to 000F, and from 0018 up
+-- 2: a first record that is no SETUP, a second SETUP, and every unknown kind (CHIP R2, R4)
 pub first-other : (kind : ℕ) (b : List ℕ) → kind ≢ SETUP → payloadOf kind 0 b ≡ Unfit 2
 unfolding payloadOf
 first-other kind b h = simp (ne-eqb kind SETUP h)

@@ -1,4 +1,4 @@
--- Document 01, "Events and their records" and "Numbers given back": reading, with the numbers 1, 2, 3 and 9. Assumes nothing.
+-- CHIP R1 to R7 and N30: reading, with the numbers 1, 2, 3 and 9. Assumes nothing.
 use Prim.Native.Nat.{ℕ, _+_, _-_, _*_, _/_}
 use mathlib.Core.List.{List}
 use mathlib.Core.Bool.{Bool, false, cond, _&&_}
@@ -24,7 +24,7 @@ use Rattle.records.specs.declared.Read.{Read}
 use Rattle.records.specs.declared.Read.the-variants.{Record, Refused, Cut}
 use Rattle.records.specs.declared.Taken.{Taken}
 
--- ── each kind's payload: 2 where its length is wrong, then 1 (SETUP) or 3 where a value is out of range ──
+-- ── each kind's payload (CHIP R3): 2 for its length, then 1 (SETUP) or 3 for a value ──
 -- part, CRC, address, gain code, offset (1 each), floor (2)
 abbrev pub checkedIn : Checked → Payload
 checkedIn (Good v) = Whole (Setup v)
@@ -58,7 +58,7 @@ senseOf u = cond (senseFits (signed32 u)) (Whole (Sense (signed32 u))) (Unfit 3)
 abbrev pub senseIn : List ℕ → Payload
 senseIn b = cond (eqb (length b) 4) (senseOf (le32 b 0)) (Unfit 2)
 
--- request M-100: a value as SENSE has it, and a repeat number (2 bytes), 1 to 4,096; request M-109: one of 4 bytes, 1 to 16,777,216
+-- TICKS and SOAK: a value as SENSE has it, and a repeat number of 2 or of 4 bytes
 unfoldable pub repeatOf : (ℤ → ℕ → Event) → ℕ → ℕ → ℕ → Payload
 repeatOf e most u n = cond (ticksFit most (signed32 u) n) (Whole (e (signed32 u) n)) (Unfit 3)
 
@@ -74,7 +74,7 @@ soakOf v n = Soak v n
 abbrev pub soakIn : List ℕ → Payload
 soakIn b = cond (eqb (length b) 8) (repeatOf soakOf soakMost (le32 b 0) (le32 b 4)) (Unfit 2)
 
--- 1 byte, 0 or 1: LOAD, the outside level (document 02, M-103), and IN, where 1 says that the host does not acknowledge
+-- 1 byte, 0 or 1: LOAD, LEVEL, and IN, where 1 says that the host does not acknowledge
 abbrev pub switchIn : (Bool → Event) → List ℕ → Payload
 switchIn e b = cond (eqb (length b) 1) (cond (leb (getD b 0 0) 1) (Whole (e (eqb (getD b 0 0) 1))) (Unfit 3)) (Unfit 2)
 
@@ -106,7 +106,7 @@ groupsAt part = groups (standing part)
 abbrev pub inputsAt : ℕ → ℕ
 inputsAt part = inputs (standing part)
 
--- once a part stands: a second SETUP is 2, as every unknown kind
+-- once a part stands: a second SETUP is 2, as every unknown kind (CHIP R2, R4)
 unfoldable pub laterOf : ℕ → ℕ → List ℕ → Payload
 laterOf kind part b =
     cond (eqb kind POR) (bareIn Por b)
@@ -131,19 +131,19 @@ laterOf kind part b =
 unfoldable pub payloadOf : ℕ → ℕ → List ℕ → Payload
 payloadOf kind part b = cond (eqb part 0) (cond (eqb kind SETUP) (setupIn b) (Unfit 2)) (laterOf kind part b)
 
--- ── a record: payload length (2 bytes), kind (2 bytes), payload ──
+-- ── a record: the payload's length, its kind, the payload (CHIP R1) ──
 abbrev pub asRead : ℕ → Payload → Read
 asRead next (Whole e) = Record e next
 asRead next (Unfit k) = Refused k next
 
--- the record that bytes begin with; header or payload cut short comes before all
+-- the record that bytes begin with; 9 comes before all (CHIP N30)
 unfoldable pub readOf : ℕ → List ℕ → Read
 readOf part r =
     cond (ltb (length r) 4) Cut
     (cond (ltb (length r - 4) (le16 r 0)) Cut
     (asRead (4 + le16 r 0) (payloadOf (le16 r 2) part (take (le16 r 0) (drop 4 r)))))
 
--- the paper's number of each answer
+-- the number of each answer (CHIP O4)
 abbrev pub numberOf : Read → ℕ
 numberOf (Record e next) = 0
 numberOf (Refused k next) = k
@@ -181,7 +181,7 @@ countsBeside r (Record e next) = countsIn e (take (next - 4) (drop 4 r))
 countsBeside r (Refused k next) = noCounts
 countsBeside r Cut = noCounts
 
--- ── reading begins at any place; a place past the end is cut ──
+-- ── reading begins at any place (CHIP R6) ──
 abbrev pub placeMoved : ℕ → Read → Read
 placeMoved at (Record e next) = Record e (at + next)
 placeMoved at (Refused k next) = Refused k (at + next)

@@ -1,4 +1,4 @@
--- Document 01, "Registers" and "Judging": a drive is stored 1 under none of its faults, and a fault that rises puts its drive off.
+-- CHIP G9, G10 and J13: a drive is stored 1 under none of its faults, and a fault that rises puts its drive off.
 -- Assumes nothing.
 use mathlib.Core.Path.{_≡_, refl}
 use mathlib.Core.Bool.{Bool, true, false, _&&_, _||_}

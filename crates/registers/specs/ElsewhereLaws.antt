@@ -1,4 +1,4 @@
--- Document 01, "Registers": an accepted write moves what its own address reads and no other, but LOAD_PRESENT with CHG_ON. Assumes nothing.
+-- CHIP G2: an accepted write moves what its own address reads and no other, but LOAD_PRESENT with CHG_ON. Assumes nothing.
 use mathlib.Core.Path.{_≡_, refl, sym, ap, _∙_}
 use mathlib.Core.Bool.{Bool, true, false, _&&_, cond}
 use Prim.Native.Nat.{ℕ, zero, suc, _<_}

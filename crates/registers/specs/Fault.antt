@@ -1,4 +1,4 @@
--- Document 01, "Judging": what a fault raises and puts off. Assumes nothing.
+-- CHIP J13: what a fault raises and puts off. Assumes nothing.
 use mathlib.Core.Bool.{Bool, true, false, not, _&&_, _||_}
 use Rattle.events.specs.Fault.{Fault, Ov, Uv, Scd, Ocd}
 use Rattle.registers.specs.declared.Status.{Status}
@@ -10,7 +10,7 @@ bitOf Uv t = t .uv
 bitOf Scd t = t .scd
 bitOf Ocd t = t .ocd
 
--- ── a fault puts off: OV charge; UV, OCD, SCD discharge ──
+-- ── the four faults ──
 abbrev pub driveOf : Fault → Shown → Bool
 driveOf Ov s = s .«chg_on»
 driveOf Uv s = s .«dsg_on»
@@ -35,7 +35,7 @@ raised r s =
       «chg_on» = not (r Ov) && s .«chg_on»;
     }
 
--- OVRD_ALERT and XREADY put off both
+-- OVRD_ALERT and XREADY, which put off both
 abbrev pub overridden : Shown → Shown
 overridden s =
     record {
@@ -72,7 +72,7 @@ readied s =
       «chg_on» = false;
     }
 
--- COUNT raises CC_READY and drops CC_ONESHOT
+-- CC_READY (CHIP J16)
 abbrev pub counting : Shown → Shown
 counting s =
     record {

@@ -1,4 +1,4 @@
--- Document 01, "Judging": what the events of a chip in NORMAL leave in the registers. Assumes nothing.
+-- CHIP J1, J4 and J14 to J18: what the events of a chip in NORMAL leave in the registers. Assumes nothing.
 use mathlib.Core.Bool.{Bool, true, _||_, cond}
 use mathlib.Core.List.{List}
 use Prim.Native.Nat.{ℕ, _/_, _%_}
@@ -9,7 +9,7 @@ use Rattle.registers.specs.declared.Registers.{Registers}
 use Rattle.registers.specs.State.{noCellbal, withShown, withCellbal, withMeasured, alert}
 use Rattle.registers.specs.Fault.{overridden, readied, counting}
 
--- ── SCAN with ADC_EN 1: store counts, BAT = sum of counts divided by 4, rounded down ──
+-- ── SCAN (CHIP J1, J4) ──
 -- BAT is a word of 16 bits: counts up to 16,383 never fill it, and the sum of larger ones is cut to it
 abbrev pub batOf : ℕ → ℕ
 batOf sum = sum / 4 % 65536
@@ -26,7 +26,7 @@ scanKept cells sum r = withMeasured (cond (r .settings .«adc_en») (cellsKept c
 abbrev pub scanned : List ℕ → Registers → Registers
 scanned xs r = withMeasured (cond (r .settings .«adc_en») (cellsOf xs (r .measured)) (r .measured)) r
 
--- ── TEMP stores with ADC_EN 1 ──
+-- ── TEMP (CHIP J17) ──
 abbrev pub tsKept : List ℕ → Measured → Measured
 tsKept ts m = record { cells = m .cells; bat = m .bat; ts = ts; cc = m .cc }
 
@@ -39,7 +39,7 @@ tempKept ts r = withMeasured (cond (r .settings .«adc_en») (tsKept ts (r .meas
 abbrev pub warmed : List ℕ → Registers → Registers
 warmed xs r = withMeasured (cond (r .settings .«adc_en») (tsOf xs (r .measured)) (r .measured)) r
 
--- ── COUNT with CC_EN or CC_ONESHOT 1 stores CC, raises CC_READY, drops CC_ONESHOT; else nothing ──
+-- ── COUNT (CHIP J16) ──
 abbrev pub ccOf : ℕ → Measured → Measured
 ccOf n m = record { cells = m .cells; bat = m .bat; ts = m .ts; cc = n }
 
@@ -48,18 +48,18 @@ coulombs n r =
     let on : Bool = r .settings .«cc_en» || r .shown .«cc_oneshot» in
     withShown (cond on (counting (r .shown)) (r .shown)) (withMeasured (cond on (ccOf n (r .measured)) (r .measured)) r)
 
--- ── ALERT pulled up from outside raises OVRD_ALERT, only with SYS_STAT 0 ──
+-- ── ALERT pulled up from outside: where SYS_STAT is 0 OVRD_ALERT rises ──
 abbrev pub pulledAt : Bool → Shown → Shown
 pulledAt l s = cond l (cond (alert (s .status)) s (overridden s)) s
 
--- PIN: an edge
+-- PIN: for a moment (CHIP J14)
 abbrev pub pulled : Registers → Registers
 pulled r = withShown (pulledAt true (r .shown)) r
 
--- document 02, M-103: the outside level, after every event that leaves the chip in NORMAL
+-- the outside level: after every event that leaves the chip in NORMAL (CHIP L2)
 abbrev pub pulledByLevel : Registers → Registers
 pulledByLevel r = withShown (pulledAt (r .«outside_level») (r .shown)) r
 
--- ── XREADY its own bit, and clears all of CELLBAL ──
+-- ── XREADY (CHIP J15) ──
 abbrev pub unready : Registers → Registers
 unready r = withCellbal noCellbal (withShown (readied (r .shown)) r)

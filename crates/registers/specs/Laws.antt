@@ -1,4 +1,4 @@
--- Document 01, "Registers": laws of reading and writing, for every value of the registers. Assumes nothing.
+-- CHIP G1 to G5 and G20: laws of reading and writing, for every value of the registers. Assumes nothing.
 use mathlib.Core.Path.{_≡_, refl, sym, ap, _∙_}
 use mathlib.Core.Bool.{Bool, true, false, not, _&&_, _||_, cond}
 use Prim.Native.Nat.{ℕ, _+_, _*_, _-_, _/_, _%_, _<_, _≤_}
@@ -156,7 +156,7 @@ pub status-back : (u : Setup) (v : ℕ) (r : Registers)
 unfolding readAt controlByte shownWith
 status-back u v r = refl
 
--- ── ALERT is up when SYS_STAT is not 0 ──
+-- ── ALERT (CHIP G20) ──
 some-bit : (a b c d e f g : Bool)
     → a || b || c || d || e || f || g
     ≡ not (eqb (weighed a 128 + weighed b 32 + weighed c 16 + weighed d 8 + weighed e 4 + weighed f 2 + weighed g 1) 0)

@@ -1,4 +1,4 @@
--- Document 02, M-103: the outside level over the registers. Where it is 1 a bit of SYS_STAT is up after every event that leaves the chip
+-- CHIP L2: the outside level over the registers. Where it is 1 a bit of SYS_STAT is up after every event that leaves the chip
 -- in NORMAL; it raises OVRD_ALERT alone, and where a bit is up, or the level is 0, it does nothing. Assumes nothing.
 use mathlib.Core.Path.{_≡_, refl, sym, ap, _∙_}
 use mathlib.Core.Bool.{Bool, true, false, _||_, cond, true≢false}

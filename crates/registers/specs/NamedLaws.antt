@@ -1,4 +1,4 @@
--- Document 01, "Registers": unnamed bits read 0, whatever the registers hold. Assumes nothing.
+-- CHIP G1: unnamed bits read 0, whatever the registers hold. Assumes nothing.
 use mathlib.Core.Path.{_≡_, refl}
 use mathlib.Core.Bool.{Bool, true, false, not, _&&_, cond}
 use Prim.Native.Nat.{ℕ, _+_, _*_, _/_, _%_, _≤_}

@@ -1,4 +1,4 @@
--- Document 01, "Registers": what an address reads. Assumes nothing.
+-- CHIP G1 to G20: what an address reads. Assumes nothing.
 use mathlib.Core.Bool.{not, _&&_, cond}
 use Prim.Native.Nat.{ℕ, _+_, _-_, _*_, _/_, _%_}
 use lib.ListN.{getD}
@@ -18,14 +18,14 @@ use Rattle.registers.specs.declared.Registers.{Registers}
 use Rattle.registers.specs.declared.Pair.{Pair}
 use Rattle.registers.specs.Write.{fiveOf}
 
--- 0x00 SYS_STAT: CC_READY 7, XREADY 5, OVRD_ALERT 4, UV 3, OV 2, SCD 1, OCD 0
+-- SYS_STAT (CHIP G3)
 abbrev pub statusByte : Status → ℕ
 statusByte t =
     weighed (t .«cc_ready») «CC_READY» + weighed (t .xready) XREADY + weighed (t .«ovrd_alert») «OVRD_ALERT» + weighed (t .uv) UV
     + weighed (t .ov) OV
     + weighed (t .scd) SCD + weighed (t .ocd) OCD
 
--- 0x01 to 0x03 CELLBAL: bits 4 to 0, for the inputs that the part has
+-- CELLBAL (CHIP G5), for the groups that the part has
 unfoldable pub cellbalByte : Setup → Cellbal → ℕ → ℕ
 cellbalByte u b a =
     cond (eqb a CELLBAL1 && leb 1 (groups u)) (fiveOf (b .cellbal1))
@@ -33,13 +33,13 @@ cellbalByte u b a =
     (cond (eqb a CELLBAL3 && leb 3 (groups u)) (fiveOf (b .cellbal3))
     0))
 
--- 0x04 SYS_CTRL1: LOAD_PRESENT 7 (load level 1 and CHG_ON 0), ADC_EN 4, TEMP_SEL 3, the pair
+-- SYS_CTRL1 (CHIP G6, G7)
 abbrev pub ctrl1Byte : Registers → ℕ
 ctrl1Byte r =
     weighed (r .«load_level» && not (r .shown .«chg_on»)) «LOAD_PRESENT» + weighed (r .settings .«adc_en») «ADC_EN»
     + weighed (r .settings .«temp_sel») «TEMP_SEL» + weighed (r .settings .«shut_b») «SHUT_B»
 
--- 0x05 SYS_CTRL2: DELAY_DIS 7, CC_EN 6, CC_ONESHOT 5, DSG_ON 1, CHG_ON 0
+-- SYS_CTRL2 (CHIP G8)
 abbrev pub ctrl2Byte : Registers → ℕ
 ctrl2Byte r =
     weighed (r .settings .«delay_dis») «DELAY_DIS» + weighed (r .settings .«cc_en») «CC_EN» + weighed (r .shown .«cc_oneshot») «CC_ONESHOT»
@@ -53,11 +53,11 @@ controlByte u r a =
     (cond (ltb a «SYS_CTRL1») (cellbalByte u (r .cellbal) a)
     (settingsByte (r .settings) a))))
 
--- high byte first: a word's high byte at the even address, its low byte at the odd one
+-- a word's high byte at the even address, its low byte at the odd one (CHIP G15)
 unfoldable pub half : ℕ → ℕ → ℕ
 half a w = cond (eqb (a % 2) 0) (w / 256) (w % 256)
 
--- 0x0C to 0x29 cells, 0x2A BAT, 0x2C to 0x31 TS1 to TS3, 0x32 CC; an input that the part lacks reads 0, whatever stands in its place
+-- the words (CHIP G15); an input that the part lacks reads 0, whatever stands in its place (CHIP G1)
 abbrev pub cellAt : Setup → Measured → ℕ → ℕ
 cellAt u m k = cond (ltb k (inputs u)) (getD (m .cells) k 0) 0
 
@@ -71,7 +71,7 @@ wordAt u m a =
     (cond (ltb a CC) (tsAt u m ((a - TS1) / 2))
     (m .cc)))
 
--- 0x50 bits 3:2 gain code 4:3; 0x51 offset; 0x59 bits 7:5 gain code 2:0; from setup
+-- what is from setup (CHIP G18)
 unfoldable pub fixedByte : Setup → ℕ → ℕ
 fixedByte u a =
     cond (eqb a ADCGAIN1) (u .«gain_code» / 8 % 4 * 4)

@@ -1,4 +1,4 @@
--- Document 01, "Registers": what they hold, by who may move it. Assumes nothing.
+-- CHIP G1 to G20: what the registers hold, by who may move it. Assumes nothing.
 use mathlib.Core.Bool.{Bool, false, _||_}
 use lib.ListN.{replicate}
 use Rattle.settings.specs.declared.Settings.{Settings}
@@ -103,6 +103,6 @@ withOutsideLevel l r =
 abbrev pub withStatus : Status → Shown → Shown
 withStatus t s = record { status = t; «cc_oneshot» = s .«cc_oneshot»; «dsg_on» = s .«dsg_on»; «chg_on» = s .«chg_on» }
 
--- ALERT is up when SYS_STAT is not 0
+-- ALERT (CHIP G20)
 abbrev pub alert : Status → Bool
 alert t = t .«cc_ready» || t .xready || t .«ovrd_alert» || t .uv || t .ov || t .scd || t .ocd

@@ -1,4 +1,4 @@
--- Document 01, "Registers": what an accepted write of v at a does. Each part says its own registers; every other address leaves it.
+-- CHIP G2 to G11: what an accepted write of v at a does. Each part says its own registers; every other address leaves it.
 -- Assumes nothing.
 use mathlib.Core.Bool.{Bool, not, _&&_, _||_, cond}
 use Prim.Native.Nat.{ℕ, _%_}
@@ -15,7 +15,7 @@ use Rattle.registers.specs.declared.Cellbal.{Cellbal}
 use Rattle.registers.specs.declared.Registers.{Registers}
 use Rattle.registers.specs.State.{withStatus}
 
--- ── SYS_STAT: writing ones clears those bits ──
+-- ── SYS_STAT (CHIP G4) ──
 abbrev pub statusOf : ℕ → Status
 statusOf v =
     record {
@@ -40,14 +40,14 @@ without ones t =
       ocd = t .ocd && not (ones .ocd);
     }
 
--- ── SYS_CTRL2: CHG_ON is stored 1 only with OV, OVRD_ALERT and XREADY down; DSG_ON only with UV, OCD, SCD, OVRD_ALERT and XREADY down ──
+-- ── SYS_CTRL2 (CHIP G9 to G11) ──
 abbrev pub holdsChg : Status → Bool
 holdsChg t = t .ov || t .«ovrd_alert» || t .xready
 
 abbrev pub holdsDsg : Status → Bool
 holdsDsg t = t .uv || t .ocd || t .scd || t .«ovrd_alert» || t .xready
 
--- CC_ONESHOT is stored 1 only if the CC_EN written is 0 and CC_READY is down
+-- what CC_ONESHOT and the drives become
 abbrev pub driven : ℕ → Shown → Shown
 driven v s =
     record {
@@ -60,7 +60,7 @@ driven v s =
 unfoldable pub shownWith : ℕ → ℕ → Shown → Shown
 shownWith a v s = cond (eqb a «SYS_STAT») (withStatus (without (statusOf v) (s .status)) s) (cond (eqb a «SYS_CTRL2») (driven v s) s)
 
--- ── CELLBAL: bits 4 to 0, for the inputs that the part has ──
+-- ── CELLBAL (CHIP G5), for the groups that the part has ──
 abbrev pub fiveOf : ℕ → ℕ
 fiveOf v = v % 32
 

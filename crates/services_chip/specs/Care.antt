@@ -1,4 +1,4 @@
--- Requests M-110 and M-111 of a chip: what is proposed and replied, and the numbers that refuse it. Assumes nothing.
+-- CHIP E1 to E5 and C1 to C6 of a chip: what is proposed and replied, and the numbers that refuse it. Assumes nothing.
 use mathlib.Core.Bool.{not, _&&_, cond}
 use mathlib.Core.List.{List}
 use Prim.Native.Nat.{ℕ}
@@ -21,14 +21,14 @@ abbrev pub saidProposal : Proposal → Said Choice
 saidProposal (Is c) = gives c
 saidProposal (No n) = refuses n
 
--- the counts now in the cell registers, and the inputs that have a cell connected, by request M-108
+-- the counts now in the cell registers, and the inputs that have a cell connected (CHIP W7)
 abbrev pub cellsOf : Chip → List ℕ
 cellsOf c = c .registers .measured .cells
 
 abbrev pub linkedOf : Chip → ℕ
 linkedOf c = linkedBits (c .setup) (cellsOf c)
 
--- a margin of 1 to 16,383: 3 for the margin, 4 asleep, 10 when no cell is connected
+-- CHIP E1 and E5
 unfoldable pub proposalSaid : ℕ → Chip → Said Choice
 proposalSaid margin c =
     cond (leb 1 margin && leb margin 16383)

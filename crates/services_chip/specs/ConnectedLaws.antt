@@ -1,4 +1,4 @@
--- Request M-110, "Connected is M-108's rule": of a chip, the bit of an input is up exactly where the part has the input and it is
+-- CHIP E2 is by CHIP W7: of a chip, the bit of an input is up exactly where the part has the input and it is
 -- connected. Inputs are counted from 0, as bleed has them. Assumes nothing.
 use mathlib.Core.Path.{_≡_, refl, sym, ap, ap₂, _∙_}
 use mathlib.Core.Bool.{Bool, true, false, _&&_, cond}

@@ -1,4 +1,4 @@
--- Requests M-110 and M-111 over a stream: what is asked of the chip that stands at its end. Assumes nothing.
+-- CHIP P8: what is asked of the chip that stands at a stream's end, a proposal or a word. Assumes nothing.
 use mathlib.Core.Path.{_≡_}
 use mathlib.Core.Bool.{cond}
 use mathlib.Core.List.{List, [], _∷_, _++_}

@@ -7,7 +7,7 @@ use constants::number;
 use services_chip::Proposal;
 
 // A proposal written, where it fits.
-fn put_choice(out: &mut [u8], choice: Choice) -> u8
+pub fn put_choice(out: &mut [u8], choice: Choice) -> u8
     ensures { λ r. ⌜ Bled (gives choice) (now (out .entry)) r (now (out .exit)) ⌝ }
 {
     if out.len() < 3 {

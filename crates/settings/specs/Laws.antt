@@ -1,4 +1,4 @@
--- Document 01, "Modes": laws of writing the settings, for every value of them. Assumes nothing.
+-- CHIP M7 to M9: laws of writing the settings, for every value of them. Assumes nothing.
 use mathlib.Core.Path.{_≡_, refl}
 use mathlib.Core.Bool.{Bool, true, false, not, _&&_, cond}
 use Prim.Native.Nat.{ℕ}
@@ -31,19 +31,19 @@ pub clash : {X : Type 0} {t : Bool} → t ≡ false → t ≡ true → X
 clash e f = let z : _≡_ {A = ℕ} 0 1 = cc in absurd (omega arith)
 
 -- ── the shipping sequence ──
--- writes to other registers between do not matter
+-- no other write moves the pair (CHIP M9)
 pub pair-stays : (a v : ℕ) (s : Settings) → (a ≡ 0x04 → ⊥) → settingsWith a v s .«shut_b» ≡ s .«shut_b»
 pair-stays a v s h =
     settings-by (λ t. t .«shut_b» ≡ s .«shut_b») a v s (clash (ne-eqb a 0x04 h)) (λ e. refl) (λ e. refl) (λ e. refl) (λ e. refl)
     (λ e. refl) (λ e. refl) (λ e. refl) refl
 
--- pair (0,1) is kept while (0,0) is held, and the pair (1,0) then enters SHIP
+-- by (0,1) and then (1,0) it ships
 pub then-ships : (v w : ℕ) (s : Settings) → s .«shut_b» ≡ false → shutA v ≡ false → shutB v ≡ true → shutA w ≡ true → shutB w ≡ false
     → ships 0x04 w (settingsWith 0x04 v s) ≡ true
 unfolding settingsWith
 then-ships v w s n a b c d = simp (n, a, b, c, d)
 
--- every other pair leaves (0,0)
+-- other pairs leave (0,0)
 pub pair-forgotten : (v : ℕ) (s : Settings) → (not (shutA v) && shutB v) ≡ false → settingsWith 0x04 v s .«shut_b» ≡ false
 unfolding settingsWith
 pair-forgotten v s e = by (s .«shut_b»)

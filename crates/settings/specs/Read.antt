@@ -1,4 +1,4 @@
--- Document 01, "Registers": what the registers read that are settings alone; bits that they have not read 0, whatever the byte holds.
+-- CHIP G12 to G14: what the registers read that are settings alone; bits that they have not read 0, whatever the byte holds.
 -- Assumes nothing.
 use mathlib.Core.Bool.{cond}
 use Prim.Native.Nat.{ℕ}

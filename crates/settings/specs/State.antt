@@ -1,9 +1,10 @@
--- Document 01, "Registers": the settings, which accepted writes alone move: their reset values, and one register put anew. Assumes nothing.
+-- CHIP G6, G8 and G12 to G14: the settings, which accepted writes alone move: their reset values, and one register put anew. Assumes
+-- nothing.
 use mathlib.Core.Bool.{Bool, true, false}
 use Prim.Native.Nat.{ℕ}
 use Rattle.settings.specs.declared.Settings.{Settings}
 
--- SYS_CTRL1 resets to 0x10, OV_TRIP to 0xAC, UV_TRIP to 0x97, CC_CFG to 0x17; other resets are 0
+-- the resets (CHIP G19)
 abbrev pub resetSettings : Settings
 resetSettings =
     record {

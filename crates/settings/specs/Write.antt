@@ -1,4 +1,4 @@
--- Document 01, "Registers" and "Modes": what an accepted write of v at a leaves of the settings, and whether it ships. Assumes nothing.
+-- CHIP G6, G8, G12 to G14 and M8: what an accepted write of v at a leaves of the settings, and whether it ships. Assumes nothing.
 use mathlib.Core.Bool.{Bool, not, _&&_, cond}
 use Prim.Native.Nat.{ℕ, _+_, _*_, _/_, _%_}
 use lib.Dec.{eqb}
@@ -8,18 +8,18 @@ use Rattle.settings.specs.declared.Settings.{Settings}
 use Rattle.bits.specs.Bit.{bit}
 use Rattle.settings.specs.State.{withCtrl1, withCtrl2, withProtect1, withProtect2, withProtect3, withOvTrip, withUvTrip, withCcCfg}
 
--- ── the pair of SYS_CTRL1: SHUT_A bit 1, SHUT_B bit 0 ──
+-- ── the pair of SYS_CTRL1 (CHIP M7, M8) ──
 abbrev pub shutA : ℕ → Bool
 shutA v = bit v «SHUT_A»
 
 abbrev pub shutB : ℕ → Bool
 shutB v = bit v «SHUT_B»
 
--- pair (0,1) while (0,0) is held is kept, every other pair leaves (0,0)
+-- whether the pair held is then (0,1)
 abbrev pub keepsPair : ℕ → Settings → Bool
 keepsPair v s = not (s .«shut_b») && not (shutA v) && shutB v
 
--- pair (1,0) while (0,1) is held enters SHIP
+-- whether it enters SHIP
 abbrev pub ships : ℕ → ℕ → Settings → Bool
 ships a v s = eqb a «SYS_CTRL1» && s .«shut_b» && shutA v && not (shutB v)
 

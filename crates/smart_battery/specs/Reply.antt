@@ -1,4 +1,4 @@
--- Request M-111: the three bytes of a reply, and what a buffer holds after it. Assumes nothing.
+-- CHIP C2: the three bytes of a reply, and what a buffer holds after it. Assumes nothing.
 use mathlib.Core.Path.{_≡_}
 use mathlib.Core.Bool.{cond}
 use mathlib.Core.List.{List, [], _∷_, _++_}
@@ -8,7 +8,7 @@ use lib.ListN.{length, drop}
 use Rattle.crc8.specs.Crc.{crcOn}
 use Rattle.values.specs.Values.{Said, gives, refuses}
 
--- the SMBus PEC over 0x16, command, 0x17 and both data bytes
+-- the PEC (CHIP C2)
 abbrev pub pecOf : ℕ → ℕ → ℕ → ℕ
 pecOf command low high = crcOn 0 (0x16 ∷ command ∷ 0x17 ∷ low ∷ high ∷ [])
 

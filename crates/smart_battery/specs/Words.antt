@@ -1,4 +1,4 @@
--- Request M-111, "Chargers ask in Smart Battery words": the word of each command, and what refuses it. Assumes nothing.
+-- CHIP C1 to C6: the word of each command, and what refuses it. Assumes nothing.
 use mathlib.Core.Bool.{Bool, true, false, not, _&&_, _||_, cond}
 use Prim.Native.Nat.{ℕ, suc, _+_, _-_, _*_, _/_, _%_}
 use lib.Dec.{eqb, leb, ltb}
@@ -14,11 +14,11 @@ saidWord (Is w) = gives w
 saidWord (No n) = refuses n
 
 -- ── the values ──
--- Temperature is (h + 546,300) / 200 rounded down, h the die value: tenths of a kelvin
+-- Temperature() (CHIP C3), of the count of TS1
 abbrev pub kelvins : ℕ → ℤ
 kelvins count = floor (dieTemperature count +ℤ pos 546300) 200
 
--- Voltage is the total µV / 1,000 rounded down
+-- Voltage() (CHIP C4), of the total in µV
 abbrev pub millivolts : ℤ → ℤ
 millivolts total = floor total 1000
 
@@ -27,11 +27,11 @@ abbrev pub toward : ℤ → ℕ → ℤ
 toward (pos n) m = pos (n / m)
 toward (negsuc n) m = negℤ (pos (suc n / m))
 
--- Current is 844 × CC / (100 × R) rounded toward zero
+-- Current() (CHIP C5)
 abbrev pub milliamps : ℕ → ℕ → ℤ
 milliamps cc r = toward (ccHundredths cc) (100 * r)
 
--- ── a value that does not fit its unsigned or signed word is refused with 11, never cut ──
+-- ── 11, where a value does not fit its word (CHIP N11) ──
 abbrev pub unsignedSaid : ℤ → Said ℕ
 unsignedSaid (pos n) = cond (leb n 65535) (gives n) (refuses 11)
 unsignedSaid (negsuc n) = refuses 11
@@ -40,7 +40,7 @@ abbrev pub signedSaid : ℤ → Said ℕ
 signedSaid (pos n) = cond (leb n 32767) (gives n) (refuses 11)
 signedSaid (negsuc n) = cond (leb n 32767) (gives (65535 - n)) (refuses 11)
 
--- ── the commands, and the refusals in their order: 23, 3, 4, 12, 10, 11 ──
+-- ── the commands, and the refusals in their order (CHIP C6) ──
 abbrev pub known : ℕ → Bool
 known command = eqb command 0x08 || eqb command 0x09 || eqb command 0x0A
 

@@ -1,4 +1,4 @@
--- Request M-111, worked cases as one list: what each command answers at both sides of its lines. Assumes nothing.
+-- CHIP C3 to C6, worked cases as one list: what each command answers at both sides of its lines. Assumes nothing.
 use mathlib.Core.Path.{_≡_, refl}
 use mathlib.Core.Bool.{Bool, true, false}
 use mathlib.Core.List.{List, [], _∷_, map}

@@ -5,7 +5,7 @@ use mathlib.Core.Logic.{_≢_}
 use mathlib.Core.List.{List, [], _∷_}
 use Prim.Native.Nat.{ℕ, zero, suc, _+_, _-_, _*_, _<_, _≤_}
 use native.Mathlib.Omega.{arith}
-use native.Mathlib.Nat.{not-suc-le-zero}
+use native.Mathlib.Nat.{zero-add, not-suc-le-zero}
 use lib.Dec.{eqb}
 use lib.ListN.{length, take, drop, length-drop, drop-of-length-le}
 use lib.Seq.{drop-drop}
@@ -16,13 +16,12 @@ use Rattle.records.specs.declared.Read.the-variants.{Record, Refused, Cut}
 use Rattle.records.specs.Frame.{frameOf}
 use Rattle.records.specs.FramingLaws.{first-refused}
 use Rattle.records.specs.Record.{readOf, numberOf}
-use Rattle.records.specs.ReadingLaws.{Placed, placed}
 use Rattle.stream.specs.Frames.{frames, framesAfter, framesOf}
 use Rattle.stream.specs.CountedLaws.{Framed, framed, frame-place}
 use Rattle.stream.proofs.Loop.{rest-is}
 
 pub record Counting (s : List ℕ) (at n : ℕ) : Type 0 where
-  pub whole : framesOf s ≡ n + frames (length s - n) (drop at s)
+  pub whole : frames (length s) s ≡ n + frames (length s - n) (drop at s)
   pub slow : 4 * n ≤ at
   pub inside : at ≤ length s
 
@@ -37,20 +36,19 @@ unfolding framesOf
 after-first [] h = absurd (h refl)
 after-first (b ∷ s) h = refl
 
-count-first : (s : List ℕ) (x : Read) (e : Event) (next : ℕ) → (length s ≡ 0 → ⊥) → x ≡ readOf 0 s → x ≡ Record e next → Counting s next 1
-count-first s x e next h q w =
-    let r : readOf 0 s ≡ Record e next = sym q ∙ w in
-    let p : Placed (length s) (Record e next) = rw r at (placed 0 s) in
-    record { whole = after-first s h ∙ ap (framesAfter s) r ∙ omega arith; slow = omega (arith, p .0); inside = p .1 }
-
-pub count-good : (s : List ℕ) (k m : ℕ) → (length s ≡ 0 → ⊥) → k ≡ numberOf (readOf 0 s) → k ≡ 0 → m ≡ frameOf s → Counting s m 1
-count-good s k m h q z w = by (readOf 0 s) refl (framed 0 s)
+-- good, it is a record as any other
+pub count-good : (s : List ℕ) (k : ℕ) → (length s ≡ 0 → ⊥) → k ≡ numberOf (readOf 0 s) → k ≡ 0 → frames (length s) s ≡ framesOf s
+count-good [] k h q z = absurd (h refl)
+count-good (b ∷ s) k h q z = by (readOf 0 (b ∷ s)) refl (framed 0 (b ∷ s)) ∙ sym (after-first (b ∷ s) h)
   where
-    by : (x : Read) → readOf 0 s ≡ x → Framed s (readOf 0 s) → Counting s m 1
+    by : (x : Read) → readOf 0 (b ∷ s) ≡ x → Framed (b ∷ s) x → frames (length (b ∷ s)) (b ∷ s) ≡ framesAfter (b ∷ s) (readOf 0 (b ∷ s))
     by (Record e next) r f =
-        let n : next ≡ m = sym (subst (Framed s) r f .0) ∙ sym w in
-        subst (λ (m : ℕ). Counting s m 1) n (count-first s (Record e next) e next h (sym r) refl)
-    by (Refused j next) r f = absurd (first-refused s j next r (sym (q ∙ ap numberOf r) ∙ z))
+        let l : length s ≡ length (b ∷ s) - 1 = omega arith in
+        ap (λ (m : ℕ). suc (cond (eqb m 0) 0 (frames (length s) (drop m (b ∷ s))))) (f .0)
+        ∙ ap (λ (t : Bool). suc (cond t 0 (frames (length s) (drop next (b ∷ s))))) (ne-eqb next 0 (λ y. omega (arith, y, f .1)))
+        ∙ ap (λ (m : ℕ). suc (frames m (drop next (b ∷ s)))) l
+        ∙ sym (ap (framesAfter (b ∷ s)) r)
+    by (Refused j next) r f = absurd (first-refused (b ∷ s) j next r (sym (q ∙ ap numberOf r) ∙ z))
     by Cut r f = let y : k ≡ 9 = q ∙ ap numberOf r in absurd (omega (arith, y, z))
 
 pub count-only : (s : List ℕ) (k : ℕ) → (length s ≡ 0 → ⊥) → k ≡ numberOf (readOf 0 s) → (k ≡ 0 → ⊥) → 1 ≡ framesOf s
@@ -69,8 +67,11 @@ frames-cons : (f : ℕ) (l : List ℕ) → 0 < length l → frames (suc f) l ≡
 frames-cons f [] h = absurd (not-suc-le-zero h)
 frames-cons f (b ∷ l) h = refl
 
+pub counting : (s : List ℕ) → Counting s 0 0
+counting s = let z : length s ≡ length s - 0 = omega arith in record { whole = ap (λ (k : ℕ). frames k s) z ∙ sym (zero-add (frames (length s - 0) s)); slow = omega arith; inside = omega arith }
+
 module _ (s : List ℕ) (at n : ℕ) (g : Counting s at n) where
-  pub count-end : length s ≤ at → n ≡ framesOf s
+  pub count-end : length s ≤ at → n ≡ frames (length s) s
   count-end h =
       let e : drop at s ≡ [] = drop-of-length-le s h in
       let z : frames (length s - n) (drop at s) ≡ 0 = ap (frames (length s - n)) e ∙ frames-nil (length s - n) in
@@ -80,7 +81,7 @@ module _ (s : List ℕ) (at n : ℕ) (g : Counting s at n) where
     size-is : frameOf (drop at s) ≡ size
     size-is = ap frameOf (sym (rest-is s at)) ∙ sym q
 
-    step : framesOf s ≡ n + suc (cond (eqb size 0) 0 (frames (length s - (n + 1)) (drop (at + size) s)))
+    step : frames (length s) s ≡ n + suc (cond (eqb size 0) 0 (frames (length s - (n + 1)) (drop (at + size) s)))
     step =
         let l : 4 * n ≤ at = g .slow in
         let f : length s - n ≡ suc (length s - (n + 1)) = omega arith in
@@ -91,8 +92,8 @@ module _ (s : List ℕ) (at n : ℕ) (g : Counting s at n) where
         ∙ ap (λ (k : ℕ). suc (cond (eqb k 0) 0 (frames (length s - (n + 1)) (drop k (drop at s))))) size-is
         ∙ ap (λ (l : List ℕ). suc (cond (eqb size 0) 0 (frames (length s - (n + 1)) l))) (drop-drop size at s))
 
-    pub count-cut : size ≡ 0 → n + 1 ≡ framesOf s
-    count-cut e = let t : framesOf s ≡ n + 1 = step ∙ simp (eq-eqb size 0 e) in omega (arith, t)
+    pub count-cut : size ≡ 0 → n + 1 ≡ frames (length s) s
+    count-cut e = let t : frames (length s) s ≡ n + 1 = step ∙ simp (eq-eqb size 0 e) in omega (arith, t)
 
     pub count-place : (size ≡ 0 → ⊥) → (4 ≤ size) × (at + size ≤ length s)
     count-place e =
@@ -104,5 +105,5 @@ module _ (s : List ℕ) (at n : ℕ) (g : Counting s at n) where
     count-more e =
         let l : 4 * n ≤ at = g .slow in
         let p : (4 ≤ size) × (at + size ≤ length s) = count-place e in
-        let t : framesOf s ≡ n + suc (frames (length s - (n + 1)) (drop (at + size) s)) = step ∙ simp (ne-eqb size 0 e) in
+        let t : frames (length s) s ≡ n + suc (frames (length s - (n + 1)) (drop (at + size) s)) = step ∙ simp (ne-eqb size 0 e) in
         record { whole = omega (arith, t); slow = omega (arith, p .0); inside = p .1 }

@@ -7,32 +7,28 @@ use native.Mathlib.Omega.{arith}
 use native.Mathlib.Numerals.{add-one}
 use native.Mathlib.Nat.{not-suc-le-zero}
 use lib.ListN.{length, getD, take, drop, length-append, length-drop, set, drop-of-length-le}
-use lib.Seq.{sets, sets-eq, length-sets, take-at, drop-append-add, drop-drop, take-all}
+use lib.Seq.{sets, sets-eq, length-sets, take-at, drop-append-add, drop-drop, take-all, take-nil, take-append-le}
 use lib.Dec.{eqb, leb}
 use lib.IntN.{pos, negsuc}
 use mir.Syntax.{w64}
 use mir.Val.{toZ}
 use mir.Facts.{toZ-pos}
-use borrow.Author.Tests.{le-leb, lt-leb, leb-true}
-use Rattle.records.specs.Record.{readOf}
+use borrow.Author.Tests.{le-leb, lt-leb, leb-true, leb-false}
+use Rattle.records.specs.Record.{readOf, numberOf}
 use Rattle.records.specs.declared.Read.{Read}
 use Rattle.records.specs.declared.Read.the-variants.{Record, Refused, Cut}
 use Rattle.records.specs.ReadingLaws.{Placed, placed}
-use Rattle.events.specs.declared.Event.{Event}
-use Rattle.events.specs.declared.Event.the-variants.{Setup, Por, Boot, Scan, Temp, Count, Sense, Pin, Load, Xready, OnBus, Level, Ticks, Soak, Wires}
-use Rattle.events.specs.declared.Setup.{Setup as SetupValues}
-use Rattle.events.specs.declared.Counts.{Counts}
-use Rattle.events.specs.Setup.{withCells}
-use Rattle.wiring.specs.Rows.{hasRow, wiredWith}
-use Rattle.wiring.specs.declared.Wiring.the-variants.{With, NoRow}
-use Rattle.events.specs.Event.{meantOf}
-use Rattle.records.specs.Record.{countsBeside}
+use Rattle.records.proofs.Read.{the-type as read-type}
+use types.Run.{OneOf}
+use denote.Enum.Declared.{tagOf}
+use mathlib.Core.Logic.{⊎-elim}
 use Rattle.chip.specs.declared.Chip.{Chip}
 use Rattle.chip.specs.declared.Stepped.{Stepped}
 use Rattle.chip.specs.Chip.{numbered}
 use Rattle.chip.specs.Calm.{Calmed, ship-calm}
-use Rattle.chip.specs.RepeatLaws.{calm-as}
-use Rattle.stream.specs.Stream.{Turn, turnOf, turned, runs, stands, entries, lastChip, none, entryBytes, bytesOf, noted, wiredAs, acted, Ran, Played}
+use Rattle.stream.specs.Stream.{Turn, turn, turnOf, turned, runs, stands, stays, entries, entriesFrom, chipFrom, freshFrom, none, entryOf, entryBytes, bytesOf, noted, entered, passed, Ran, Played}
+use Rattle.stream.specs.CalmLaws.{turn-calm}
+use Rattle.stream.specs.declared.Left.{Left}
 use Rattle.stream.specs.declared.Entry.{Entry}
 
 pub rest-is : (s : List ℕ) (at : ℕ) → take (length s - at) (drop at s) ≡ drop at s
@@ -56,14 +52,18 @@ bytes-length (e ∷ a) =
     let h : length (bytesOf a) ≡ 5 * length a = bytes-length a in
     omega arith
 
+-- entries that all fit
+pub entered-all : (old : List ℕ) (es : List Entry) → length es ≤ length old / 5 → entered old es ≡ bytesOf es ++ drop (5 * length es) old
+entered-all old es h = ap (λ (l : List Entry). bytesOf l ++ drop (5 * length l) old) (take-all (length old / 5) es h)
+
 -- entries that were noted in a buffer
 pub record Made (done : List Entry) (old out : List ℕ) (n : ℕ) : Type 0 where
   pub count : length done ≡ n
   pub same : length out ≡ length old
-  pub wrote : 5 * n ≤ length old → out ≡ bytesOf done ++ drop (5 * n) old
+  pub wrote : out ≡ entered old done
 
 pub made-none : (old : List ℕ) → Made [] old old 0
-made-none old = record { count = refl; same = refl; wrote = λ h. refl }
+made-none old = record { count = refl; same = refl; wrote = sym (ap (λ (l : List Entry). bytesOf l ++ drop (5 * length l) old) (take-nil (length old / 5))) }
 
 module _ (done : List Entry) (old out : List ℕ) (n : ℕ) (e : Entry) (m : Made done old out n) where
   noted-length : length (noted out n e) ≡ length old
@@ -73,30 +73,41 @@ module _ (done : List Entry) (old out : List ℕ) (n : ℕ) (e : Entry) (m : Mad
       by true = length-sets out (5 * n) (entryBytes e)
       by false = refl
 
-  noted-is : 5 * (n + 1) ≤ length old → noted out n e ≡ bytesOf (done ++ (e ∷ [])) ++ drop (5 * (n + 1)) old
-  noted-is h =
+  -- where it fits
+  stored-is : 5 * n + 5 ≤ length old → sets out (5 * n) (entryBytes e) ≡ bytesOf (done ++ (e ∷ [])) ++ drop (5 * (n + 1)) old
+  stored-is h =
       let s : length out ≡ length old = m .same in
-      let w : out ≡ bytesOf done ++ drop (5 * n) old = m .wrote (omega arith) in
+      let c : length done ≡ n = m .count in
+      let w : out ≡ bytesOf done ++ drop (5 * n) old =
+      m .wrote ∙ entered-all old done (omega arith) ∙ ap (λ (k : ℕ). bytesOf done ++ drop (5 * k) old) (m .count) in
       let l : length (bytesOf done) ≡ 5 * n = bytes-length done ∙ ap (λ (k : ℕ). 5 * k) (m .count) in
       let t : take (5 * n) out ≡ bytesOf done = ap (take (5 * n)) w ∙ take-at (bytesOf done) (drop (5 * n) old) (5 * n) l in
       let f : 5 * (n + 1) ≡ 5 * n + 5 = omega arith in
       let d : drop (5 * n + 5) out ≡ drop (5 * (n + 1)) old =
       ap (drop (5 * n + 5)) w ∙ ap (λ (k : ℕ). drop (k + 5) (bytesOf done ++ drop (5 * n) old)) (sym l) ∙ drop-append-add (bytesOf done) (drop (5 * n) old) 5
       ∙ drop-drop 5 (5 * n) old ∙ ap (λ (k : ℕ). drop k old) (sym f) in
-      simp (le-leb (5 * n + 5) (length out) (omega arith))
-      (sets-eq (entryBytes e) out (5 * n) (omega arith) ∙ rw (t, d, bytes-append done (e ∷ []), append-assoc) refl)
+      sets-eq (entryBytes e) out (5 * n) (omega arith) ∙ rw (t, d, bytes-append done (e ∷ []), append-assoc) refl
+
+  more-length : length (done ++ (e ∷ [])) ≡ n + 1
+  more-length = simp length-append (omega (arith, m .count))
+
+  noted-is : noted out n e ≡ entered old (done ++ (e ∷ []))
+  noted-is = by (leb (5 * n + 5) (length out)) refl
+    where
+      by : (t : Bool) → leb (5 * n + 5) (length out) ≡ t → cond t (sets out (5 * n) (entryBytes e)) out ≡ entered old (done ++ (e ∷ []))
+      by true q =
+          let h : 5 * n + 5 ≤ length out = leb-true (5 * n + 5) (length out) q in
+          let s : length out ≡ length old = m .same in
+          stored-is (omega arith) ∙ ap (λ (k : ℕ). bytesOf (done ++ (e ∷ [])) ++ drop (5 * k) old) (sym more-length)
+          ∙ sym (entered-all old (done ++ (e ∷ [])) (omega (arith, more-length)))
+      by false q =
+          let h : length out < 5 * n + 5 = leb-false (5 * n + 5) (length out) q in
+          let s : length out ≡ length old = m .same in
+          let c : length done ≡ n = m .count in
+          m .wrote ∙ sym (ap (λ (l : List Entry). bytesOf l ++ drop (5 * length l) old) (take-append-le (length old / 5) done (e ∷ []) (omega arith)))
 
   pub made-next : Made (done ++ (e ∷ [])) old (noted out n e) (n + 1)
-  made-next = record { count = simp length-append (omega (arith, m .count)); same = noted-length; wrote = noted-is }
-
-ran : {s old out : List ℕ} {c : Chip} {n : ℕ} (done : List Entry) → entries s ≡ done → c ≡ lastChip s → Made done old out n → Ran s old c out
-ran {s} {old} {out} {c} {n} done e l m =
-    let k : length (entries s) ≡ n = ap length e ∙ m .count in
-    record {
-      chip = l;
-      same = m .same;
-      wrote = λ h. (rw k (rw e (m .wrote (subst (λ (k : ℕ). 5 * k ≤ length old) k (leb-true (5 * length (entries s)) (length old) h)))));
-    }
+  made-next = record { count = more-length; same = noted-length; wrote = noted-is }
 
 -- a turn of a run, where bytes are left
 runs-cons : (f : ℕ) (o : Bool) (chip : Chip) (l : List ℕ) → 0 < length l
@@ -113,6 +124,15 @@ pub stands-nil : (f : ℕ) (o : Bool) (chip : Chip) → stands f o chip [] ≡ c
 stands-nil zero o chip = refl
 stands-nil (suc f) o chip = refl
 
+stays-cons : (f : ℕ) (o : Bool) (chip : Chip) (l : List ℕ) → 0 < length l
+    → stays (suc f) o chip l ≡ cond (turnOf o chip l .last) (turnOf o chip l .fresh) (stays f (turnOf o chip l .fresh) (turnOf o chip l .chip) (drop (turnOf o chip l .next) l))
+stays-cons f o chip [] h = absurd (not-suc-le-zero h)
+stays-cons f o chip (b ∷ l) h = refl
+
+stays-nil : (f : ℕ) (o : Bool) (chip : Chip) → stays f o chip [] ≡ o
+stays-nil zero o chip = refl
+stays-nil (suc f) o chip = refl
+
 runs-nil : (f : ℕ) (o : Bool) (chip : Chip) → runs f o chip [] ≡ []
 runs-nil zero o chip = refl
 runs-nil (suc f) o chip = refl
@@ -128,88 +148,97 @@ pub turn-next : (o : Bool) (chip : Chip) (rest : List ℕ) → turnOf o chip res
 unfolding turnOf
 turn-next o chip rest l = turned-next o chip rest (readOf (chip .setup .part) rest) (placed (chip .setup .part) rest) l
 
--- the outside level and SYS_STAT at 0 do not stand together after a turn, where they did not before it
-wires-calm : (o t : Bool) (u : SetupValues) (c : Chip) → Calmed c → Calmed (cond o (wiredAs (cond t (With u) NoRow) c) (numbered 2 c) .chip)
-wires-calm true true u c k = ship-calm u
-wires-calm true false u c k = k
-wires-calm false t u c k = k
+-- no record, but a refusal or a cut
+abbrev pub Skipped : Read → Type 0
+Skipped (Record e next) = ⊥
+Skipped (Refused k next) = Unit
+Skipped Cut = Unit
 
-acted-calm : (o : Bool) (e : Event) (n : Counts) (c : Chip) → Calmed c → Calmed (acted o e n c .chip)
-unfolding acted wiredWith
-acted-calm o (Setup v) n c k = ship-calm v
-acted-calm o Por n c k = calm-as (meantOf (c .setup) Por n) c k
-acted-calm o Boot n c k = calm-as (meantOf (c .setup) Boot n) c k
-acted-calm o Scan n c k = calm-as (meantOf (c .setup) Scan n) c k
-acted-calm o Temp n c k = calm-as (meantOf (c .setup) Temp n) c k
-acted-calm o (Count w) n c k = calm-as (meantOf (c .setup) (Count w) n) c k
-acted-calm o (Sense v) n c k = calm-as (meantOf (c .setup) (Sense v) n) c k
-acted-calm o Pin n c k = calm-as (meantOf (c .setup) Pin n) c k
-acted-calm o (Load l) n c k = calm-as (meantOf (c .setup) (Load l) n) c k
-acted-calm o Xready n c k = calm-as (meantOf (c .setup) Xready n) c k
-acted-calm o (OnBus b) n c k = calm-as (meantOf (c .setup) (OnBus b) n) c k
-acted-calm o (Level l) n c k = calm-as (meantOf (c .setup) (Level l) n) c k
-acted-calm o (Ticks v w) n c k = calm-as (meantOf (c .setup) (Ticks v w) n) c k
-acted-calm o (Soak v w) n c k = calm-as (meantOf (c .setup) (Soak v w) n) c k
-acted-calm o (Wires w) n c k = wires-calm o (hasRow (c .setup .part) w) (withCells w (c .setup)) c k
+pub skipped : (x : Read) → OneOf (1 ∷ 2 ∷ []) (tagOf read-type x) → Skipped x
+skipped (Record e next) k = absurd (⊎-elim (λ h. omega arith) (λ h. omega arith) k)
+skipped (Refused n next) k = tt
+skipped Cut k = tt
 
-turned-calm : (o : Bool) (chip : Chip) (rest : List ℕ) (x : Read) → Calmed chip → Calmed (turned o chip rest x .chip)
-turned-calm o chip rest (Record e n) k = acted-calm o e (countsBeside rest (Record e n)) chip k
-turned-calm o chip rest (Refused j n) k = k
-turned-calm o chip rest Cut k = k
-
-turn-calm : (o : Bool) (chip : Chip) (rest : List ℕ) → Calmed chip → Calmed (turnOf o chip rest .chip)
-unfolding turnOf
-turn-calm o chip rest k = turned-calm o chip rest (readOf (chip .setup .part) rest) k
-
--- what stands at the loop's head: the entries done, and those that are still to come
-pub record Going (s old out : List ℕ) (o : Bool) (chip : Chip) (at n : ℕ) : Type 0 where
+-- what stands at the loop's head, of a run from c₀: the entries done, and those that are still to come
+pub record Going (o₀ : Bool) (c₀ : Chip) (s old out : List ℕ) (o : Bool) (chip : Chip) (at n : ℕ) : Type 0 where
   pub done : List Entry
   pub made : Made done old out n
-  pub whole : entries s ≡ done ++ runs (length s - n) o chip (drop at s)
-  pub ends : lastChip s ≡ stands (length s - n) o chip (drop at s)
-  pub slow : 4 * n ≤ at
+  pub whole : entriesFrom o₀ c₀ s ≡ done ++ runs (length s - n) o chip (drop at s)
+  pub ends : chipFrom o₀ c₀ s ≡ stands (length s - n) o chip (drop at s)
+  pub opens : freshFrom o₀ c₀ s ≡ stays (length s - n) o chip (drop at s)
+  pub slow : at < length s → 4 * n ≤ at
   pub inside : at ≤ length s
   pub calm : Calmed chip
 
-pub going-none : (s old : List ℕ) → Going s old old false none 0 0
-unfolding entries lastChip
-going-none s old =
+pub going-none : (o : Bool) (c : Chip) (s old : List ℕ) → Calmed c → Going o c s old old o c 0 0
+unfolding entriesFrom chipFrom freshFrom
+going-none o c s old k =
     let z : length s ≡ length s - 0 = omega arith in
-    record { done = []; made = made-none old; whole = ap (λ (k : ℕ). runs k false none s) z; ends = ap (λ (k : ℕ). stands k false none s) z; slow = omega arith; inside = omega arith; calm = ship-calm (none .setup) }
+    record {
+      done = [];
+      made = made-none old;
+      whole = ap (λ (k : ℕ). runs k o c s) z;
+      ends = ap (λ (k : ℕ). stands k o c s) z;
+      opens = ap (λ (k : ℕ). stays k o c s) z;
+      slow = λ h. omega arith;
+      inside = omega arith;
+      calm = k;
+    }
 
-module _ (s old out : List ℕ) (o : Bool) (chip : Chip) (at n : ℕ) (g : Going s old out o chip at n) where
-  pub going-end : length s ≤ at → Ran s old chip out
+module _ (o₀ : Bool) (c₀ : Chip) (s old out : List ℕ) (o : Bool) (chip : Chip) (at n : ℕ) (g : Going o₀ c₀ s old out o chip at n) where
+  pub going-end : length s ≤ at → Ran o₀ c₀ s old (record { chip = chip; fresh = o }) out
   going-end h =
       let e : drop at s ≡ [] = drop-of-length-le s h in
-      ran (g .done) (g .whole ∙ rw (e, runs-nil (length s - n) o chip, append-nil) refl) (sym (g .ends ∙ rw (e, stands-nil (length s - n) o chip) refl)) (g .made)
+      record {
+        chip = sym (g .ends ∙ rw (e, stands-nil (length s - n) o chip) refl);
+        fresh = sym (g .opens ∙ rw (e, stays-nil (length s - n) o chip) refl);
+        wrote = g .made .wrote ∙ ap (entered old) (sym (g .whole ∙ rw (e, runs-nil (length s - n) o chip, append-nil) refl));
+      }
 
   -- a turn t, and the buffer new after its entry was noted
   module _ (h : at < length s) (t : Turn) (q : t ≡ turnOf o chip (take (length s - at) (drop at s))) (new : List ℕ) (w : new ≡ noted out n (t .entry)) where
     turn-is : t ≡ turnOf o chip (drop at s)
     turn-is = q ∙ ap (turnOf o chip) (rest-is s at)
 
-    step : entries s ≡ g .done ++ (t .entry ∷ cond (t .last) [] (runs (length s - (n + 1)) (t .fresh) (t .chip) (drop (at + t .next) s)))
-    step =
-        let l : 4 * n ≤ at = g .slow in
-        let f : length s - n ≡ suc (length s - (n + 1)) = omega arith in
-        g .whole ∙ ap (λ (m : List Entry). g .done ++ m)
-        (ap (λ (k : ℕ). runs k o chip (drop at s)) f
-        ∙ runs-cons (length s - (n + 1)) o chip (drop at s) (simp length-drop (omega arith))
-        ∙ rw (← turn-is, drop-drop) refl)
+    fuel : length s - n ≡ suc (length s - (n + 1))
+    fuel = omega (arith, g .slow h)
 
-    step-ends : lastChip s ≡ cond (t .last) (t .chip) (stands (length s - (n + 1)) (t .fresh) (t .chip) (drop (at + t .next) s))
+    left : 0 < length (drop at s)
+    left = simp length-drop (omega arith)
+
+    step : entriesFrom o₀ c₀ s ≡ g .done ++ (t .entry ∷ cond (t .last) [] (runs (length s - (n + 1)) (t .fresh) (t .chip) (drop (at + t .next) s)))
+    step =
+        g .whole ∙ ap (λ (m : List Entry). g .done ++ m)
+        (ap (λ (k : ℕ). runs k o chip (drop at s)) fuel ∙ runs-cons (length s - (n + 1)) o chip (drop at s) left ∙ rw (← turn-is, drop-drop) refl)
+
+    step-ends : chipFrom o₀ c₀ s ≡ cond (t .last) (t .chip) (stands (length s - (n + 1)) (t .fresh) (t .chip) (drop (at + t .next) s))
     step-ends =
-        let l : 4 * n ≤ at = g .slow in
-        let f : length s - n ≡ suc (length s - (n + 1)) = omega arith in
-        g .ends ∙ ap (λ (k : ℕ). stands k o chip (drop at s)) f
-        ∙ stands-cons (length s - (n + 1)) o chip (drop at s) (simp length-drop (omega arith))
-        ∙ rw (← turn-is, drop-drop) refl
+        g .ends ∙ ap (λ (k : ℕ). stands k o chip (drop at s)) fuel ∙ stands-cons (length s - (n + 1)) o chip (drop at s) left ∙ rw (← turn-is, drop-drop) refl
+
+    step-opens : freshFrom o₀ c₀ s ≡ cond (t .last) (t .fresh) (stays (length s - (n + 1)) (t .fresh) (t .chip) (drop (at + t .next) s))
+    step-opens =
+        g .opens ∙ ap (λ (k : ℕ). stays k o chip (drop at s)) fuel ∙ stays-cons (length s - (n + 1)) o chip (drop at s) left ∙ rw (← turn-is, drop-drop) refl
 
     made-new : Made (g .done ++ (t .entry ∷ [])) old new (n + 1)
     made-new = rw w (made-next (g .done) old out n (t .entry) (g .made))
 
-    pub going-last : t .last ≡ true → Ran s old (t .chip) new
-    going-last e = ran (g .done ++ (t .entry ∷ [])) (step ∙ rw e refl) (sym (step-ends ∙ rw e refl)) made-new
+    calm-new : Calmed (t .chip)
+    calm-new = subst (λ (t : Turn). Calmed (t .chip)) (sym turn-is) (turn-calm o chip (drop at s) (g .calm))
+
+    -- the last: the run ends with the bytes
+    pub going-stop : t .last ≡ true → Going o₀ c₀ s old new (t .fresh) (t .chip) (length s) (n + 1)
+    going-stop e =
+        let d : drop (length s) s ≡ [] = drop-of-length-le s {i = length s} (omega arith) in
+        record {
+          done = g .done ++ (t .entry ∷ []);
+          made = made-new;
+          whole = step ∙ rw (e, d, runs-nil (length s - (n + 1)) (t .fresh) (t .chip), append-nil) refl;
+          ends = step-ends ∙ rw (e, d, stands-nil (length s - (n + 1)) (t .fresh) (t .chip)) refl;
+          opens = step-opens ∙ rw (e, d, stays-nil (length s - (n + 1)) (t .fresh) (t .chip)) refl;
+          slow = λ z. omega (arith, z);
+          inside = omega arith;
+          calm = calm-new;
+        }
 
     pub going-place : t .last ≡ false → (4 ≤ t .next) × (at + t .next ≤ length s)
     going-place e =
@@ -217,19 +246,70 @@ module _ (s old out : List ℕ) (o : Bool) (chip : Chip) (at n : ℕ) (g : Going
         let d : length (drop at s) ≡ length s - at = length-drop at s in
         (p .0, omega arith)
 
-    pub going-more : t .last ≡ false → Going s old new (t .fresh) (t .chip) (at + t .next) (n + 1)
+    pub going-more : t .last ≡ false → Going o₀ c₀ s old new (t .fresh) (t .chip) (at + t .next) (n + 1)
     going-more e =
-        let l : 4 * n ≤ at = g .slow in
         let p : (4 ≤ t .next) × (at + t .next ≤ length s) = going-place e in
         record {
           done = g .done ++ (t .entry ∷ []);
           made = made-new;
           whole = step ∙ rw (e, append-assoc) refl;
           ends = step-ends ∙ rw e refl;
-          slow = omega arith;
+          opens = step-opens ∙ rw e refl;
+          slow = λ z. omega (arith, g .slow h, p .0);
           inside = p .1;
-          calm = subst (λ (t : Turn). Calmed (t .chip)) (sym turn-is) (turn-calm o chip (drop at s) (g .calm));
+          calm = calm-new;
         }
+
+  -- a record that is not done, and the buffer after its number was noted
+  module _ (h : at < length s) (new : List ℕ) where
+    abbrev here : List ℕ
+    here = take (length s - at) (drop at s)
+
+    room : length here ≡ length s - at
+    room = ap length (rest-is s at) ∙ length-drop at s
+
+    abbrev refused : ℕ → ℕ → Bool → Turn
+    refused k next b = turn (numbered k chip) o next b
+
+    refused-is : (k next : ℕ) (b : Bool) → Refused k next ≡ readOf (chip .setup .part) here → eqb (chip .setup .part) 0 ≡ b → refused k next b ≡ turnOf o chip here
+    unfolding turnOf
+    refused-is k next b q e = ap (refused k next) (sym e) ∙ ap (turned o chip here) q
+
+    refused-goes : (k next : ℕ) → Refused k next ≡ readOf (chip .setup .part) here → new ≡ noted out n (entryOf (numbered k chip)) → (b : Bool) → eqb (chip .setup .part) 0 ≡ b
+        → Going o₀ c₀ s old new o chip (at + cond b (length here) next) (n + 1)
+    refused-goes k next q w true e =
+        subst (λ (a : ℕ). Going o₀ c₀ s old new o chip a (n + 1)) (omega (arith, room)) (going-stop h (refused k next true) (refused-is k next true q e) new w refl)
+    refused-goes k next q w false e = going-more h (refused k next false) (refused-is k next false q e) new w refl
+
+    cut-is : Cut ≡ readOf (chip .setup .part) here → turn (numbered 9 chip) o 0 true ≡ turnOf o chip here
+    unfolding turnOf
+    cut-is q = ap (turned o chip here) q
+
+    pub going-skip : (x : Read) → x ≡ readOf (chip .setup .part) here → Skipped x → new ≡ noted out n (entryOf (numbered (numberOf x) chip))
+        → Going o₀ c₀ s old new o chip (at + passed (chip .setup .part) (length here) x) (n + 1)
+    going-skip (Record e next) q k w = absurd k
+    going-skip (Refused number next) q k w = refused-goes number next q w (eqb (chip .setup .part) 0) refl
+    going-skip Cut q k w =
+        subst (λ (a : ℕ). Going o₀ c₀ s old new o chip a (n + 1)) (omega (arith, room)) (going-stop h (turn (numbered 9 chip) o 0 true) (cut-is q) new w refl)
+
+    -- it goes on, and stays within the bytes
+    pub passes : (x : Read) → x ≡ readOf (chip .setup .part) here → Skipped x → (0 < passed (chip .setup .part) (length here) x) × (at + passed (chip .setup .part) (length here) x ≤ length s)
+    passes (Record e next) q k = absurd k
+    passes (Refused number next) q k =
+        let p : Placed (length here) (Refused number next) = subst (Placed (length here)) (sym q) (placed (chip .setup .part) here) in
+        by (eqb (chip .setup .part) 0) p
+      where
+        by : (b : Bool) → (4 ≤ next) × (next ≤ length here) → (0 < cond b (length here) next) × (at + cond b (length here) next ≤ length s)
+        by true p = (omega (arith, room), omega (arith, room))
+        by false p = (omega (arith, p), omega (arith, room, p))
+    passes Cut q k = (omega (arith, room), omega (arith, room))
+
+-- a run from the chip d, which is none
+pub none-calm : (d : Chip) → d ≡ none → Calmed d
+none-calm d e = subst Calmed (sym e) (ship-calm (none .setup))
+
+pub from-none : {s old new : List ℕ} {left : Left} (d : Chip) → d ≡ none → Ran false d s old left new → Ran false none s old left new
+from-none {s} {old} {new} {left} d e r = subst (λ (d : Chip). Ran false d s old left new) e r
 
 -- the C call: the count by framing, and a run that is lent room enough
 pub played-short : (s old : List ℕ) (n : ℕ) → n ≡ length (entries s) → length old / 5 < n → Played s old (negsuc 4) old
@@ -237,7 +317,9 @@ played-short s old n c h =
     let t : leb (5 * length (entries s)) (length old) ≡ false = lt-leb (5 * length (entries s)) (length old) (omega arith) in
     record { answer = simp t; contents = simp t }
 
-pub played-all : (s old : List ℕ) (n : ℕ) (c : Chip) (new : List ℕ) → n ≡ length (entries s) → n ≤ length old / 5 → length old < 2 ^ 63 → Ran s old c new → Played s old (toZ w64 n) new
-played-all s old n c new e h b r =
+pub played-all : (s old : List ℕ) (n : ℕ) (left : Left) (new : List ℕ) → n ≡ length (entries s) → n ≤ length old / 5 → length old < 2 ^ 63 → Ran false none s old left new
+    → Played s old (toZ w64 n) new
+unfolding entries entriesFrom
+played-all s old n left new e h b r =
     let t : leb (5 * length (entries s)) (length old) ≡ true = le-leb (5 * length (entries s)) (length old) (omega arith) in
-    record { answer = simp t (toZ-pos w64 (omega arith) ∙ ap pos e); contents = simp t (r .wrote t) }
+    record { answer = simp t (toZ-pos w64 (omega arith) ∙ ap pos e); contents = simp t (r .wrote ∙ entered-all old (entries s) (omega arith)) }

@@ -17,12 +17,7 @@ use Rattle.events.specs.declared.Event.the-variants.{Setup, Por, Boot, Scan, Te
 use Rattle.events.specs.Event.{Event as Happening, Boot as Booted, Scan as Scanned, Sense as Ticked, OnBus as Signalled, Level as Leveled, Meant, means, ticks, unfit, fits, inRange, eventOf, meantOf, countsFit, countsWanted}
 use Rattle.events.proofs.Event.{the-type as event-type}
 use Rattle.records.specs.declared.Read.the-variants.{Record}
-use Rattle.records.specs.declared.Framed.the-variants.{Header, Short}
-use Rattle.records.specs.declared.Payload.{Payload}
-use Rattle.records.specs.declared.Payload.the-variants.{Whole, Unfit}
-use Rattle.records.specs.Frame.{headerOf}
-use Rattle.records.specs.FramingLaws.{framed-reads, short-reads}
-use Rattle.records.specs.Record.{payloadOf, asRead, readOf, countsBeside}
+use Rattle.records.specs.Record.{readOf, countsBeside}
 use Rattle.events.specs.Setup.{inputs}
 use lib.ListN.{take, drop}
 use lib.IntN.{ℤ}
@@ -258,26 +253,11 @@ wires-fresh n c e h q p = p ∙ ap (λ (w : Wiring). wiredAs w c) (sym q ∙ h) 
 pub entry-is : {e : Entry} {a : Answer} {f : Face} (s : Stepped) → e ≡ entryWith a f → a ≡ answerOf s → f ≡ faceOf (s .chip) → e ≡ entryOf s
 entry-is {e} {a} {f} s h p q = h ∙ ap (λ (a : Answer). entryWith a f) p ∙ ap (entryWith (answerOf s)) q
 
--- ── turns, by the header and the payload ──
-pub short-turn : (o : Bool) (c : Chip) (rest : List ℕ) → headerOf rest ≡ Short → turn (numbered 9 c) o 0 true ≡ turnOf o c rest
+-- a record that was read and done
+pub done-turn : (o : Bool) (c : Chip) (rest : List ℕ) (e : Event) (next : ℕ) (s : Stepped) → readOf (c .setup .part) rest ≡ Record e next
+    → s ≡ acted o e (countsBeside rest (Record e next)) c → turn s (staysFresh o c s) next false ≡ turnOf o c rest
 unfolding turnOf
-short-turn o c rest h = sym (ap (turned o c rest) (short-reads (c .setup .part) rest h))
-
-module _ (o : Bool) (c : Chip) (rest : List ℕ) (kind next : ℕ) (h : headerOf rest ≡ Header kind next) (p : Payload) (q : p ≡ payloadOf kind (c .setup .part) (take (next - 4) (drop 4 rest))) where
-  read-as : asRead next p ≡ readOf (c .setup .part) rest
-  read-as = ap (asRead next) q ∙ sym (framed-reads rest kind next h (c .setup .part))
-
-  pub unfit-turn : (k : ℕ) → p ≡ Unfit k → turn (numbered k c) o next (eqb (c .setup .part) 0) ≡ turnOf o c rest
-  unfolding turnOf
-  unfit-turn k w = ap (turned o c rest) (ap (asRead next) (sym w) ∙ read-as)
-
-  pub found : (e : Event) → p ≡ Whole e → readOf (c .setup .part) rest ≡ Record e next
-  found e w = sym read-as ∙ ap (asRead next) w
-
-  -- a record that was read and done
-  pub done-turn : (e : Event) (s : Stepped) → p ≡ Whole e → s ≡ acted o e (countsBeside rest (Record e next)) c → turn s (staysFresh o c s) next false ≡ turnOf o c rest
-  unfolding turnOf
-  done-turn e s w d = ap (λ (s : Stepped). turn s (staysFresh o c s) next false) d ∙ ap (turned o c rest) (ap (asRead next) (sym w) ∙ read-as)
+done-turn o c rest e next s q d = ap (λ (s : Stepped). turn s (staysFresh o c s) next false) d ∙ sym (ap (turned o c rest) q)
 
 -- after what is often done no wiring record is taken
 pub closes : (o : Bool) (c : Chip) (r : List ℕ) (e e′ : Event) (next : ℕ) (s : Stepped) → readOf (c .setup .part) r ≡ Record e next → e ≡ e′ → often e′ ≡ true → s .number ≡ 0 → false ≡ staysFresh o c s

@@ -7,7 +7,7 @@ use Prim.Native.Nat.{ℕ, zero, suc, _+_, _-_, _≤_}
 use native.Mathlib.Omega.{arith}
 use lib.Dec.{eqb, ltb}
 use lib.ListN.{length, take, drop}
-use borrow.Author.Tests.{ne-eqb, ltb-false}
+use borrow.Author.Tests.{eq-eqb, ne-eqb, ltb-false, eqb-true, eqb-false}
 use Rattle.events.specs.declared.Setup.{Setup as SetupValues}
 use Rattle.events.specs.declared.Counts.{Counts}
 use Rattle.events.specs.declared.Event.{Event}
@@ -24,8 +24,8 @@ use Rattle.records.specs.Record.{setupGood, payloadOf, asRead, readOf, countsBe
 use Rattle.records.specs.SoundLaws.{IsSetup, first-setup}
 use Rattle.chip.specs.declared.Chip.{Chip}
 use Rattle.chip.specs.Chip.{inShip}
-use Rattle.stream.specs.Stream.{Turn, none, acted, staysFresh, turned, turnOf, runs, entries}
-use Rattle.stream.specs.Frames.{frames, framesAfter, framesOf}
+use Rattle.stream.specs.Stream.{Turn, none, bornOf, acted, staysFresh, turned, turnOf, runs, entries, entriesFrom}
+use Rattle.stream.specs.Frames.{frames, framesAfter, framesOf, framesFrom}
 use Rattle.stream.specs.StandingLaws.{acted-keeps, good-part}
 
 -- ── the frame of what was read ──
@@ -98,19 +98,19 @@ frames-are (suc f) o c (b ∷ s) p =
 part-stands : (v : SetupValues) → setupGood v ≡ true → v .part ≢ 0
 part-stands v h z = omega (arith, good-part v h .0, z)
 
-first-frames : (b : ℕ) (s : List ℕ) (x : Read) → readOf 0 (b ∷ s) ≡ x
-    → length (turned false none (b ∷ s) x .entry ∷ cond (turned false none (b ∷ s) x .last) []
-    (runs (length s) (turned false none (b ∷ s) x .fresh) (turned false none (b ∷ s) x .chip)
-    (drop (turned false none (b ∷ s) x .next) (b ∷ s)))) ≡ framesAfter (b ∷ s) x
+first-frames : (o : Bool) (c : Chip) (b : ℕ) (s : List ℕ) → c .setup .part ≡ 0 → (x : Read) → readOf 0 (b ∷ s) ≡ x
+    → length (turned o c (b ∷ s) x .entry ∷ cond (turned o c (b ∷ s) x .last) []
+    (runs (length s) (turned o c (b ∷ s) x .fresh) (turned o c (b ∷ s) x .chip) (drop (turned o c (b ∷ s) x .next) (b ∷ s))))
+    ≡ framesAfter (b ∷ s) x
 unfolding acted
-first-frames b s (Record e next) q =
+first-frames o c b s p (Record e next) q =
     let n : length s ≡ length (b ∷ s) - 1 = omega arith in
     by e (first-setup (b ∷ s) e next q) ∙ ap (λ (k : ℕ). suc (frames k (drop next (b ∷ s)))) n
   where
     by : (e : Event) → IsSetup e
-        → suc (length (runs (length s) true (acted false e (countsBeside (b ∷ s) (Record e next)) none .chip) (drop next (b ∷ s))))
-        ≡ suc (frames (length s) (drop next (b ∷ s)))
-    by (Setup v) g = ap suc (frames-are (length s) true (inShip v) (drop next (b ∷ s)) (part-stands v g))
+        → suc (length (runs (length s) (staysFresh o c (acted o e (countsBeside (b ∷ s) (Record e next)) c))
+        (acted o e (countsBeside (b ∷ s) (Record e next)) c .chip) (drop next (b ∷ s)))) ≡ suc (frames (length s) (drop next (b ∷ s)))
+    by (Setup v) g = ap suc (frames-are (length s) (staysFresh o c (bornOf v)) (inShip v) (drop next (b ∷ s)) (part-stands v g))
     by Por g = absurd g
     by Boot g = absurd g
     by Scan g = absurd g
@@ -125,11 +125,29 @@ first-frames b s (Record e next) q =
     by (Ticks v n) g = absurd g
     by (Soak v n) g = absurd g
     by (Wires n) g = absurd g
-first-frames b s (Refused k next) q = refl
-first-frames b s Cut q = refl
+first-frames o c b s p (Refused k next) q =
+    ap (λ (t : Bool). suc (length (cond t [] (runs (length s) o c (drop next (b ∷ s)))))) (eq-eqb (c .setup .part) 0 p)
+first-frames o c b s p Cut q = refl
+
+frames-first : (o : Bool) (c : Chip) (s : List ℕ) → c .setup .part ≡ 0 → length (runs (length s) o c s) ≡ framesOf s
+unfolding framesOf turnOf
+frames-first o c [] p = refl
+frames-first o c (b ∷ s) p =
+    ap (λ (x : Read). length (turned o c (b ∷ s) x .entry ∷ cond (turned o c (b ∷ s) x .last) []
+    (runs (length s) (turned o c (b ∷ s) x .fresh) (turned o c (b ∷ s) x .chip) (drop (turned o c (b ∷ s) x .next) (b ∷ s)))))
+    (ap (λ (n : ℕ). readOf n (b ∷ s)) p)
+    ∙ first-frames o c b s p (readOf 0 (b ∷ s)) refl
 
 -- THE COUNT: how many entries there are, from the framing and the first record alone
 pub entries-count : (s : List ℕ) → length (entries s) ≡ framesOf s
-unfolding entries framesOf turnOf
-entries-count [] = refl
-entries-count (b ∷ s) = first-frames b s (readOf 0 (b ∷ s)) refl
+unfolding entries
+entries-count s = frames-first false none s refl
+
+-- .. of a run from any chip, by its part alone
+pub entries-from-count : (o : Bool) (c : Chip) (s : List ℕ) → length (entriesFrom o c s) ≡ framesFrom (c .setup .part) s
+unfolding entriesFrom framesFrom
+entries-from-count o c s = by (eqb (c .setup .part) 0) refl
+  where
+    by : (t : Bool) → eqb (c .setup .part) 0 ≡ t → length (runs (length s) o c s) ≡ cond t (framesOf s) (frames (length s) s)
+    by true e = frames-first o c s (eqb-true (c .setup .part) 0 e)
+    by false e = frames-are (length s) o c s (eqb-false (c .setup .part) 0 e)

@@ -1,4 +1,4 @@
--- Document 01, "Values on the way out": forecasting gets one reading of doubles. Assumes nothing.
+-- CHIP P8: forecasting's one reading of doubles. Assumes nothing.
 use mathlib.Core.Path.{_≡_}
 use mathlib.Core.Bool.{Bool, true, false, cond, _&&_, not}
 use mathlib.Core.List.{List, [], _∷_}

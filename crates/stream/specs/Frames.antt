@@ -24,3 +24,7 @@ framesAfter s Cut = 1
 unfoldable pub framesOf : List ℕ → ℕ
 framesOf [] = 0
 framesOf (b ∷ s) = framesAfter (b ∷ s) (readOf 0 (b ∷ s))
+
+-- at the part that stands, 0 where none does
+unfoldable pub framesFrom : ℕ → List ℕ → ℕ
+framesFrom part s = cond (eqb part 0) (framesOf s) (frames (length s) s)

@@ -4,6 +4,8 @@ pub mod Frames
 pub mod CountedLaws
 pub mod Forecast
 pub mod AskedLaws
+pub mod CalmLaws
 pub mod PrefixLaws
+pub mod Pieces
 pub mod StandingLaws
 pub mod SameLaws

@@ -19,7 +19,7 @@ use Rattle.records.specs.Record.{payloadOf, asRead, readOf, countsIn, countsBes
 use Rattle.records.specs.ReadingLaws.{Placed, placed}
 use Rattle.chip.specs.declared.Chip.{Chip}
 use Rattle.stream.specs.declared.Entry.{Entry}
-use Rattle.stream.specs.Stream.{Turn, none, acted, staysFresh, turn, turned, turnOf, runs, stands, entries}
+use Rattle.stream.specs.Stream.{Turn, none, acted, staysFresh, turn, turned, turnOf, runs, stands, stays, entries}
 
 suc-add : (m n : ℕ) → suc m + n ≡ suc (m + n)
 suc-add m n = omega arith
@@ -77,7 +77,7 @@ last-whole o c p (Record e next) l = tt
 last-whole o c p (Refused k next) l = tt
 last-whole o c p Cut l = let z : _≡_ {A = ℕ} 0 1 = cc in absurd (omega arith)
 
-same-turn : (o : Bool) (c : Chip) (p s : List ℕ) → turnOf o c p .last ≡ false → turnOf o c (p ++ s) ≡ turnOf o c p
+pub same-turn : (o : Bool) (c : Chip) (p s : List ℕ) → turnOf o c p .last ≡ false → turnOf o c (p ++ s) ≡ turnOf o c p
 unfolding turnOf
 same-turn o c p s l =
     let part : ℕ = c .setup .part in
@@ -177,14 +177,6 @@ pub data Whole-records : Bool → Chip → List ℕ → Type 0 where
 abbrev pub many : {o : Bool} {c : Chip} {p : List ℕ} → Whole-records o c p → ℕ
 many (none-left o c) = 0
 many (one-more o c b p l w) = suc (many w)
-
--- whether a wiring record may follow them
-abbrev pub stays : ℕ → Bool → Chip → List ℕ → Bool
-stays zero o c s = o
-stays (suc f) o c [] = o
-stays (suc f) o c (b ∷ s) =
-    cond (turnOf o c (b ∷ s) .last) (turnOf o c (b ∷ s) .fresh)
-    (stays f (turnOf o c (b ∷ s) .fresh) (turnOf o c (b ∷ s) .chip) (drop (turnOf o c (b ∷ s) .next) (b ∷ s)))
 
 -- THE PREFIX: the entries of whole records and what follows them are the entries of the records, then those of what follows on the chip
 -- that they leave

@@ -1,4 +1,4 @@
--- Document 01, "What every call owes": any two answers that a promise for C allows are the same, and so is what they leave in what was
+-- CHIP O2: any two answers that a promise for C allows are the same, and so is what they leave in what was
 -- lent. Assumes nothing.
 use mathlib.Core.Path.{_≡_, sym, ap, _∙_}
 use mathlib.Core.Bool.{Bool, true, false}

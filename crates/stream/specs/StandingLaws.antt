@@ -94,7 +94,7 @@ setup-turned o c r p (Record e next) q = acted-keeps o c r e next p q
 setup-turned o c r p (Refused k next) q = refl
 setup-turned o c r p Cut q = refl
 
-setup-turn : (o : Bool) (c : Chip) (r : List ℕ) → c .setup .part ≢ 0 → withCells 0 (turnOf o c r .chip .setup) ≡ withCells 0 (c .setup)
+pub setup-turn : (o : Bool) (c : Chip) (r : List ℕ) → c .setup .part ≢ 0 → withCells 0 (turnOf o c r .chip .setup) ≡ withCells 0 (c .setup)
 unfolding turnOf
 setup-turn o c r p = setup-turned o c r p (readOf (c .setup .part) r) refl
 

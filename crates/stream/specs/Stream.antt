@@ -1,10 +1,10 @@
--- Document 01, "Values on the way out" and "Numbers given back": a whole stream, and the five bytes that each record gives. Assumes
+-- CHIP P1 to P7: a whole stream, and the five bytes that each record gives. Assumes
 -- nothing.
 use mathlib.Core.Path.{_≡_}
-use Prim.Native.Nat.{ℕ, zero, suc, _+_, _-_, _*_}
+use Prim.Native.Nat.{ℕ, zero, suc, _+_, _-_, _*_, _/_}
 use mathlib.Core.List.{List, [], _∷_, _++_}
 use mathlib.Core.Bool.{Bool, true, false, cond, not, _&&_, _||_}
-use lib.ListN.{length, drop}
+use lib.ListN.{length, take, drop}
 use lib.Seq.{sets}
 use lib.Dec.{eqb, leb}
 use lib.IntN.{ℤ, pos, negsuc}
@@ -29,6 +29,7 @@ use Rattle.chip.specs.Outward.{pinsOf}
 use Rattle.stream.specs.declared.Entry.{Entry}
 use Rattle.stream.specs.declared.Answer.{Answer}
 use Rattle.stream.specs.declared.Face.{Face}
+use Rattle.stream.specs.declared.Left.{Left}
 
 -- no chip yet: part 0, and with it SYS_STAT and pins 0
 abbrev pub none : Chip
@@ -60,7 +61,7 @@ entryOf s = entryWith (answerOf s) (faceOf (s .chip))
 abbrev pub bornOf : SetupValues → Stepped
 bornOf v = numbered 0 (inShip v)
 
--- request M-107: a wiring record makes the chip anew, with its cells; it is taken straight after SETUP, and elsewhere it is 2
+-- a wiring record makes the chip anew, with its cells, where it is taken (CHIP W1)
 abbrev pub wiredAs : Wiring → Chip → Stepped
 wiredAs (With u) c = bornOf u
 wiredAs NoRow c = numbered (wiredNumber NoRow) c
@@ -129,6 +130,25 @@ stands (suc f) o c (b ∷ s) =
     cond (turnOf o c (b ∷ s) .last) (turnOf o c (b ∷ s) .chip)
     (stands f (turnOf o c (b ∷ s) .fresh) (turnOf o c (b ∷ s) .chip) (drop (turnOf o c (b ∷ s) .next) (b ∷ s)))
 
+-- whether a wiring record may follow
+abbrev pub stays : ℕ → Bool → Chip → List ℕ → Bool
+stays zero o c s = o
+stays (suc f) o c [] = o
+stays (suc f) o c (b ∷ s) =
+    cond (turnOf o c (b ∷ s) .last) (turnOf o c (b ∷ s) .fresh)
+    (stays f (turnOf o c (b ∷ s) .fresh) (turnOf o c (b ∷ s) .chip) (drop (turnOf o c (b ∷ s) .next) (b ∷ s)))
+
+-- from any chip, and what is left then
+unfoldable pub entriesFrom : Bool → Chip → List ℕ → List Entry
+entriesFrom o c s = runs (length s) o c s
+
+unfoldable pub chipFrom : Bool → Chip → List ℕ → Chip
+chipFrom o c s = stands (length s) o c s
+
+unfoldable pub freshFrom : Bool → Chip → List ℕ → Bool
+freshFrom o c s = stays (length s) o c s
+
+-- from none
 unfoldable pub entries : List ℕ → List Entry
 entries s = runs (length s) false none s
 
@@ -146,11 +166,21 @@ bytesOf (e ∷ es) = entryBytes e ++ bytesOf es
 abbrev pub noted : List ℕ → ℕ → Entry → List ℕ
 noted out n e = cond (leb (5 * n + 5) (length out)) (sets out (5 * n) (entryBytes e)) out
 
--- a run that is lent a buffer: the chip at the end, and the entries where all of them fit
-pub record Ran (s old : List ℕ) (c : Chip) (new : List ℕ) : Type 0 where
-  pub chip : c ≡ lastChip s
-  pub same : length new ≡ length old
-  pub wrote : leb (5 * length (entries s)) (length old) ≡ true → new ≡ bytesOf (entries s) ++ drop (5 * length (entries s)) old
+-- entries written from a buffer's start on, as many as fit
+abbrev pub entered : List ℕ → List Entry → List ℕ
+entered old es = bytesOf (take (length old / 5) es) ++ drop (5 * length (take (length old / 5) es)) old
+
+-- how far a record leads that is not done: past it, or to the end of the bytes where the stream ends with it
+abbrev pub passed : ℕ → ℕ → Read → ℕ
+passed part left (Record e next) = next
+passed part left (Refused k next) = cond (eqb part 0) left next
+passed part left Cut = left
+
+-- a run from any chip that is lent a buffer: what is left, and the entries that fit
+pub record Ran (o : Bool) (c : Chip) (s old : List ℕ) (left : Left) (new : List ℕ) : Type 0 where
+  pub chip : left .chip ≡ chipFrom o c s
+  pub fresh : left .fresh ≡ freshFrom o c s
+  pub wrote : new ≡ entered old (entriesFrom o c s)
 
 -- the answer of the C call: the count of entries, or −5 where the buffer is too short for all of them, which then keeps every byte
 pub record Played (s old : List ℕ) (r : ℤ) (new : List ℕ) : Type 0 where

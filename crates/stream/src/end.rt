@@ -1,7 +1,8 @@
 // The chip that a stream leaves.
 ghost use mathlib.Core.Path.{_≡_};
 ghost use Rattle.stream.specs.Stream.{lastChip};
-use crate::run;
+use crate::no_chip;
+use crate::run_from;
 use chip::Chip;
 
 // Plays a whole stream; where no chip stands, part 0 is given.
@@ -9,5 +10,6 @@ pub fn last_chip(stream: &[u8]) -> Chip
     ensures { λ r. ⌜ r ≡ lastChip (now (stream .entry)) ⌝ }
 {
     let mut room = [0u8; 5];
-    run(stream, &mut room[..0])
+    let left = run_from(no_chip(), false, stream, &mut room[..0]);
+    left.chip
 }

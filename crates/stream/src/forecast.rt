@@ -3,7 +3,7 @@ ghost use mathlib.Core.Path.{_≡_};
 ghost use Rattle.values.specs.Values.{numberSaid};
 ghost use Rattle.chip.specs.Outward.{saidForecast};
 ghost use Rattle.stream.specs.Forecast.{Read4};
-use crate::run;
+use crate::last_chip;
 use chip::ForecastAnswer;
 
 // The number of a reading, 0 where it is given.
@@ -23,8 +23,7 @@ fn refusal_of(answer: ForecastAnswer) -> u8
 pub extern "C" fn toralinge_reading(stream: &[u8], reading: &mut [f64]) -> u8
     ensures { λ r. ⌜ Read4 (now (stream .entry)) (now (reading .entry)) r (now (reading .exit)) ⌝ }
 {
-    let mut room = [0u8; 5];
-    let chip = run(stream, &mut room[..0]);
+    let chip = last_chip(stream);
     let setup = chip.setup;
     if setup.part == 0 {
         return records::first_number(stream);

@@ -2,9 +2,9 @@
 ghost use mathlib.Core.Path.{_≡_};
 ghost use Prim.Native.Nat.{_+_, _*_, _<_, _^_};
 ghost use lib.ListN.{length, take};
-ghost use Rattle.records.specs.Record.{readOf, countsBeside};
+ghost use Rattle.records.specs.Record.{readOf, numberOf, countsBeside};
 ghost use Rattle.records.specs.declared.Read.the-variants.{Record};
-ghost use Rattle.stream.specs.Stream.{none, faceOf, answerOf, unanswered as unansweredSpec, answerHeard, entryWith, bornOf, wires, acted, noted, Ran, Played};
+ghost use Rattle.stream.specs.Stream.{none, faceOf, answerOf, unanswered as unansweredSpec, answerHeard, entryWith, bornOf, wires, acted, noted, passed as passedSpec, Ran, Played};
 ghost use mathlib.Core.Bool.{true, false, _&&_};
 ghost use Rattle.registers.specs.State.{withOutsideLevel};
 ghost use Rattle.registers.specs.Judging.{pulledByLevel};
@@ -12,17 +12,17 @@ ghost use Rattle.chip.specs.Chip.{numbered as numberedSpec, withNormal, happene
 ghost use Rattle.chip.specs.Calm.{Calmed};
 ghost use Rattle.events.specs.Event.{Temp};
 ghost use Rattle.events.specs.Setup.{groups};
-ghost use Rattle.stream.specs.Frames.{framesOf};
+ghost use Rattle.stream.specs.Frames.{frames, framesOf, framesFrom};
 ghost use Rattle.stream.specs.Often.{often, workOf, registersMoved as registersMovedSpec};
 use bus::Store;
 use chip::Chip;
 use chip::Heard;
 use chip::Stepped;
+use constants::number;
 use events::BusEvent;
 use events::Event;
 use events::Setup;
-use records::Framed;
-use records::Payload;
+use records::Read;
 use registers::Registers;
 use wiring::Wiring;
 
@@ -44,6 +44,12 @@ pub struct Entry {
 pub struct Face {
     pub stat: u8,
     pub pins: u8,
+}
+
+// What records leave: the chip, and whether a wiring record is still taken.
+pub struct Left {
+    pub chip: Chip,
+    pub fresh: bool,
 }
 
 // What a record is answered: its number, and for an OUT or IN that is done the flag and the byte.
@@ -132,16 +138,49 @@ fn entry_of(answer: Answer, face: Face) -> Entry
     }
 }
 
+// Each case by itself: the compiler then goes from a record's kind straight to its arm in the loop.
 fn work_of(normal: bool, event: Event) -> Work
     ensures { λ r. ⌜ r ≡ workOf normal event ⌝ }
 {
-    if !normal {
-        return Work::Other;
-    }
     match event {
-        Event::Scan => Work::Scans,
-        Event::Sense(value) => Work::Ticks(value),
-        Event::OnBus(bus) => Work::Hears(bus),
+        Event::Scan => { if normal { Work::Scans } else { Work::Other } }
+        Event::Sense(value) => {
+            if normal {
+                Work::Ticks(value)
+            } else {
+                Work::Other
+            }
+        }
+        Event::OnBus(bus) => match bus {
+            BusEvent::Start => {
+                if normal {
+                    Work::Hears(BusEvent::Start)
+                } else {
+                    Work::Other
+                }
+            }
+            BusEvent::Out(byte) => {
+                if normal {
+                    Work::Hears(BusEvent::Out(byte))
+                } else {
+                    Work::Other
+                }
+            }
+            BusEvent::In(nack) => {
+                if normal {
+                    Work::Hears(BusEvent::In(nack))
+                } else {
+                    Work::Other
+                }
+            }
+            BusEvent::Stop => {
+                if normal {
+                    Work::Hears(BusEvent::Stop)
+                } else {
+                    Work::Other
+                }
+            }
+        },
         Event::Setup(_)
         | Event::Por
         | Event::Boot
@@ -307,46 +346,41 @@ fn note(out: &mut [u8], n: usize, e: Entry)
     }
 }
 
-// The chip at the stream's end. The entries are written where all of them fit. The chip is changed in its place, and shown anew where that may differ.
-fn run(s: &[u8], out: &mut [u8]) -> Chip
-    ensures { λ r. ⌜ Ran (now (s .entry)) (now (out .entry)) r (now (out .exit)) ⌝ }
+// Plays records on a chip, whichever stands. `fresh`: only SETUP and refused records came since it was made, so that a wiring record is taken. Entries are written
+// where they fit. The chip is changed in its place, and shown anew where that may differ.
+// Two loops, because the compiler then keeps one way back for the records that are done: a refused one goes back to the outer.
+pub fn run_from(mut chip: Chip, mut fresh: bool, s: &[u8], out: &mut [u8]) -> Left
+    requires { ⌜ Calmed chip ⌝ }
+    ensures { λ r. ⌜ Ran fresh chip (now (s .entry)) (now (out .entry)) r (now (out .exit)) ⌝ }
 {
-    let mut chip = no_chip();
-    let mut fresh = false; // Only SETUP and refused records came so far: a wiring record is taken.
     let mut face = face_of(chip);
     let mut at = 0;
     let mut n = 0;
-    while at < s.len() {
-        let rest = &s[at..];
-        let framed = records::header_of(rest);
-        let Framed::Header { kind, next } = framed else {
-            note(out, n, entry_of(unanswered(9), face));
-            return chip;
-        };
-        let setup = chip.setup;
-        let mut answer = unanswered(0);
-        match records::payload_of(kind, setup.part, &rest[4..next]) {
-            Payload::Unfit(number) => {
-                answer = unanswered(number);
-                if setup.part == 0 {
-                    note(out, n, entry_of(answer, face));
-                    return chip;
-                }
-            }
-            Payload::Whole(event) => match work_of(chip.normal, event) {
+    'stream: while at < s.len() {
+        while at < s.len() {
+            let rest = &s[at..];
+            let setup = chip.setup;
+            let read = records::read_rest(rest, setup.part);
+            let Read::Record { event, next } = read else {
+                note(out, n, entry_of(unanswered(number_of(read)), face));
+                n = n + 1;
+                at = at + passed(read, setup.part, rest.len());
+                continue 'stream;
+            };
+            let open = fresh;
+            fresh = false;
+            let mut answer = unanswered(0);
+            match work_of(chip.normal, event) {
                 Work::Scans => {
                     chip = chip.scanned(counted(setup.part, event, rest, next));
-                    fresh = false;
                     face = face_of(chip);
                 }
                 Work::Ticks(value) => {
                     let judged = chip.sensed(value);
-                    let risen = judged.risen;
                     let runs = judged.runs;
                     chip.runs = runs;
-                    fresh = false;
-                    if risen.scd | risen.ocd {
-                        chip = chip.raised(risen);
+                    if judged.risen.scd | judged.risen.ocd {
+                        chip = chip.raised(judged.risen);
                         face = face_of(chip);
                     }
                 }
@@ -354,31 +388,66 @@ fn run(s: &[u8], out: &mut [u8]) -> Chip
                     let heard = chip.heard(signal);
                     let bus = heard.bus;
                     chip.bus = bus;
-                    fresh = false;
                     answer = answer_heard(heard);
                     let store = heard.store;
-                    match store {
-                        Store::Nothing => {}
-                        Store::At(place, value) => {
-                            chip = chip.wrote(place, value);
-                            face = face_of(chip);
-                        }
+                    if let Store::At(place, value) = store {
+                        chip = chip.wrote(place, value);
+                        face = face_of(chip);
                     }
                 }
                 Work::Other => {
-                    let step = act(chip, fresh, event, rest, next);
-                    fresh = (setup.part == 0) | (fresh & (step.number != 0));
+                    let step = act(chip, open, event, rest, next);
+                    fresh = (setup.part == 0) | (open & (step.number != 0));
                     chip = step.chip;
                     answer = answer_of(step);
                     face = face_of(chip);
                 }
-            },
+            }
+            note(out, n, entry_of(answer, face));
+            n = n + 1;
+            at = at + next;
         }
-        note(out, n, entry_of(answer, face));
-        n = n + 1;
-        at = at + next;
     }
-    chip
+    Left { chip, fresh }
+}
+
+// The number of what was read: 0 for a record.
+fn number_of(read: Read) -> u8
+    ensures { λ r. ⌜ r ≡ numberOf read ⌝ }
+{
+    match read {
+        Read::Record { event: _, next: _ } => number::DONE,
+        Read::Refused { number, next: _ } => number,
+        Read::Cut => number::CUT,
+    }
+}
+
+// How far a record leads that is not done: past it, or through all that is left where the stream ends with it.
+fn passed(read: Read, part: u8, left: usize) -> usize
+    ensures { λ r. ⌜ r ≡ passedSpec part left read ⌝ }
+{
+    match read {
+        Read::Record { event: _, next } => next,
+        Read::Refused { number: _, next } => { if part == 0 { left } else { next } }
+        Read::Cut => left,
+    }
+}
+
+// How many records bytes have, one that is cut short counted too.
+fn frames_in(s: &[u8]) -> usize
+    ensures { λ r. ⌜ r ≡ frames (length (now (s .entry))) (now (s .entry)) ⌝ }
+{
+    let mut at = 0;
+    let mut n = 0;
+    while at < s.len() {
+        let size = records::frame(&s[at..]);
+        n = n + 1;
+        if size == 0 {
+            return n;
+        }
+        at = at + size;
+    }
+    n
 }
 
 // How many entries a stream has, by its framing and its first record alone.
@@ -391,17 +460,17 @@ pub fn count(s: &[u8]) -> usize
     if records::first_number(s) != 0 {
         return 1;
     }
-    let mut at = records::frame(s);
-    let mut n = 1;
-    while at < s.len() {
-        let size = records::frame(&s[at..]);
-        n = n + 1;
-        if size == 0 {
-            return n;
-        }
-        at = at + size;
+    frames_in(s)
+}
+
+// .. at the part that stands: 0 where none does yet.
+pub fn count_from(part: u8, s: &[u8]) -> usize
+    ensures { λ r. ⌜ r ≡ framesFrom part (now (s .entry)) ⌝ }
+{
+    if part == 0 {
+        return count(s);
     }
-    n
+    frames_in(s)
 }
 
 // Plays a whole stream. Each record gives five bytes: number, bus flag, bus byte, SYS_STAT, pins. Answers how many records there are, or -5 with no byte
@@ -414,6 +483,6 @@ pub extern "C" fn toralinge_play(stream: &[u8], entries: &mut [u8]) -> i64
     if entries.len() / 5 < n {
         return -5;
     }
-    run(stream, entries);
+    run_from(no_chip(), false, stream, entries);
     n as i64
 }

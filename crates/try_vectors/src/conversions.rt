@@ -1,4 +1,4 @@
-// Document 01, "Values on the way out": conversions on grids that have both sides of every line.
+// CHIP V2 to V8: conversions on grids that have both sides of every line.
 ghost use Rattle.try_vectors.specs.Number.{IsNumber};
 use libc::STDOUT_FILENO;
 use values::CellVoltage;

@@ -1,4 +1,4 @@
--- Document 01, "Values on the way out", the reading for forecasting: least, greatest and total cell µV, and CC. Assumes nothing.
+-- CHIP V10, the reading: least, greatest and total cell µV, and CC. Assumes nothing.
 use Prim.Native.Nat.{ℕ}
 use mathlib.Core.Bool.{cond}
 use mathlib.Core.List.{List, [], _∷_, map}

@@ -1,4 +1,4 @@
--- What each answer of the code says, in the paper's numbers and values. Assumes nothing.
+-- What each answer of the code says, as number and value (CHIP O4). Assumes nothing.
 use Prim.Native.Nat.{ℕ}
 use lib.IntN.{ℤ}
 use Rattle.values.specs.Values.{Said, gives, refuses}
@@ -13,7 +13,7 @@ use Rattle.values.specs.declared.DieTemperature.the-variants as Die
 use Rattle.values.specs.declared.ThresholdCode.{ThresholdCode}
 use Rattle.values.specs.declared.ThresholdCode.the-variants as Code
 
--- the paper's number of a refusal
+-- the number of a refusal
 abbrev pub numberOf : Refusal → ℕ
 numberOf GainCode = 1
 numberOf Count = 3

@@ -1,4 +1,4 @@
--- Document 01, "What every call owes": any two answers that a promise allows are the same. What an answer says settles it. Assumes nothing.
+-- CHIP O2: any two answers that a promise allows are the same. What an answer says settles it. Assumes nothing.
 use mathlib.Core.Path.{_≡_, refl, sym, ap, _∙_}
 use mathlib.Core.Bool.{cond}
 use mathlib.Core.List.{List}

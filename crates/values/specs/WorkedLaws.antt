@@ -1,4 +1,4 @@
--- Document 01, "Both sides of each line": the cases marked *, one list with a single claim. Assumes nothing.
+-- CHIP X1 to X5: worked numbers, one list with a single claim. Assumes nothing.
 use Prim.Native.Nat.{ℕ}
 use mathlib.Core.Path.{_≡_, refl}
 use mathlib.Core.List.{List, [], _∷_, map}
@@ -6,7 +6,7 @@ use lib.IntN.{ℤ, pos, negℤ}
 use Rattle.values.specs.Values.{Said, gives, refuses, cellSaid, ccHundredths, ohmsSaid, overSaid, underSaid, thresholdSaid}
 use Rattle.crc8.specs.Crc.{crc}
 
--- what is asked of the paper. A gain is given by its code: 354 is 344 + 10
+-- what is asked. A gain is given by its code: 354 is 344 + 10
 pub data Ask : Type 0 where
   cell : (code offset count : ℕ) → Ask
   cc : (reading : ℕ) → Ask

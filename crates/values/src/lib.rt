@@ -1,4 +1,4 @@
-// Document 01, "Values on the way out": exact conversions of what the chip counts.
+// CHIP V1 to V8: exact conversions of what the chip counts.
 ghost use mathlib.Core.Path.{_≡_};
 ghost use Prim.Native.Nat.{_^_, _+_, _≤_, _<_, min};
 ghost use lib.IntN.{natAbs, pos};
@@ -81,7 +81,7 @@ pub enum ThresholdCode {
     No(Refusal),
 }
 
-// The paper's number of a refusal.
+// The number of a refusal (CHIP O4).
 pub fn number_of(why: Refusal) -> u8
     ensures { λ r. ⌜ r ≡ numberOf why ⌝ }
 {

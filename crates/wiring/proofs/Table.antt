@@ -1,4 +1,4 @@
--- The code's rows are the request's: both ways, one look at each number below 16. Assumes nothing.
+-- The code's rows are those of CHIP W2: both ways, one look at each number below 16. Assumes nothing.
 use mathlib.Core.Path.{_≡_, refl, sym, ap, _∙_}
 use mathlib.Core.Bool.{Bool, true, false, not, cond, _&&_, _||_, true≢false}
 use mathlib.Core.List.{List, [], _∷_}

@@ -1,4 +1,4 @@
--- Request M-108: connected inputs by whether there is a wiring record, a pack's cell that converts, and the bits of what is connected.
+-- CHIP W7: connected inputs by whether there is a wiring record, a pack's cell that converts, and the bits of what is connected.
 -- Assumes nothing.
 use mathlib.Core.Path.{_≡_, refl, sym, ap, ap₂, _∙_}
 use mathlib.Core.Bool.{Bool, true, false, cond, not, true≢false}

@@ -1,4 +1,4 @@
--- Request M-107, THE NUMBERING: for each of the thirteen rows the pack's cells are as many as it says, and they are numbered upward over
+-- THE NUMBERING (CHIP W5): for each of the thirteen rows the pack's cells are as many as it says, and they are numbered upward over
 -- the inputs that are not shorted: no wired input is lost, and none is named twice. Assumes nothing.
 use mathlib.Core.Path.{_≡_, refl, sym, ap, subst, _∙_}
 use mathlib.Core.Bool.{Bool, true, false, not, _&&_, cond, true≢false}

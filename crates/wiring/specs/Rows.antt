@@ -1,5 +1,4 @@
--- Request M-107, "Packs with fewer cells": the shorted inputs by tables 3 to 5 of source document 000, and the numbering of the pack's
--- cells. Assumes nothing.
+-- CHIP W2 to W7: the shorted inputs of a pack, the numbering of its cells, and what is connected. Assumes nothing.
 use mathlib.Core.Bool.{Bool, true, false, not, _&&_, cond}
 use mathlib.Core.List.{List, [], _∷_}
 use Prim.Native.Nat.{ℕ, zero, suc, _+_, _-_, _*_}
@@ -86,7 +85,7 @@ bits such i (suc k) = cond (such i) 1 0 + 2 * bits such (suc i) k
 unfoldable pub wiredBits : Setup → ℕ
 wiredBits u = bits (isWired u) 1 (inputs u)
 
--- ── request M-108: connected. With a wiring record the row alone decides; without one an input whose count is below the floor is not ──
+-- ── connected (CHIP W7) ──
 unfoldable pub connected : Setup → List ℕ → ℕ → Bool
 connected u counts i = cond (hasRow (u .part) (u .cells)) (isWired u i) (leb (u .floor) (getD counts (i - 1) 0))
 
@@ -101,7 +100,7 @@ linkedBits u counts = bits (connected u counts) 1 (inputs u)
 unfoldable pub converts : Setup → ℕ → Bool
 converts u count = cond (hasRow (u .part) (u .cells)) true (leb (u .floor) count)
 
--- ── a wiring record: 13 for a number that the part has no row for ──
+-- ── a wiring record: 13 for a number without a row (CHIP N13) ──
 unfoldable pub wiredWith : Setup → ℕ → Wiring
 wiredWith u n = cond (hasRow (u .part) n) (With (withCells n u)) NoRow
 

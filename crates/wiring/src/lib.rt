@@ -1,4 +1,4 @@
-// Request M-107: which inputs the cells of a pack are wired to, by tables 3 to 5 of source document 000.
+// CHIP W1 to W8: which inputs the cells of a pack are wired to, and which are connected.
 ghost use mathlib.Core.Path.{_≡_};
 ghost use Rattle.wiring.specs.Rows.{hasRow, bits, wiredBits, wiredWith, wiredInputs, packCells, inputOf, linkedInputs, linkedBits, converts as convertsSpec};
 ghost use Rattle.wiring.specs.Linked.{aboveFloor};
@@ -138,7 +138,7 @@ fn above(floor: u16, cells: [u16; 15], inputs: u8) -> u16
     mask
 }
 
-// Request M-108: the connected inputs, of what each input holds, input 1 the lowest bit.
+// The connected inputs (CHIP W7), of what each input holds, input 1 the lowest bit.
 pub fn linked(setup: Setup, cells: [u16; 15]) -> u16
     ensures { λ r. ⌜ r ≡ linkedBits setup cells ⌝ }
 {

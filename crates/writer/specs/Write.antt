@@ -1,4 +1,4 @@
--- Document 01, "Events and their records": writing, with the numbers 1, 2, 3 and 5. Assumes nothing.
+-- CHIP R9 to R11: writing, with the numbers 1, 2, 3, 13 and 5. Assumes nothing.
 use mathlib.Core.Path.{_≡_}
 use Prim.Native.Nat.{ℕ, _-_, _/_, _%_}
 use mathlib.Core.List.{List, [], _∷_, _++_}
@@ -21,7 +21,7 @@ use Rattle.records.specs.Record.{setupGood, standing}
 use Rattle.writer.specs.declared.Wrote.{Wrote}
 use Rattle.writer.specs.declared.Wrote.the-variants.{Done, Refused}
 
--- ── all numbers little-endian ──
+-- ── low byte first (CHIP R1) ──
 abbrev pub bytes16 : ℕ → List ℕ
 bytes16 n = n % 256 ∷ n / 256 ∷ []
 
@@ -37,7 +37,7 @@ abbrev pub wordBytes : List ℕ → List ℕ
 wordBytes [] = []
 wordBytes (x ∷ xs) = x % 256 ∷ x / 256 ∷ wordBytes xs
 
--- ── a record: payload length (2 bytes), kind (2 bytes), payload ──
+-- ── a record: the payload's length, its kind, the payload (CHIP R1) ──
 abbrev pub recordOf : ℕ → List ℕ → List ℕ
 recordOf kind b = length b % 256 ∷ length b / 256 ∷ kind % 256 ∷ kind / 256 ∷ b
 
@@ -94,7 +94,7 @@ payloadFor (Wires n) k = n ∷ []
 unfoldable pub recordFor : Event → Counts → List ℕ
 recordFor e k = recordOf (kindFor e) (payloadFor e k)
 
--- ── refusals: 1 (part not 1 to 3), 2 (counts not fitting it), 1, 3 or 13 ──
+-- ── refusals: 1, 2, then 1, 3 or 13 (CHIP R9) ──
 -- the part that counts: SETUP's own for SETUP
 abbrev pub partFor : Event → ℕ → ℕ
 partFor (Setup v) part = v .part
@@ -113,7 +113,7 @@ partFor (Ticks v n) part = part
 partFor (Soak v n) part = part
 partFor (Wires n) part = part
 
--- 1 for a value of SETUP out of range, 13 for a number of cells that the part has no row for, 3 for another
+-- the number of a value out of range
 unfoldable pub valueRefusal : Event → Counts → ℕ → ℕ
 valueRefusal (Setup v) k part = cond (setupGood v) 0 1
 valueRefusal Por k part = 0
@@ -138,7 +138,7 @@ refusalFor e k part =
     (cond (countsFit (countsWanted (standing part) e) k) (valueRefusal e k part) 2)
     1
 
--- ── then 5, where the buffer is too short; no other byte than the record's is written ──
+-- ── then 5; no other byte than the record's is written ──
 -- bytes written at the start of a buffer
 abbrev pub writtenOf : List ℕ → List ℕ → List ℕ
 writtenOf bytes old = bytes ++ drop (length bytes) old
@@ -152,7 +152,7 @@ pub record Puts (number : ℕ) (bytes old : List ℕ) (r : Wrote) (new : List �
   pub answer : r ≡ cond (eqb number 0) (cond (leb (length bytes) (length old)) (Done (length bytes)) (Refused 5)) (Refused number)
   pub contents : new ≡ cond (eqb number 0) (cond (leb (length bytes) (length old)) (writtenOf bytes old) old) old
 
--- the paper's number of each answer
+-- the number of each answer (CHIP O4)
 abbrev pub numberOf : Wrote → ℕ
 numberOf (Done n) = 0
 numberOf (Refused k) = k

@@ -53,7 +53,7 @@ returns c =
     playing-last (start p .args .s .now) (start p .args .out .now) (l .out) (l .fresh) (l .chip) (l .at) (l .n) (l .inv) (turned p .before .before .before .loop-test .taken) (turned p .take-turn .result) (turned p .take-turn .ensures) (p .put .last .0) (p .put .ensures) (c .if1 .taken)
 
 add-n : tie.Need-add-n Inv-loop μ-loop
-add-n c = let p = c .before .before .before .before in omega (arith, start p .good, head p .loop .inv .going .slow, head p .loop .inv .going .inside)
+add-n c = let p = c .before .before .before .before in omega (arith, start p .good, head p .loop .inv .going .slow (turned p .before .before .before .loop-test .taken), head p .loop .inv .going .inside)
 
 add-at : tie.Need-add-at Inv-loop μ-loop
 add-at c =

@@ -9,23 +9,23 @@ use Rattle.stream.proofs.forecast.toralinge_reading.Statement.{statemen
 use Rattle.stream.proofs.forecast.toralinge_reading.Tie as tie
 
 returns : tie.Need-returns
-returns c = let a = c .before .before .before .before .before .before .before .before .before .args in read-none (a .stream .now) (a .reading .now) (c .before .before .before .before .before .run .result) (c .before .before .before .before .before .run .ensures .chip) (c .first-number .result) (c .before .if1 .taken) (c .first-number .ensures)
+returns c = let r = c .before .before .before .before in let a = r .before .before .before .args in read-none (a .stream .now) (a .reading .now) (r .last-chip .result) (r .last-chip .ensures) (c .first-number .result) (c .before .if1 .taken) (c .first-number .ensures)
 
 returns-2 : tie.Need-returns-2
 returns-2 c =
     let k = c .before .before in
-    let r = k .before .before .before .before .before in
-    let a = r .before .before .before .before .args in
-    let f = refused-as (r .run .result) (k .forecast .result) (c .before .match .keys2) (k .forecast .ensures) in
-    read-refused (a .stream .now) (a .reading .now) (r .run .result) (r .run .ensures .chip) (k .before .if1 .left) (c .refusal-of .result) (c .refusal-of .ensures ∙ f .0) (λ z. f .1 (sym (c .refusal-of .ensures) ∙ z))
+    let r = k .before .before .before .before in
+    let a = r .before .before .before .args in
+    let f = refused-as (r .last-chip .result) (k .forecast .result) (c .before .match .keys2) (k .forecast .ensures) in
+    read-refused (a .stream .now) (a .reading .now) (r .last-chip .result) (r .last-chip .ensures) (k .before .if1 .left) (c .refusal-of .result) (c .refusal-of .ensures ∙ f .0) (λ z. f .1 (sym (c .refusal-of .ensures) ∙ z))
 
 returns-3 : tie.Need-returns-3
 returns-3 c =
     let k = c .before .before .before .before in
-    let r = k .before .before .before .before .before in
-    let a = r .before .before .before .before .args in
-    let f = subst (Forecasts (r .run .result)) (c .before .before .answer .given .1) (k .forecast .ensures) in
-    read-short (a .stream .now) (a .reading .now) (r .run .result) (r .run .ensures .chip) (k .before .if1 .left) (f .0) (c .if2 .taken)
+    let r = k .before .before .before .before in
+    let a = r .before .before .before .args in
+    let f = subst (Forecasts (r .last-chip .result)) (c .before .before .answer .given .1) (k .forecast .ensures) in
+    read-short (a .stream .now) (a .reading .now) (r .last-chip .result) (r .last-chip .ensures) (k .before .if1 .left) (f .0) (c .if2 .taken)
 
 slice-write-reading-2 : tie.Need-slice-write-reading-2
 slice-write-reading-2 c = simp length-set (omega arith)
@@ -36,17 +36,15 @@ slice-write-reading-3 c = simp length-set (omega arith)
 returns-4 : tie.Need-returns-4
 returns-4 c =
     let k = c .before .before .before .before in
-    let r = k .before .before .before .before .before in
-    let a = r .before .before .before .before .args in
-    let f = subst (Forecasts (r .run .result)) (c .before .before .answer .given .1) (k .forecast .ensures) in
-    read-given (a .stream .now) (a .reading .now) (r .run .result) (r .run .ensures .chip) (k .before .if1 .left) (f .0) (c .if2 .left) _ (f .1)
+    let r = k .before .before .before .before in
+    let a = r .before .before .before .args in
+    let f = subst (Forecasts (r .last-chip .result)) (c .before .before .answer .given .1) (k .forecast .ensures) in
+    read-given (a .stream .now) (a .reading .now) (r .last-chip .result) (r .last-chip .ensures) (k .before .if1 .left) (f .0) (c .if2 .left) _ (f .1)
 
 pub toralinge-reading-spec : {M : Type 1} → statement M
 toralinge-reading-spec =
     tie.close
     (tie.spec
-    (λ c. search needs)
-    (λ c. search needs)
     (λ c κs. search needs)
     (λ c κs. search needs)
     returns

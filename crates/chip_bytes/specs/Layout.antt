@@ -1,0 +1,263 @@
+-- The kept chip: a chip, and whether a wiring record is still taken, as 96 bytes and back. Byte 0 is the layout's version, 1; all zero
+-- is no chip yet. Assumes nothing.
+use mathlib.Core.Bool.{Bool, true, false, not, _&&_, _||_, cond}
+use mathlib.Core.List.{List, [], _∷_, _++_}
+use Prim.Native.Nat.{ℕ, zero, suc}
+use lib.Dec.{eqb, leb, ltb}
+use lib.ListN.{length, take, drop, getD, replicate}
+use Rattle.events.specs.declared.Setup.{Setup}
+use Rattle.events.specs.Setup.{setupFits}
+use Rattle.events.specs.Event.{within}
+use Rattle.records.specs.Numbers.{bitOf, words}
+use Rattle.records.specs.Record.{standing}
+use Rattle.writer.specs.Write.{wordBytes}
+use Rattle.wiring.specs.Rows.{hasRow}
+use Rattle.bus.specs.declared.Phase.{Phase}
+use Rattle.bus.specs.declared.Phase.the-variants.{Idle, Address, Pointing, Writing, Checking, Reading, Summing}
+use Rattle.bus.specs.declared.Bus.{Bus}
+use Rattle.settings.specs.declared.Settings.{Settings}
+use Rattle.registers.specs.declared.Status.{Status}
+use Rattle.registers.specs.declared.Shown.{Shown}
+use Rattle.registers.specs.declared.Cellbal.{Cellbal}
+use Rattle.registers.specs.declared.Measured.{Measured}
+use Rattle.registers.specs.declared.Registers.{Registers}
+use Rattle.registers.specs.State.{alert}
+use Rattle.protection.specs.declared.Runs.{Runs}
+use Rattle.chip.specs.declared.Chip.{Chip}
+use Rattle.chip.specs.Chip.{inShip}
+use Rattle.chip_bytes.specs.declared.Kept.{Kept}
+
+-- ── the phase of the bus: a tag and two bytes, 0 where it has none ──
+abbrev pub tagOf : Phase → ℕ
+tagOf Idle = 0
+tagOf Address = 1
+tagOf (Pointing s) = 2
+tagOf (Writing s) = 3
+tagOf (Checking v s) = 4
+tagOf (Reading s k) = 5
+tagOf (Summing k) = 6
+
+abbrev pub firstOf : Phase → ℕ
+firstOf Idle = 0
+firstOf Address = 0
+firstOf (Pointing s) = s
+firstOf (Writing s) = s
+firstOf (Checking v s) = v
+firstOf (Reading s k) = s
+firstOf (Summing k) = bitOf k
+
+abbrev pub secondOf : Phase → ℕ
+secondOf Idle = 0
+secondOf Address = 0
+secondOf (Pointing s) = 0
+secondOf (Writing s) = 0
+secondOf (Checking v s) = s
+secondOf (Reading s k) = bitOf k
+secondOf (Summing k) = 0
+
+unfoldable pub phaseOf : ℕ → ℕ → ℕ → Phase
+phaseOf tag x y =
+    cond (eqb tag 0) Idle
+    (cond (eqb tag 1) Address
+    (cond (eqb tag 2) (Pointing x)
+    (cond (eqb tag 3) (Writing x)
+    (cond (eqb tag 4) (Checking x y)
+    (cond (eqb tag 5) (Reading x (eqb y 1))
+    (Summing (eqb x 1)))))))
+
+-- the bytes that a phase has
+unfoldable pub phaseGood : ℕ → ℕ → ℕ → Bool
+phaseGood tag x y =
+    cond (eqb tag 0) (eqb x 0 && eqb y 0)
+    (cond (eqb tag 1) (eqb x 0 && eqb y 0)
+    (cond (eqb tag 2) (eqb y 0)
+    (cond (eqb tag 3) (eqb y 0)
+    (cond (eqb tag 4) true
+    (cond (eqb tag 5) (leb y 1)
+    (cond (eqb tag 6) (leb x 1 && eqb y 0)
+    false))))))
+
+-- ── n numbers of a list from the i-th on, 0 past its end ──
+abbrev pub listed : List ℕ → ℕ → ℕ → List ℕ
+listed b i zero = []
+listed b i (suc n) = getD b i 0 ∷ listed b (suc i) n
+
+-- ── the bytes: 21 plain ones, 20 switches, 5 zeros, and 25 numbers of 2 bytes, the low one first ──
+unfoldable pub plainOf : Chip → List ℕ
+plainOf c =
+    1
+    ∷ c .setup .part ∷ c .setup .address ∷ c .setup .«gain_code» ∷ c .setup .offset ∷ c .setup .cells
+    ∷ c .bus .line .pointer ∷ c .bus .owed .sum ∷ c .bus .owed .low
+    ∷ tagOf (c .bus .line .phase) ∷ firstOf (c .bus .line .phase) ∷ secondOf (c .bus .line .phase)
+    ∷ c .registers .settings .protect1 ∷ c .registers .settings .protect2 ∷ c .registers .settings .protect3
+    ∷ c .registers .settings .«ov_trip» ∷ c .registers .settings .«uv_trip» ∷ c .registers .settings .«cc_cfg»
+    ∷ c .registers .cellbal .cellbal1 ∷ c .registers .cellbal .cellbal2 ∷ c .registers .cellbal .cellbal3
+    ∷ []
+
+abbrev pub statusSwitches : Status → List ℕ
+statusSwitches t =
+    bitOf (t .«cc_ready») ∷ bitOf (t .xready) ∷ bitOf (t .«ovrd_alert») ∷ bitOf (t .uv) ∷ bitOf (t .ov) ∷ bitOf (t .scd) ∷ bitOf
+    (t .ocd) ∷ []
+
+unfoldable pub switchesOf : Chip → Bool → List ℕ
+switchesOf c fresh =
+    bitOf (c .setup .crc) ∷ bitOf (c .normal) ∷ bitOf fresh
+    ∷ bitOf (c .registers .settings .«adc_en») ∷ bitOf (c .registers .settings .«temp_sel») ∷ bitOf (c .registers .settings .«shut_b»)
+    ∷ bitOf (c .registers .settings .«delay_dis») ∷ bitOf (c .registers .settings .«cc_en»)
+    ∷ statusSwitches (c .registers .shown .status)
+    ++ (bitOf (c .registers .shown .«cc_oneshot») ∷ bitOf (c .registers .shown .«dsg_on») ∷ bitOf (c .registers .shown .«chg_on»)
+    ∷ bitOf (c .registers .«load_level») ∷ bitOf (c .registers .«outside_level»)
+    ∷ [])
+
+unfoldable pub wordsOf : Chip → List ℕ
+wordsOf c =
+    c .setup .floor
+    ∷ c .runs .ov ∷ c .runs .uv ∷ c .runs .scd ∷ c .runs .ocd
+    ∷ c .registers .measured .bat ∷ c .registers .measured .cc
+    ∷ listed (c .registers .measured .ts) 0 3 ++ listed (c .registers .measured .cells) 0 15
+
+unfoldable pub chipBytes : Chip → Bool → List ℕ
+chipBytes c fresh = plainOf c ++ (switchesOf c fresh ++ (replicate 5 0 ++ wordBytes (wordsOf c)))
+
+-- ── and back ──
+abbrev pub switchAt : List ℕ → ℕ → Bool
+switchAt b i = eqb (getD b i 0) 1
+
+abbrev pub wordIn : List ℕ → ℕ → ℕ
+wordIn b i = getD (words (drop 46 b)) i 0
+
+abbrev pub setupFrom : List ℕ → List ℕ → Setup
+setupFrom b ws = record {
+  part = getD b 1 0;
+  crc = switchAt b 21;
+  address = getD b 2 0;
+  «gain_code» = getD b 3 0;
+  offset = getD b 4 0;
+  floor = getD ws 0 0;
+  cells = getD b 5 0;
+}
+
+abbrev pub busAt : List ℕ → Bus
+busAt b = record {
+  line = record { phase = phaseOf (getD b 9 0) (getD b 10 0) (getD b 11 0); pointer = getD b 6 0 };
+  owed = record { sum = getD b 7 0; low = getD b 8 0 };
+}
+
+abbrev pub settingsAt : List ℕ → Settings
+settingsAt b = record {
+  «adc_en» = switchAt b 24;
+  «temp_sel» = switchAt b 25;
+  «shut_b» = switchAt b 26;
+  «delay_dis» = switchAt b 27;
+  «cc_en» = switchAt b 28;
+  protect1 = getD b 12 0;
+  protect2 = getD b 13 0;
+  protect3 = getD b 14 0;
+  «ov_trip» = getD b 15 0;
+  «uv_trip» = getD b 16 0;
+  «cc_cfg» = getD b 17 0;
+}
+
+abbrev pub statusAt : List ℕ → Status
+statusAt b = record {
+  «cc_ready» = switchAt b 29;
+  xready = switchAt b 30;
+  «ovrd_alert» = switchAt b 31;
+  uv = switchAt b 32;
+  ov = switchAt b 33;
+  scd = switchAt b 34;
+  ocd = switchAt b 35;
+}
+
+abbrev pub shownAt : List ℕ → Shown
+shownAt b = record { status = statusAt b; «cc_oneshot» = switchAt b 36; «dsg_on» = switchAt b 37; «chg_on» = switchAt b 38 }
+
+abbrev pub cellbalAt : List ℕ → Cellbal
+cellbalAt b = record { cellbal1 = getD b 18 0; cellbal2 = getD b 19 0; cellbal3 = getD b 20 0 }
+
+abbrev pub measuredFrom : List ℕ → List ℕ → Measured
+measuredFrom b ws = record {
+  cells = listed ws 10 15;
+  bat = getD ws 5 0;
+  ts = listed ws 7 3;
+  cc = getD ws 6 0;
+}
+
+abbrev pub runsFrom : List ℕ → List ℕ → Runs
+runsFrom b ws = record { ov = getD ws 1 0; uv = getD ws 2 0; scd = getD ws 3 0; ocd = getD ws 4 0 }
+
+abbrev pub registersFrom : List ℕ → List ℕ → Registers
+registersFrom b ws = record {
+  settings = settingsAt b;
+  shown = shownAt b;
+  cellbal = cellbalAt b;
+  measured = measuredFrom b ws;
+  «load_level» = switchAt b 39;
+  «outside_level» = switchAt b 40;
+}
+
+abbrev pub chipFrom : List ℕ → List ℕ → Chip
+chipFrom b ws = record {
+  setup = setupFrom b ws;
+  normal = switchAt b 22;
+  bus = busAt b;
+  registers = registersFrom b ws;
+  runs = runsFrom b ws;
+}
+
+abbrev pub setupAt : List ℕ → Setup
+setupAt b = setupFrom b (words (drop 46 b))
+
+abbrev pub measuredAt : List ℕ → Measured
+measuredAt b = measuredFrom b (words (drop 46 b))
+
+abbrev pub runsAt : List ℕ → Runs
+runsAt b = runsFrom b (words (drop 46 b))
+
+abbrev pub registersAt : List ℕ → Registers
+registersAt b = registersFrom b (words (drop 46 b))
+
+unfoldable pub chipAt : List ℕ → Chip
+chipAt b = chipFrom b (words (drop 46 b))
+
+-- ── bytes that are a chip: the layout's version, switches 0 or 1, the phase's bytes, zeros where there is no field ──
+unfoldable pub formed : List ℕ → Bool
+formed b = eqb (getD b 0 0) 1 && within 1 (listed b 21 20) && phaseGood (getD b 9 0) (getD b 10 0) (getD b 11 0) && within 0 (listed b 41 5)
+
+-- ── a chip that could stand: a setup in range, with a row of its part or none, and not the outside level 1 with SYS_STAT 0; a wiring
+-- record is taken by a chip in SHIP that has none ──
+unfoldable pub setupStands : Setup → Bool
+setupStands v =
+    setupFits (v .part) (bitOf (v .crc)) (v .address) (v .«gain_code») (v .floor) && (eqb (v .cells) 0 || hasRow (v .part) (v .cells))
+
+unfoldable pub couldStand : Chip → Bool → Bool
+couldStand c fresh =
+    setupStands (c .setup)
+    && (alert (c .registers .shown .status) || not (c .registers .«outside_level»))
+    && (not fresh || (not (c .normal) && eqb (c .setup .cells) 0))
+
+-- ── what is kept ──
+abbrev pub none : Chip
+none = inShip (standing 0)
+
+abbrev pub keeps : Chip → Bool → Kept
+keeps c fresh = record { good = true; chip = c; fresh = fresh }
+
+abbrev pub noChip : Kept
+noChip = record { good = false; chip = none; fresh = false }
+
+unfoldable pub keptAt : List ℕ → Kept
+keptAt b =
+    cond (within 0 b) (keeps none false)
+    (cond (formed b && couldStand (chipAt b) (switchAt b 23)) (keeps (chipAt b) (switchAt b 23)) noChip)
+
+-- part 0: no chip yet
+unfoldable pub keptBytes : Chip → Bool → List ℕ
+keptBytes c fresh = cond (eqb (c .setup .part) 0) (replicate 96 0) (chipBytes c fresh)
+
+-- the first 96 bytes of a buffer, which has room for them or stays as it was
+abbrev pub keptOf : List ℕ → Kept
+keptOf b = cond (ltb (length b) 96) noChip (keptAt (take 96 b))
+
+abbrev pub keptIn : Chip → Bool → List ℕ → List ℕ
+keptIn c fresh old = cond (ltb (length old) 96) old (keptBytes c fresh ++ drop 96 old)

@@ -1,0 +1,5 @@
+pub mod Layout
+pub mod ListedLaws
+pub mod PhaseLaws
+pub mod TripLaws
+pub mod OneLaws

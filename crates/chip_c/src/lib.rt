@@ -1,0 +1,154 @@
+// A chip that is kept as bytes, for C: what its registers hold, its voltages, and what forecasting, workshops and chargers ask.
+ghost use mathlib.Core.Path.{_≡_};
+ghost use Rattle.chip_bytes.specs.Layout.{keptOf};
+ghost use Rattle.values.specs.Values.{numberSaid};
+ghost use Rattle.chip.specs.Outward.{saidForecast};
+ghost use Rattle.stream.specs.Convert.{Gives};
+ghost use Rattle.smart_battery.specs.Reply.{Replied};
+ghost use Rattle.services_stream.specs.Asks.{Bled};
+ghost use Rattle.chip_c.specs.Asked.{byteOr, standsNumber, registerSaid, voltageOf, proposalOf, wordOf, ReadOf};
+use chip::CellAnswer;
+use chip::ForecastAnswer;
+use chip_bytes::Kept;
+use services_chip::Proposal;
+
+// 0 where a chip stands, 26 for bytes that are no chip, 9 for no chip yet.
+fn stands(kept: Kept) -> u8
+    ensures { λ r. ⌜ r ≡ standsNumber kept ⌝ }
+{
+    if kept.good {
+        let chip = kept.chip;
+        let setup = chip.setup;
+        if setup.part == 0 {
+            return 9;
+        }
+        return 0;
+    }
+    26
+}
+
+// What an address holds, the bus undisturbed. Answers 0, or with nothing written 26 for bytes that are no chip, 9 for no chip yet, 3 for an address above 0xFF.
+#[no_mangle]
+pub extern "C" fn toralinge_register(chip: &[u8], address: u32, value: &mut u8) -> u8
+    ensures { λ r. ⌜ Gives (registerSaid (keptOf (now (chip .entry))) address) (now (value .entry)) r (now (value .exit)) ⌝ }
+{
+    let kept = chip_bytes::decode(chip);
+    let number = stands(kept);
+    if number != 0 {
+        return number;
+    }
+    if 255 < address {
+        return 3;
+    }
+    let chip = kept.chip;
+    let registers = chip.registers;
+    let byte = registers.read(chip.setup, address as u8);
+    *value = byte;
+    0
+}
+
+// A number of 32 bits as a byte; 0, which is no cell, where it is too large.
+fn byte_or_none(n: u32) -> u8
+    ensures { λ r. ⌜ r ≡ byteOr n ⌝ }
+{
+    if n < 256 { n as u8 } else { 0 }
+}
+
+// The voltage of a cell of the pack. Answers 0, or with nothing written 26, 9, 4 asleep, 6 no such cell, 10 not connected.
+#[no_mangle]
+pub extern "C" fn toralinge_voltage(chip: &[u8], cell: u32, microvolts: &mut i64) -> u8
+    ensures { λ r. ⌜ Gives (voltageOf (keptOf (now (chip .entry))) cell) (now (microvolts .entry)) r (now (microvolts .exit)) ⌝ }
+{
+    let kept = chip_bytes::decode(chip);
+    let number = stands(kept);
+    if number != 0 {
+        return number;
+    }
+    let chip = kept.chip;
+    let answer = chip.voltage(byte_or_none(cell));
+    match answer {
+        CellAnswer::Is(v) => {
+            let z = v.0;
+            *microvolts = z;
+            0
+        }
+        CellAnswer::Asleep => 4,
+        CellAnswer::NoCell => 6,
+        CellAnswer::NotConnected => 10,
+    }
+}
+
+// A proposal of the three CELLBAL bytes. Answers 0, or with nothing written 26, 9, 3 for the margin, 4 asleep, 10 where no cell is connected, 5 for room below 3.
+#[no_mangle]
+pub extern "C" fn toralinge_bleed_of(chip: &[u8], margin: u32, cellbal: &mut [u8]) -> u8
+    ensures { λ r. ⌜ Bled (proposalOf (keptOf (now (chip .entry))) margin) (now (cellbal .entry)) r (now (cellbal .exit)) ⌝ }
+{
+    let kept = chip_bytes::decode(chip);
+    let number = stands(kept);
+    if number != 0 {
+        return number;
+    }
+    let answer = services_chip::bleeding(kept.chip, margin);
+    match answer {
+        Proposal::No(why) => why,
+        Proposal::Is(choice) => services_stream::put_choice(cellbal, choice),
+    }
+}
+
+// The reply to a Smart Battery command: low byte, high byte and the PEC. Answers 0, or with nothing written 26, 9, 23 another command, 3 for the resistor, 4, 12, 10,
+// 11, 5.
+#[no_mangle]
+pub extern "C" fn toralinge_reply_of(
+    chip: &[u8],
+    command: u32,
+    milliohms: u32,
+    reply: &mut [u8],
+) -> u8
+    ensures { λ r. ⌜ Replied (wordOf (keptOf (now (chip .entry))) command milliohms) command (now (reply .entry)) r (now (reply .exit)) ⌝ }
+{
+    let kept = chip_bytes::decode(chip);
+    let number = stands(kept);
+    if number != 0 {
+        return number;
+    }
+    if 255 < command {
+        return 23;
+    }
+    services_chip::reply(kept.chip, command as u8, milliohms, reply)
+}
+
+// The number of a reading, 0 where it is given.
+fn unread(answer: ForecastAnswer) -> u8
+    ensures { λ r. ⌜ r ≡ numberSaid (saidForecast answer) ⌝ }
+{
+    match answer {
+        ForecastAnswer::Is(_) => 0,
+        ForecastAnswer::Asleep => 4,
+        ForecastAnswer::NotConnected => 10,
+    }
+}
+
+// Forecasting's four doubles. Answers 0, or with nothing written 26, 9, 4 asleep, 10 where no cell is connected, 5 for room below 4.
+#[no_mangle]
+pub extern "C" fn toralinge_reading_of(chip: &[u8], reading: &mut [f64]) -> u8
+    ensures { λ r. ⌜ ReadOf (keptOf (now (chip .entry))) (now (reading .entry)) r (now (reading .exit)) ⌝ }
+{
+    let kept = chip_bytes::decode(chip);
+    let number = stands(kept);
+    if number != 0 {
+        return number;
+    }
+    let chip = kept.chip;
+    let answer = chip.forecast();
+    let ForecastAnswer::Is(given) = answer else {
+        return unread(answer);
+    };
+    if reading.len() < 4 {
+        return 5;
+    }
+    reading[0] = given.least;
+    reading[1] = given.greatest;
+    reading[2] = given.total;
+    reading[3] = given.cc;
+    0
+}

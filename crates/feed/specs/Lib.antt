@@ -1,0 +1,4 @@
+pub mod Fed
+pub mod SizeLaws
+pub mod KeptLaws
+pub mod FedLaws
