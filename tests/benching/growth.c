@@ -1,5 +1,6 @@
 /*
- * growth CALL RECORDS CALLS   plays a stream of so many records CALLS times: `play`, `season` or `plain`
+ * growth CALL RECORDS CALLS   plays a stream of so many records CALLS times: `play`, `season`, `plain`, `feed` (toralinge_feed of
+ *                             the whole) or `each` (toralinge_feed of one record at a time)
  * growth CALL RECORDS clock   milliseconds that one call takes, the best of three
  * Of 20 records 19 are ticks and one is a scan; plain, which looks back at each over all before it, is given ticks alone.
  */
@@ -41,8 +42,25 @@ static void scan(unsigned i)
     bytes(b, sizeof b);
 }
 
+static int64_t fed_each(void)
+{
+    uint8_t chip[TORALINGE_CHIP_SIZE] = {0};
+    int64_t records = 0;
+    for (size_t at = 0, size; at < length; at += size, records++) {
+        size = 4u + stream[at] + 256u * stream[at + 1];
+        if (toralinge_feed(chip, sizeof chip, stream + at, size, entries + 5 * records, 5) != 1)
+            return -1;
+    }
+    return records;
+}
+
 static int64_t call(const char *name)
 {
+    uint8_t chip[TORALINGE_CHIP_SIZE] = {0};
+    if (strcmp(name, "feed") == 0)
+        return toralinge_feed(chip, sizeof chip, stream, length, entries, sizeof entries);
+    if (strcmp(name, "each") == 0)
+        return fed_each();
     if (strcmp(name, "season") == 0)
         return toralinge_season(stream, length, rows, sizeof rows / sizeof rows[0]);
     if (strcmp(name, "plain") == 0)
