@@ -18,7 +18,7 @@ use Rattle.smart_battery.specs.declared.Pack.{Pack}
 use Rattle.smart_battery.specs.Words.{known, wordFor}
 use Rattle.chip.specs.declared.Chip.{Chip}
 use Rattle.chip.specs.Outward.{voltageSaid, Reads, forecastNumber}
-use Rattle.stream.specs.Convert.{Gives}
+use Rattle.values_c.specs.Convert.{Gives}
 use Rattle.stream.specs.Forecast.{Doubles, Contents}
 use Rattle.stream.proofs.Doubles.{four}
 use Rattle.chip_bytes.specs.declared.Kept.{Kept}

@@ -3,7 +3,7 @@ ghost use mathlib.Core.Path.{_≡_};
 ghost use Rattle.chip_bytes.specs.Layout.{keptOf};
 ghost use Rattle.values.specs.Values.{numberSaid};
 ghost use Rattle.chip.specs.Outward.{saidForecast};
-ghost use Rattle.stream.specs.Convert.{Gives};
+ghost use Rattle.values_c.specs.Convert.{Gives};
 ghost use Rattle.smart_battery.specs.Reply.{Replied};
 ghost use Rattle.services_stream.specs.Asks.{Bled};
 ghost use Rattle.chip_c.specs.Asked.{byteOr, standsNumber, registerSaid, voltageOf, proposalOf, wordOf, ReadOf};
