@@ -374,21 +374,21 @@ int64_t toralinge_season(const uint8_t *stream, size_t length, int64_t *rows, si
  * Returns 0 and writes *microvolts, or leaves it alone and returns 1 (gain code above 31), then
  * 3 (count above 16,383).
  */
-uint8_t toralinge_cell_microvolts(uint8_t gain_code, uint8_t offset, uint16_t count, int64_t *microvolts);
+uint8_t toralinge_cell_microvolts(uint32_t gain_code, uint8_t offset, uint32_t count, int64_t *microvolts);
 
 /*
  * Thermistor resistance in ohms: 10,000 x V / (3,300,000 - V) with V = 354 x count, rounded down.
  *
  * Returns 0 and writes *ohms, or leaves it alone and returns 7 (count 9,323 or more).
  */
-uint8_t toralinge_thermistor_ohms(uint16_t count, uint64_t *ohms);
+uint8_t toralinge_thermistor_ohms(uint32_t count, uint64_t *ohms);
 
 /*
  * Die temperature in half thousandths of a degree C (2,000 for each degree): 680,000 - 177 x count.
  *
  * Returns 0 and writes *half_thousandths, or leaves it alone and returns 3 (count above 16,383).
  */
-uint8_t toralinge_die_temperature(uint16_t count, int64_t *half_thousandths);
+uint8_t toralinge_die_temperature(uint32_t count, int64_t *half_thousandths);
 
 /*
  * The OV_TRIP or UV_TRIP code for a wanted threshold in microvolts:
@@ -399,8 +399,8 @@ uint8_t toralinge_die_temperature(uint16_t count, int64_t *half_thousandths);
  * Returns 0 and writes *code, or leaves it alone and returns 1 (gain code above 31), then 8 (full
  * outside the window, however far: wanted may be any number).
  */
-uint8_t toralinge_over_voltage_code(uint8_t gain_code, uint8_t offset, int64_t wanted, uint8_t *code);
-uint8_t toralinge_under_voltage_code(uint8_t gain_code, uint8_t offset, int64_t wanted, uint8_t *code);
+uint8_t toralinge_over_voltage_code(uint32_t gain_code, uint8_t offset, int64_t wanted, uint8_t *code);
+uint8_t toralinge_under_voltage_code(uint32_t gain_code, uint8_t offset, int64_t wanted, uint8_t *code);
 
 /* The coulomb counter in hundredths of a microvolt: reading, as a signed 16-bit number, x 844. */
 int64_t toralinge_cc_hundredths(uint16_t reading);

@@ -2,7 +2,7 @@
 ghost use mathlib.Core.Path.{_≡_};
 ghost use Rattle.values.specs.Values.{cellSaid, ohmsSaid, dieSaid, overSaid, underSaid, ccHundredths};
 ghost use Rattle.crc8.specs.Crc.{crcOn};
-ghost use Rattle.values_c.specs.Convert.{Gives};
+ghost use Rattle.values_c.specs.Convert.{clipped, Gives};
 use values::CellVoltage;
 use values::DieTemperature;
 use values::Microvolts;
@@ -10,16 +10,30 @@ use values::RawCount;
 use values::Resistance;
 use values::ThresholdCode;
 
+// A gain code, or the most that a byte can be, which is none, for every larger number.
+fn code_of(n: u32) -> u8
+    ensures { λ r. ⌜ r ≡ clipped 255 n ⌝ }
+{
+    if n < 255 { n as u8 } else { 255 }
+}
+
+// A count, or the most that 16 bits can be, which is none, for every larger number.
+fn count_of(n: u32) -> u16
+    ensures { λ r. ⌜ r ≡ clipped 65535 n ⌝ }
+{
+    if n < 65535 { n as u16 } else { 65535 }
+}
+
 #[no_mangle]
 pub extern "C" fn toralinge_cell_microvolts(
-    gain_code: u8,
+    gain_code: u32,
     offset: u8,
-    count: u16,
+    count: u32,
     microvolts: &mut i64,
 ) -> u8
     ensures { λ r. ⌜ Gives (cellSaid «gain_code» offset count) (now (microvolts .entry)) r (now (microvolts .exit)) ⌝ }
 {
-    let answer = values::cell_voltage(gain_code, offset, RawCount(count));
+    let answer = values::cell_voltage(code_of(gain_code), offset, RawCount(count_of(count)));
     match answer {
         CellVoltage::Is(v) => {
             let z = v.0;
@@ -31,10 +45,10 @@ pub extern "C" fn toralinge_cell_microvolts(
 }
 
 #[no_mangle]
-pub extern "C" fn toralinge_thermistor_ohms(count: u16, ohms: &mut u64) -> u8
+pub extern "C" fn toralinge_thermistor_ohms(count: u32, ohms: &mut u64) -> u8
     ensures { λ r. ⌜ Gives (ohmsSaid count) (now (ohms .entry)) r (now (ohms .exit)) ⌝ }
 {
-    let answer = values::thermistor_ohms(RawCount(count));
+    let answer = values::thermistor_ohms(RawCount(count_of(count)));
     match answer {
         Resistance::Is(n) => {
             *ohms = n;
@@ -45,10 +59,10 @@ pub extern "C" fn toralinge_thermistor_ohms(count: u16, ohms: &mut u64) -> u8
 }
 
 #[no_mangle]
-pub extern "C" fn toralinge_die_temperature(count: u16, half_thousandths: &mut i64) -> u8
+pub extern "C" fn toralinge_die_temperature(count: u32, half_thousandths: &mut i64) -> u8
     ensures { λ r. ⌜ Gives (dieSaid count) (now («half_thousandths» .entry)) r (now («half_thousandths» .exit)) ⌝ }
 {
-    let answer = values::die_temperature(RawCount(count));
+    let answer = values::die_temperature(RawCount(count_of(count)));
     match answer {
         DieTemperature::Is(z) => {
             *half_thousandths = z;
@@ -60,14 +74,14 @@ pub extern "C" fn toralinge_die_temperature(count: u16, half_thousandths: &mut i
 
 #[no_mangle]
 pub extern "C" fn toralinge_over_voltage_code(
-    gain_code: u8,
+    gain_code: u32,
     offset: u8,
     wanted: i64,
     code: &mut u8,
 ) -> u8
     ensures { λ r. ⌜ Gives (overSaid «gain_code» offset wanted) (now (code .entry)) r (now (code .exit)) ⌝ }
 {
-    let answer = values::over_voltage_code(gain_code, offset, Microvolts(wanted));
+    let answer = values::over_voltage_code(code_of(gain_code), offset, Microvolts(wanted));
     match answer {
         ThresholdCode::Is(n) => {
             *code = n;
@@ -79,14 +93,14 @@ pub extern "C" fn toralinge_over_voltage_code(
 
 #[no_mangle]
 pub extern "C" fn toralinge_under_voltage_code(
-    gain_code: u8,
+    gain_code: u32,
     offset: u8,
     wanted: i64,
     code: &mut u8,
 ) -> u8
     ensures { λ r. ⌜ Gives (underSaid «gain_code» offset wanted) (now (code .entry)) r (now (code .exit)) ⌝ }
 {
-    let answer = values::under_voltage_code(gain_code, offset, Microvolts(wanted));
+    let answer = values::under_voltage_code(code_of(gain_code), offset, Microvolts(wanted));
     match answer {
         ThresholdCode::Is(n) => {
             *code = n;
