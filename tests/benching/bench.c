@@ -2,6 +2,7 @@
  * bench KIND ENGINE CALLS   plays the stream of a kind of work CALLS times with an engine, `proved` or `byhand`
  * bench KIND same           1 where the two engines' entries differ, else 0 and the count of records
  * bench KIND stack ENGINE   bytes of stack that one call takes
+ * bench KIND clock ENGINE   nanoseconds a record, the best of many calls
  * The streams come from a fixed seed: every run counts the same instructions.
  */
 #define _XOPEN_SOURCE 700
@@ -11,6 +12,7 @@
 #include <stdio.h>
 #include <stdlib.h>
 #include <string.h>
+#include <time.h>
 #include <ucontext.h>
 
 enum { MOST = 1 << 20, ADDRESS = 0x08 };
@@ -212,6 +214,26 @@ static long depth(play *engine)
     return STACK - untouched;
 }
 
+static double now(void)
+{
+    struct timespec t;
+    clock_gettime(CLOCK_MONOTONIC, &t);
+    return (double)t.tv_sec * 1e9 + (double)t.tv_nsec;
+}
+
+static double quickest(play *engine)
+{
+    double best = 0;
+    for (int i = 0; i < 200; i++) {
+        double before = now();
+        int64_t records = engine(stream, length, entries[0], sizeof entries[0]);
+        double each = (now() - before) / (double)records;
+        if (i == 0 || each < best)
+            best = each;
+    }
+    return best;
+}
+
 int main(int argc, char **argv)
 {
     size_t kind = 0;
@@ -226,6 +248,10 @@ int main(int argc, char **argv)
         return 2;
     if (strcmp(argv[2], "stack") == 0) {
         printf("%ld\n", depth(engine_of(argv[3])) - depth(NULL));
+        return 0;
+    }
+    if (strcmp(argv[2], "clock") == 0) {
+        printf("%.1f\n", quickest(engine_of(argv[3])));
         return 0;
     }
     play *engine = engine_of(argv[2]);

@@ -302,6 +302,9 @@ impl Chip {
     }
 
     fn clear_status(&mut self, ones: u8) {
+        if self.planted(Plant::ClearingReturnsCharge) && self.page[0] & ones & OV != 0 {
+            self.page[5] |= CHG_ON;
+        }
         match self.plant {
             Plant::StatusWriteStores => self.page[0] = ones & 0xBF,
             Plant::ClearingAlsoByZeros => self.page[0] = 0,
@@ -445,6 +448,7 @@ impl Chip {
         match (self.plant, bit) {
             (Plant::OvPutsOffDischarge, OV) => off = DSG_ON,
             (Plant::OvLeavesCharge, OV) => off = 0,
+            (Plant::UvPutsOffCharge, UV) => off = CHG_ON | DSG_ON,
             (Plant::UvLeavesDischarge, UV) => off = 0,
             (Plant::OcdLeavesDischarge, OCD) => off = 0,
             (Plant::ScdLeavesDischarge, SCD) => off = 0,
@@ -459,6 +463,7 @@ impl Chip {
     }
 
     pub fn scan(&mut self, counts: &[u16]) {
+        self.load &= !self.planted(Plant::ScanDropsLoad);
         if self.page[4] & ADC_EN == 0 {
             self.silent_scan(counts);
             return;
@@ -567,7 +572,9 @@ impl Chip {
     }
 
     pub fn count(&mut self, value: u16) {
-        if self.page[5] & (CC_EN | CC_ONESHOT) != 0 || self.planted(Plant::CountWithoutEnable) {
+        self.load &= !self.planted(Plant::CountDropsLoad);
+        let enables = if self.planted(Plant::CountIgnoresOneshot) { CC_EN } else { CC_EN | CC_ONESHOT };
+        if self.page[5] & enables != 0 || self.planted(Plant::CountWithoutEnable) {
             self.put_pair(0x32, value);
             self.raise(CC_READY);
             if !self.planted(Plant::OneshotNotDropped) {
@@ -577,6 +584,7 @@ impl Chip {
     }
 
     pub fn pin(&mut self) {
+        self.outside |= self.planted(Plant::PinTakenForLevel);
         let ignored = match self.plant {
             Plant::PinWithStatusUp => 0xFF,
             Plant::PinOverCcReady => CC_READY,
@@ -588,7 +596,7 @@ impl Chip {
     }
 
     pub fn load(&mut self, level: bool) {
-        self.load = level;
+        self.load = level != self.planted(Plant::LoadInverted);
     }
 
     /// The outside level: a second protector holds ALERT up, or lets go.
@@ -620,9 +628,17 @@ impl Chip {
     }
 
     pub fn xready(&mut self) {
+        let kept = match self.plant {
+            Plant::XreadyKeepsBalance => true,
+            Plant::XreadyClearsBalanceOnce => self.page[0] & XREADY != 0,
+            _ => false,
+        };
         self.raise(XREADY);
-        if !self.planted(Plant::XreadyKeepsBalance) {
+        if !kept {
             self.page[1..4].fill(0);
+        }
+        if self.planted(Plant::XreadyResetsSettings) {
+            self.page[6..0x0C].copy_from_slice(&page_after_reset(&self.setup, self.plant)[6..0x0C]);
         }
     }
 

@@ -991,7 +991,11 @@ impl Maker {
         self.drives_on();
         match self.rng.below(4) {
             0 => self.push(PIN, &[]),
-            1 => self.push(XREADY, &[]),
+            1 => {
+                self.push(XREADY, &[]);
+                self.write(0x01, &balance);
+                self.push(XREADY, &[]);
+            }
             2 => {
                 self.push(PIN, &[]);
                 self.push(XREADY, &[]);

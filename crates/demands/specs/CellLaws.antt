@@ -1,4 +1,4 @@
--- Document 01, "Judging": 'some count' is some input of the part, by its place, whichever it is; where each count is stored; and BAT.
+-- CHIP.md, "Judging": 'some count' is some input of the part, by its place, whichever it is; where each count is stored; and BAT.
 -- Assumes nothing.
 use mathlib.Core.Path.{_≡_, refl, sym, ap, _∙_}
 use mathlib.Core.Bool.{Bool, true, false, _&&_, _||_, true≢false}

@@ -1,4 +1,4 @@
--- Document 01, "Events and their records", in its own numbers: a record that is read is of the kind that its header names, hexadecimal; a
+-- CHIP.md, "Events and their records", in its own numbers: a record that is read is of the kind that its header names, hexadecimal; a
 -- payload of another length than its kind has is 2. Assumes nothing.
 use mathlib.Core.Path.{_≡_, refl, sym, ap, subst, _∙_}
 use mathlib.Core.Bool.{Bool, true, false, _&&_, cond}

@@ -33,3 +33,5 @@ pub mod LineLaws
 pub mod RefusalLaws
 pub mod CellLaws
 pub mod KindLaws
+pub mod BytesLaws
+pub mod WriteLaws

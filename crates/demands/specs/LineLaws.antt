@@ -1,4 +1,4 @@
--- Document 01, "Bus": which byte of the host is acknowledged, when the bus goes idle, where the pointer goes, and what a read takes, in
+-- CHIP.md, "Bus": which byte of the host is acknowledged, when the bus goes idle, where the pointer goes, and what a read takes, in
 -- every phase. Assumes nothing.
 use mathlib.Core.Path.{_≡_, refl, sym, ap, _∙_}
 use mathlib.Core.Bool.{Bool, true, false, not, _&&_, _||_, cond}

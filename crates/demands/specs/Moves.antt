@@ -15,7 +15,6 @@ use Rattle.bus.specs.declared.Store.{Store}
 use Rattle.bus.specs.declared.Store.the-variants.{Nothing, At}
 use Rattle.cell_counts.specs.Scan.{total, padded}
 use Rattle.settings.specs.declared.Settings.{Settings}
-use Rattle.settings.specs.Write.{settingsWith}
 use Rattle.registers.specs.declared.Status.{Status}
 use Rattle.registers.specs.declared.Shown.{Shown}
 use Rattle.registers.specs.declared.Cellbal.{Cellbal}
@@ -85,9 +84,22 @@ abbrev pub value : Store → ℕ
 value Nothing = 0
 value (At a v) = v
 
+-- the settings: the bits that each register has; pair (0,1) is kept while (0,0) is held, every other pair leaves (0,0)
 abbrev pub put : Store → Settings → Settings
-put Nothing s = s
-put (At a v) s = settingsWith a v s
+put w s =
+    record {
+      «adc_en» = cond (at 0x04 w) (bit (value w) 16) (s .«adc_en»);
+      «temp_sel» = cond (at 0x04 w) (bit (value w) 8) (s .«temp_sel»);
+      «shut_b» = cond (at 0x04 w) (not (s .«shut_b») && not (bit (value w) 2) && bit (value w) 1) (s .«shut_b»);
+      «delay_dis» = cond (at 0x05 w) (bit (value w) 128) (s .«delay_dis»);
+      «cc_en» = cond (at 0x05 w) (bit (value w) 64) (s .«cc_en»);
+      protect1 = cond (at 0x06 w) (value w / 128 * 128 + value w % 32) (s .protect1);
+      protect2 = cond (at 0x07 w) (value w % 128) (s .protect2);
+      protect3 = cond (at 0x08 w) (value w / 16 * 16) (s .protect3);
+      «ov_trip» = cond (at 0x09 w) (value w) (s .«ov_trip»);
+      «uv_trip» = cond (at 0x0A w) (value w) (s .«uv_trip»);
+      «cc_cfg» = cond (at 0x0B w) (value w % 64) (s .«cc_cfg»);
+    }
 
 -- ── each part after one event in NORMAL ──
 -- CELLBAL: the low five bits of an accepted write, for the inputs that the part has; XREADY clears all

@@ -1,6 +1,6 @@
 -- WHAT MOVES WHAT, proved: all of the registers but SYS_STAT and the drives are what Moves says, after one event and over any events from
 -- power-up. Assumes nothing.
-use mathlib.Core.Path.{_≡_, refl, sym, ap, subst, _∙_}
+use mathlib.Core.Path.{_≡_, refl, sym, ap, ap₂, subst, _∙_}
 use mathlib.Core.Bool.{Bool, true, false, _&&_, _||_, cond}
 use mathlib.Core.List.{List, [], _∷_}
 use Prim.Native.Nat.{ℕ, _+_, _/_, _%_}
@@ -17,6 +17,8 @@ use Rattle.bus.specs.declared.Store.the-variants.{Nothing, At}
 use Rattle.bus.specs.declared.Outed.{Outed}
 use Rattle.bus.specs.Bus.{outed}
 use Rattle.cell_counts.specs.Scan.{total, padded}
+use Rattle.settings.specs.declared.Settings.{Settings}
+use Rattle.settings.specs.Write.{settingsWith}
 use Rattle.registers.specs.declared.Cellbal.{Cellbal}
 use Rattle.registers.specs.declared.Measured.{Measured}
 use Rattle.registers.specs.declared.Registers.{Registers}
@@ -62,6 +64,27 @@ fives-are u a v e b x = by (eqb a 1) (eqb a 2) (eqb a 3) refl refl refl
         three true = refl
         three false = refl
     by false false false i j k = simp (x, i, j, k)
+
+-- a write of the settings, register by register
+puts : (a v : ℕ) (s : Settings) → settingsWith a v s ≡ put (At a v) s
+unfolding settingsWith
+puts a v s =
+    by (eqb a 4) (eqb a 5) (eqb a 6) (eqb a 7) (eqb a 8) (eqb a 9) (eqb a 10) (eqb a 11) refl refl refl refl refl refl refl refl
+  where
+    alike : (k : ℕ) → eqb a k ≡ true → settingsWith k v s ≡ put (At k v) s → settingsWith a v s ≡ put (At a v) s
+    alike k e h = subst (λ n. settingsWith n v s ≡ put (At n v) s) (sym (eqb-true a k e)) h
+
+    by : (b4 b5 b6 b7 b8 b9 bA bB : Bool) → eqb a 4 ≡ b4 → eqb a 5 ≡ b5 → eqb a 6 ≡ b6 → eqb a 7 ≡ b7 → eqb a 8 ≡ b8 → eqb a 9 ≡ b9
+        → eqb a 10 ≡ bA → eqb a 11 ≡ bB → settingsWith a v s ≡ put (At a v) s
+    by true b5 b6 b7 b8 b9 bA bB e4 e5 e6 e7 e8 e9 eA eB = alike 4 e4 refl
+    by false true b6 b7 b8 b9 bA bB e4 e5 e6 e7 e8 e9 eA eB = alike 5 e5 refl
+    by false false true b7 b8 b9 bA bB e4 e5 e6 e7 e8 e9 eA eB = alike 6 e6 refl
+    by false false false true b8 b9 bA bB e4 e5 e6 e7 e8 e9 eA eB = alike 7 e7 refl
+    by false false false false true b9 bA bB e4 e5 e6 e7 e8 e9 eA eB = alike 8 e8 refl
+    by false false false false false true bA bB e4 e5 e6 e7 e8 e9 eA eB = alike 9 e9 refl
+    by false false false false false false true bB e4 e5 e6 e7 e8 e9 eA eB = alike 10 eA refl
+    by false false false false false false false true e4 e5 e6 e7 e8 e9 eA eB = alike 11 eB refl
+    by false false false false false false false false e4 e5 e6 e7 e8 e9 eA eB = simp (e4, e5, e6, e7, e8, e9, eA, eB)
 
 -- what is measured, given that the event is in range
 scan-words : (f t : Bool) (xs : List ℕ) (m : Measured) → f ≡ true → cond t (cellsOf xs m) m
@@ -114,14 +137,14 @@ module _ (c : Chip) where
       accepts : (x y : ℕ) → withShown dark (written (c .setup) x y (c .registers))
           ≡ moved (c .setup) (OnBus (Out b)) (At x y) (c .registers .shown .«cc_oneshot») (c .registers)
       accepts x y =
-          ap (λ (t : Cellbal). record {
-            settings = put (At x y) (c .registers .settings);
+          ap₂ (λ (s : Settings) (t : Cellbal). record {
+            settings = s;
             shown = dark;
             cellbal = t;
             measured = c .registers .measured;
             «load_level» = c .registers .«load_level»;
             «outside_level» = c .registers .«outside_level»;
-          }) (fives-are (c .setup) x y (OnBus (Out b)) (c .registers .cellbal) refl)
+          }) (puts x y (c .registers .settings)) (fives-are (c .setup) x y (OnBus (Out b)) (c .registers .cellbal) refl)
   bus-by (In nack) a = awakes _ _ (c .normal) a refl
 
   abbrev measures : Measured → Registers

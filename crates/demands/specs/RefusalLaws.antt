@@ -1,4 +1,4 @@
--- Document 01, "Numbers given back", of a chip that stands: which number each kind of event gives, asleep and awake, and just which values
+-- CHIP.md, "Numbers given back", of a chip that stands: which number each kind of event gives, asleep and awake, and just which values
 -- are out of range. Assumes nothing.
 use mathlib.Core.Path.{_≡_, refl, sym, ap, _∙_}
 use mathlib.Core.Bool.{Bool, true, false, not, _&&_, _||_, cond}

@@ -1,12 +1,12 @@
 -- What one record adds, by the parts of the code. Assumes nothing.
-use mathlib.Core.Path.{_≡_, refl, sym, ap, _∙_}
+use mathlib.Core.Path.{_≡_, refl, sym, ap, subst, _∙_}
 use mathlib.Core.Bool.{Bool, true, false, _&&_, cond}
 use mathlib.Core.Logic.{⊎-elim}
 use mathlib.Core.List.{List, [], _∷_}
 use Prim.Native.Nat.{ℕ, _-_}
 use native.Mathlib.Omega.{arith}
 use lib.IntN.{ℤ}
-use lib.ListN.{take, drop}
+use lib.ListN.{length, take, drop}
 use types.Run.{OneOf}
 use denote.Enum.Declared.{tagOf}
 use Rattle.events.specs.declared.Counts.{Counts}
@@ -17,7 +17,14 @@ use Rattle.events.specs.Setup.{inputs}
 use Rattle.events.specs.Fault.{Ov, Uv, Scd, Ocd}
 use Rattle.records.specs.declared.Read.{Read}
 use Rattle.records.specs.declared.Read.the-variants.{Record, Refused, Cut}
-use Rattle.records.specs.Record.{readOf, countsIn}
+use Rattle.records.specs.declared.Framed.the-variants.{Header}
+use Rattle.records.specs.declared.Payload.{Payload}
+use Rattle.records.specs.declared.Payload.the-variants.{Whole}
+use Rattle.records.specs.Kind.{SENSE}
+use Rattle.records.specs.Frame.{headerOf}
+use Rattle.records.specs.FramingLaws.{framed-reads}
+use Rattle.records.specs.ReadingLaws.{Placed, placed}
+use Rattle.records.specs.Record.{payloadOf, asRead, readOf, countsIn}
 use Rattle.cell_counts.specs.declared.Looked.{Looked}
 use Rattle.cell_counts.specs.Scan.{lookedAt, someAbove, someBetween}
 use Rattle.settings.specs.declared.Settings.{Settings}
@@ -161,3 +168,21 @@ module _ (r : List ℕ) (w : Walk) (x : Read) (q : x ≡ readOf (w .chip .setup 
 
   pub pass-record : {n : Counts} {v : Walk} (e : Event) (next : ℕ) → x ≡ Record e next → n ≡ countsIn e (take (next - 4) (drop 4 r)) → v ≡ walkedBy e n w → record { walk = v; next = next } ≡ passedOn r w
   pass-record e next h k z = found (Record e next) h (ap (λ (v : Walk). record { walk = v; next = next }) (z ∙ ap (λ (n : Counts). walkedBy e n w) k))
+
+-- ── a tick by its header and its payload, and passed in place ──
+pub tick-read : (part : ℕ) (r : List ℕ) (kind next : ℕ) → headerOf r ≡ Header kind next → kind ≡ SENSE → (p : Payload) → p ≡ payloadOf SENSE part (take (next - 4) (drop 4 r))
+    → (e : Event) → p ≡ Whole e → (v : ℤ) → e ≡ Sense v → readOf part r ≡ Record (Sense v) next
+tick-read part r kind next h k p q e w v s =
+    framed-reads r kind next h part ∙ ap (λ (n : ℕ). asRead next (payloadOf n part (take (next - 4) (drop 4 r)))) k ∙ ap (asRead next) (sym q ∙ w)
+    ∙ ap (λ (e : Event). Record e next) s
+
+abbrev pub tickPassed : Walk → Streaks → ℕ → Passed
+tickPassed w x n = record { walk = record { chip = w .chip; said = x }; next = n }
+
+pub tick-passes : (r : List ℕ) (w : Walk) (v : ℤ) (n : ℕ) (said : Streaks) → readOf (w .chip .setup .part) r ≡ Record (Sense v) n → said ≡ ticksSaid (w .chip) v 1 (w .said)
+    → tickPassed w said n ≡ passedOn r w
+unfolding passedOn walkedBy
+tick-passes r w v n said q h = ap (λ (x : Streaks). tickPassed w x n) h ∙ sym (ap (passed r w) q)
+
+pub tick-far : (part : ℕ) (r : List ℕ) (e : Event) (n : ℕ) → readOf part r ≡ Record e n → n ≡ 0 → ⊥
+tick-far part r e n q z = let p : Placed (length r) (Record e n) = subst (Placed (length r)) q (placed part r) in omega (arith, p .0, z)

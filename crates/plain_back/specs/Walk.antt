@@ -37,6 +37,8 @@ use Rattle.demands.specs.Aside.{withMeant}
 use Rattle.plain_back.specs.declared.Streaks.{Streaks}
 use Rattle.plain_back.specs.declared.Walk.{Walk}
 use Rattle.plain_back.specs.declared.Passed.{Passed}
+use Rattle.plain_back.specs.declared.Tick.{Tick}
+use Rattle.plain_back.specs.declared.Tick.the-variants.{Of, Not}
 use Rattle.plain_back.specs.Said.{streaksOf, noStreaks}
 
 -- ── what one record adds ──
@@ -108,6 +110,11 @@ passed r w Cut = record { walk = w; next = 0 }
 
 unfoldable pub passedOn : List ℕ → Walk → Passed
 passedOn r w = passed r w (readOf (w .chip .setup .part) r)
+
+-- a tick that the rest begins with
+abbrev pub TickIn : ℕ → List ℕ → Tick → Type 0
+TickIn part r (Of v next) = readOf part r ≡ Record (Sense- v) next
+TickIn part r Not = Unit
 
 -- room for one more
 abbrev pub Small : Streaks → Type 0

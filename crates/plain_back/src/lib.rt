@@ -6,12 +6,16 @@ ghost use lib.ListN.{length, take};
 ghost use Rattle.events.specs.Setup.{inputs};
 ghost use Rattle.chip.specs.Core.{coreOf, bare};
 ghost use Rattle.plain_back.specs.Said.{noStreaks, streaksIn, saidBack, backSaid};
-ghost use Rattle.plain_back.specs.Walk.{Small, goesOn, scanSaid, ticksSaid, scannedBy, tickedBy, movedBy, walkedBy, passedOn};
+ghost use Rattle.plain_back.specs.Walk.{Small, goesOn, scanSaid, ticksSaid, scannedBy, tickedBy, movedBy, walkedBy, passedOn, TickIn};
 use bus::Bus;
 use chip::Chip;
+use constants::kind;
 use constants::range;
 use events::Counts;
 use events::Event;
+use events::Setup;
+use records::Framed;
+use records::Payload;
 use records::Read;
 use registers::Registers;
 
@@ -33,6 +37,12 @@ pub enum Back {
 pub struct Walk {
     pub chip: Chip,
     pub said: Streaks,
+}
+
+// The value of a tick and the place after it, or another record.
+pub enum Tick {
+    Of { value: i32, next: usize },
+    Not,
 }
 
 // A record passed, and the place after it; 0 for one that is cut short.
@@ -190,7 +200,43 @@ fn pass(walk: Walk, rest: &[u8]) -> Passed
     }
 }
 
-// The first record makes the chip, and the others are passed one by one.
+// Whether the rest begins with a tick, the record that a walk mostly meets, and with which.
+fn tick_in(setup: Setup, rest: &[u8]) -> Tick
+    ensures { λ r. ⌜ TickIn (setup .part) (now (rest .entry)) r ⌝ }
+{
+    let framed = records::header_of(rest);
+    let Framed::Header { kind, next } = framed else {
+        return Tick::Not;
+    };
+    if kind != kind::SENSE {
+        return Tick::Not;
+    }
+    let payload = records::payload_of(kind::SENSE, setup.part, &rest[4..next]);
+    let Payload::Whole(event) = payload else {
+        return Tick::Not;
+    };
+    let Event::Sense(value) = event else {
+        return Tick::Not;
+    };
+    Tick::Of { value, next }
+}
+
+// It says what one tick does, and moves nothing.
+fn tick_said(chip: Chip, value: i32, said: Streaks) -> Streaks
+    requires { ⌜ Small said ⌝ }
+    ensures { λ r. ⌜ r ≡ ticksSaid chip value 1 said ⌝ }
+{
+    if !chip.normal {
+        return said;
+    }
+    let registers = chip.registers;
+    let s = registers.settings;
+    let scd = go_on(protection::beyond_scd(s, value), 1, said.scd);
+    let ocd = go_on(protection::beyond_ocd(s, value), 1, said.ocd);
+    Streaks { scd, ocd, ..said }
+}
+
+// The first record makes the chip, and the others are passed one by one; ticks by themselves, in place.
 fn walk_over(s: &[u8]) -> Streaks
     requires { ⌜ length (now s) ≤ 65536 ⌝ }
     ensures { λ r. ⌜ r ≡ streaksIn (now (s .entry)) ⌝ }
@@ -207,12 +253,21 @@ fn walk_over(s: &[u8]) -> Streaks
     let mut walk = Walk { chip, said };
     let mut at = next;
     while at < s.len() {
-        let passed = pass(walk, &s[at..]);
-        if passed.next == 0 {
-            return walk.said;
-        }
-        walk = passed.walk;
-        at = at + passed.next;
+        let rest = &s[at..];
+        let stood = walk.chip;
+        let tick = tick_in(stood.setup, rest);
+        let Tick::Of { value, next } = tick else {
+            let passed = pass(walk, rest);
+            if passed.next == 0 {
+                return walk.said;
+            }
+            walk = passed.walk;
+            at = at + passed.next;
+            continue;
+        };
+        let now_said = tick_said(stood, value, walk.said);
+        walk.said = now_said;
+        at = at + next;
     }
     walk.said
 }

@@ -209,7 +209,7 @@ module _ (vs : List ℤ) (l : length vs ≡ 6) (o : natAt vs 4 ≤ 255) where
   address = byteOf (natAt vs 2)
 
   abbrev gain : ℕ
-  «gain_code» = byteOf (natAt vs 3)
+  gain = byteOf (natAt vs 3)
 
   abbrev floor : ℕ
   floor = wordOf (natAt vs 5)

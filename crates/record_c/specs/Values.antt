@@ -1,4 +1,4 @@
--- Document 01, "Events and their records": the values of each kind, as whole numbers, and the event that values mean. Assumes nothing.
+-- CHIP.md, "Events and their records": the values of each kind, as whole numbers, and the event that values mean. Assumes nothing.
 use mathlib.Core.Bool.{Bool, cond, _&&_}
 use mathlib.Core.List.{List, [], _∷_, map}
 use Prim.Native.Nat.{ℕ, _*_, _%_, _^_}

@@ -108,8 +108,7 @@ first-frames o c b s p (Record e next) q =
     by e (first-setup (b ∷ s) e next q) ∙ ap (λ (k : ℕ). suc (frames k (drop next (b ∷ s)))) n
   where
     by : (e : Event) → IsSetup e
-        → suc (length
-        (runs (length s) (staysFresh o c (acted o e (countsBeside (b ∷ s) (Record e next)) c))
+        → suc (length (runs (length s) (staysFresh o c (acted o e (countsBeside (b ∷ s) (Record e next)) c))
         (acted o e (countsBeside (b ∷ s) (Record e next)) c .chip) (drop next (b ∷ s)))) ≡ suc (frames (length s) (drop next (b ∷ s)))
     by (Setup v) g = ap suc (frames-are (length s) (staysFresh o c (bornOf v)) (inShip v) (drop next (b ∷ s)) (part-stands v g))
     by Por g = absurd g
@@ -134,8 +133,7 @@ frames-first : (o : Bool) (c : Chip) (s : List ℕ) → c .setup .part ≡ 0 →
 unfolding framesOf turnOf
 frames-first o c [] p = refl
 frames-first o c (b ∷ s) p =
-    ap (λ (x : Read). length
-    (turned o c (b ∷ s) x .entry ∷ cond (turned o c (b ∷ s) x .last) []
+    ap (λ (x : Read). length (turned o c (b ∷ s) x .entry ∷ cond (turned o c (b ∷ s) x .last) []
     (runs (length s) (turned o c (b ∷ s) x .fresh) (turned o c (b ∷ s) x .chip) (drop (turned o c (b ∷ s) x .next) (b ∷ s)))))
     (ap (λ (n : ℕ). readOf n (b ∷ s)) p)
     ∙ first-frames o c b s p (readOf 0 (b ∷ s)) refl

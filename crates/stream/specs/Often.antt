@@ -1,5 +1,5 @@
 -- What a stream is made of for the most part: scans, ticks and the bus. Assumes nothing.
-use mathlib.Core.Path.{_≡_, refl}
+use mathlib.Core.Path.{_≡_, refl, ap, sym, _∙_}
 use mathlib.Core.Bool.{Bool, true, false, cond, _&&_}
 use Rattle.events.specs.declared.Event.{Event}
 use Rattle.registers.specs.declared.Registers.{Registers}
@@ -78,3 +78,17 @@ sorted true (Level l) = refl
 sorted true (Repeated v n) = refl
 sorted true (Soak v n) = refl
 sorted true (Wires n) = refl
+
+-- .. and the work by the mode and the case
+pub work-normal : (a : Bool) (e f : Event) → a ≡ true → e ≡ f → awakeWork f ≡ workOf a e
+unfolding workOf
+work-normal a e f h q = sym (ap (λ (b : Bool). cond b (awakeWork e) Other) h ∙ ap awakeWork q)
+
+pub work-asleep : (a : Bool) (e : Event) → a ≡ false → Other ≡ workOf a e
+unfolding workOf
+work-asleep a e h = sym (ap (λ (b : Bool). cond b (awakeWork e) Other) h)
+
+pub work-other : (a : Bool) (e : Event) → Other ≡ awakeWork e → Other ≡ workOf a e
+unfolding workOf
+work-other true e h = h
+work-other false e h = refl

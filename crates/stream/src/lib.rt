@@ -18,6 +18,7 @@ use bus::Store;
 use chip::Chip;
 use chip::Heard;
 use chip::Stepped;
+use constants::number;
 use events::BusEvent;
 use events::Event;
 use events::Setup;
@@ -137,16 +138,49 @@ fn entry_of(answer: Answer, face: Face) -> Entry
     }
 }
 
+// Each case by itself: the compiler then goes from a record's kind straight to its arm in the loop.
 fn work_of(normal: bool, event: Event) -> Work
     ensures { λ r. ⌜ r ≡ workOf normal event ⌝ }
 {
-    if !normal {
-        return Work::Other;
-    }
     match event {
-        Event::Scan => Work::Scans,
-        Event::Sense(value) => Work::Ticks(value),
-        Event::OnBus(bus) => Work::Hears(bus),
+        Event::Scan => { if normal { Work::Scans } else { Work::Other } }
+        Event::Sense(value) => {
+            if normal {
+                Work::Ticks(value)
+            } else {
+                Work::Other
+            }
+        }
+        Event::OnBus(bus) => match bus {
+            BusEvent::Start => {
+                if normal {
+                    Work::Hears(BusEvent::Start)
+                } else {
+                    Work::Other
+                }
+            }
+            BusEvent::Out(byte) => {
+                if normal {
+                    Work::Hears(BusEvent::Out(byte))
+                } else {
+                    Work::Other
+                }
+            }
+            BusEvent::In(nack) => {
+                if normal {
+                    Work::Hears(BusEvent::In(nack))
+                } else {
+                    Work::Other
+                }
+            }
+            BusEvent::Stop => {
+                if normal {
+                    Work::Hears(BusEvent::Stop)
+                } else {
+                    Work::Other
+                }
+            }
+        },
         Event::Setup(_)
         | Event::Por
         | Event::Boot
@@ -382,9 +416,9 @@ fn number_of(read: Read) -> u8
     ensures { λ r. ⌜ r ≡ numberOf read ⌝ }
 {
     match read {
-        Read::Record { event: _, next: _ } => 0,
+        Read::Record { event: _, next: _ } => number::DONE,
         Read::Refused { number, next: _ } => number,
-        Read::Cut => 9,
+        Read::Cut => number::CUT,
     }
 }
 

@@ -1,110 +1,85 @@
--- Bytes stored at the start of a buffer, and after those that are stored already.
+-- Bytes stored one after the other are bytes stored at once, and a record so stored is written.
 -- Assumes nothing.
-use mathlib.Core.Path.{_≡_, refl, ap, sym, _∙_, subst}
-use Prim.Native.Nat.{ℕ, _+_, _-_, _*_, _/_, _%_, _<_, _≤_}
-use mathlib.Core.List.{List, [], _∷_, _++_, append-assoc, append-nil}
+use mathlib.Core.Path.{_≡_, refl, ap, ap₂, sym, _∙_, subst}
+use Prim.Native.Nat.{ℕ, suc, _+_, _*_, _/_, _%_, _<_, _≤_}
+use mathlib.Core.List.{List, [], _∷_, _++_}
 use mathlib.Core.Bool.{true, false}
 use native.Mathlib.Omega.{arith}
+use native.Mathlib.Nat.{add-zero}
 use native.Mathlib.Numerals.{add-one}
 use lib.Dec.{leb}
-use lib.ListN.{length, getD, take, drop, set, length-append, length-drop, drop-of-length-le}
-use lib.Seq.{sets, sets-eq, take-append-seam, drop-append-seam, length-sets, drop-append-add, drop-drop, take-suc, length-take-le}
-use borrow.Rule.Slice.PartAt.{part-to-end}
+use lib.ListN.{length, getD, take, drop, set, replicate, length-replicate}
+use lib.Seq.{sets, sets-eq, take-append-seam, take-suc, length-take-le}
 use borrow.Author.Tests.{le-leb, lt-leb}
-use Rattle.events.specs.declared.Setup.{Setup}
-use Rattle.records.specs.Numbers.{bitOf}
 use Rattle.writer.specs.BytesLaws.{words-length}
-use Rattle.writer.specs.Write.{Writes, recordOf, writtenOf, wordBytes, bytes16, setupBytes}
+use Rattle.writer.specs.Write.{Writes, recordOf, writtenOf, wordBytes}
 use Rattle.writer.specs.declared.Wrote.{Wrote}
 use Rattle.writer.specs.declared.Wrote.the-variants.{Done, Refused}
 
--- bytes stored after those that are written
-pub sets-after : (p q old : List ℕ) → length p + length q ≤ length old → sets (writtenOf p old) (length p) q ≡ writtenOf (p ++ q) old
-sets-after p q old h =
-    let l : length (p ++ drop (length p) old) ≡ length p + (length old - length p) = length-append p (drop (length p) old) ∙ ap (λ (n : ℕ). length p + n) (length-drop (length p) old) in
-    sets-eq q (p ++ drop (length p) old) (length p) (omega arith)
-    ∙ rw (take-append-seam p (drop (length p) old), drop-append-add p (drop (length p) old) (length q), drop-drop (length q) (length p) old, length-append p q, append-assoc) refl
+pub sets-append : (xs ys l : List ℕ) (i : ℕ) → sets (sets l i xs) (i + length xs) ys ≡ sets l i (xs ++ ys)
+sets-append [] ys l i = ap (λ (k : ℕ). sets l k ys) (add-zero i)
+sets-append (x ∷ xs) ys l i =
+    let e : i + length (x ∷ xs) ≡ suc i + length xs = omega arith in
+    ap (λ (k : ℕ). sets (sets (set l i x) (suc i) xs) k ys) e ∙ sets-append xs ys (set l i x) (suc i)
 
-pub stored : (bytes old : List ℕ) → length bytes ≤ length old → Writes bytes old (Done (length bytes)) (sets old 0 bytes)
-stored bytes old h =
+-- a turn of the loop over bytes
+pub bytes-next : (bs old out : List ℕ) (at i : ℕ) → i < length bs → out ≡ sets old at (take i bs)
+    → set out (at + i) (getD bs i 0) ≡ sets old at (take (i + 1) bs)
+bytes-next bs old out at i h e =
+    let n : at + i ≡ at + length (take i bs) = ap (λ (k : ℕ). at + k) (sym (length-take-le i bs (omega arith))) in
+    ap₂ (λ (o : List ℕ) (k : ℕ). set o k (getD bs i 0)) e n
+    ∙ sets-append (take i bs) (getD bs i 0 ∷ []) old at
+    ∙ ap (sets old at) (sym (take-suc bs i 0 h) ∙ ap (λ (k : ℕ). take k bs) (sym (add-one i)))
+
+words-append : (a b : List ℕ) → wordBytes (a ++ b) ≡ wordBytes a ++ wordBytes b
+words-append [] b = refl
+words-append (x ∷ a) b = ap (λ (l : List ℕ). x % 256 ∷ x / 256 ∷ l) (words-append a b)
+
+-- and of the one over numbers
+pub words-next : (ws old out : List ℕ) (i : ℕ) → i < length ws → out ≡ sets old 0 (wordBytes (take i ws))
+    → set (set out (2 * i) (getD ws i 0 % 256)) (2 * i + 1) (getD ws i 0 / 256) ≡ sets old 0 (wordBytes (take (i + 1) ws))
+words-next ws old out i h e =
+    let x : ℕ = getD ws i 0 in
+    let l : length (wordBytes (take i ws)) ≡ 2 * i =
+    words-length (take i ws) ∙ ap (λ (k : ℕ). 2 * k) (length-take-le i ws (omega arith)) in
+    let n : 2 * i ≡ 0 + length (wordBytes (take i ws)) = omega arith in
+    ap₂ (λ (o : List ℕ) (k : ℕ). set (set o (2 * i) (x % 256)) k (x / 256)) e (add-one (2 * i))
+    ∙ ap (λ (k : ℕ). sets (sets old 0 (wordBytes (take i ws))) k (wordBytes (x ∷ []))) n
+    ∙ sets-append (wordBytes (take i ws)) (wordBytes (x ∷ [])) old 0
+    ∙ ap (sets old 0)
+    (sym (words-append (take i ws) (x ∷ [])) ∙ ap wordBytes (sym (take-suc ws i 0 h) ∙ ap (λ (k : ℕ). take k ws) (sym (add-one i))))
+
+-- bytes stored at the start of a buffer that has room for them
+pub stored-whole : (bytes old : List ℕ) → length bytes ≤ length old → sets old 0 bytes ≡ writtenOf bytes old
+stored-whole bytes old h =
+    let n : 0 + length bytes ≡ length bytes = omega arith in
+    sets-eq bytes old 0 (omega arith) ∙ ap (λ (k : ℕ). bytes ++ drop k old) n
+
+-- numbers stored in a payload's room are its first bytes
+module _ (ws : List ℕ) {new : List ℕ} (few : length ws ≤ 15) (e : new ≡ sets (replicate 30 0) 0 (wordBytes ws)) where
+  pub words-taken : take (2 * length ws) new ≡ wordBytes ws
+  words-taken =
+      let l : length (wordBytes ws) ≡ 2 * length ws = words-length ws in
+      let r : length (replicate {A = ℕ} 30 0) ≡ 30 = length-replicate {A = ℕ} 30 0 in
+      ap₂ (λ (n : ℕ) (o : List ℕ). take n o) (sym l) (e ∙ stored-whole (wordBytes ws) (replicate 30 0) (omega arith))
+      ∙ take-append-seam (wordBytes ws) (drop (length (wordBytes ws)) (replicate 30 0))
+
+  pub words-many : length (take (2 * length ws) new) ≡ 2 * length ws
+  words-many = ap length words-taken ∙ words-length ws
+
+-- a record that has room is written, and one that has none is refused
+pub stored : (bytes old : List ℕ) {new : List ℕ} {n : ℕ} → n ≡ length bytes → length bytes ≤ length old → new ≡ sets old 0 bytes
+    → Writes bytes old (Done n) new
+stored bytes old e h w =
     let t : leb (length bytes) (length old) ≡ true = le-leb (length bytes) (length old) h in
-    record { answer = simp t; contents = simp t (sets-after [] bytes old (omega arith)) }
+    record { answer = simp t (ap Done e); contents = simp t (w ∙ stored-whole bytes old h) }
 
 pub short : (bytes old : List ℕ) → length old < length bytes → Writes bytes old (Refused 5) old
 short bytes old h =
     let t : leb (length bytes) (length old) ≡ false = lt-leb (length bytes) (length old) h in
     record { answer = simp t; contents = simp t }
 
-words-append : (a b : List ℕ) → wordBytes (a ++ b) ≡ wordBytes a ++ wordBytes b
-words-append [] b = refl
-words-append (x ∷ a) b = ap (λ (l : List ℕ). x % 256 ∷ x / 256 ∷ l) (words-append a b)
-
--- a turn of the loop over the first n numbers
-pub words-next : (cs old out : List ℕ) (n i : ℕ) → i < n → n ≤ length cs → 2 * n ≤ length old → out ≡ writtenOf (wordBytes (take i cs)) old
-    → set (set out (2 * i) (getD cs i 0 % 256)) (2 * i + 1) (getD cs i 0 / 256) ≡ writtenOf (wordBytes (take (i + 1) cs)) old
-words-next cs old out n i h m k e =
-    let l : length (wordBytes (take i cs)) ≡ 2 * i = words-length (take i cs) ∙ ap (λ (n : ℕ). 2 * n) (length-take-le i cs (omega arith)) in
-    let s : sets (writtenOf (wordBytes (take i cs)) old) (2 * i) (getD cs i 0 % 256 ∷ getD cs i 0 / 256 ∷ []) ≡ writtenOf (wordBytes (take i cs) ++ wordBytes (getD cs i 0 ∷ [])) old =
-    rw (← l) (sets-after (wordBytes (take i cs)) (wordBytes (getD cs i 0 ∷ [])) old (omega arith)) in
-    rw (add-one (2 * i), e) (s ∙ rw (add-one i, take-suc cs i 0 (omega arith), words-append) refl)
-
--- a header stored at the start, and bytes written by a callee that was lent the rest
-module _ (h bytes old xs ys : List ℕ) (e : xs ≡ sets old 0 h) (room : length h + length bytes ≤ length old) (q : ys ≡ writtenOf bytes (take (length xs - length h) (drop (length h) xs))) where
-  head : xs ≡ h ++ drop (length h) old
-  head = e ∙ sets-after [] h old (omega arith)
-
-  tail : drop (length h) xs ≡ drop (length h) old
-  tail = ap (drop (length h)) head ∙ drop-append-seam h (drop (length h) old)
-
-  pub mid-length : length xs ≡ length old
-  mid-length = ap length e ∙ length-sets old 0 h
-
-  mid-bytes : ys ≡ bytes ++ drop (length h + length bytes) old
-  mid-bytes = q ∙ ap (λ (l : List ℕ). bytes ++ drop (length bytes) l) (part-to-end xs (length h) ∙ tail) ∙ rw (drop-drop (length bytes) (length h) old) refl
-
-  mid-none : drop (length xs - length h) (drop (length h) xs) ≡ []
-  mid-none = drop-of-length-le (drop (length h) xs) {i = length xs - length h} (simp length-drop (omega arith))
-
-  pub mid-written : take (length h) xs ++ (ys ++ drop (length xs - length h) (drop (length h) xs)) ≡ writtenOf (h ++ bytes) old
-  mid-written =
-      let t : take (length h) xs ≡ h = ap (take (length h)) head ∙ take-append-seam h (drop (length h) old) in
-      rw (mid-none, append-nil, t, mid-bytes) (sym (append-assoc h bytes (drop (length h + length bytes) old)) ∙ ap (λ (n : ℕ). (h ++ bytes) ++ drop n old) (sym (length-append h bytes)))
-
--- what was written, said of the whole record
-pub wrote-all : (bytes old new : List ℕ) (n : ℕ) → n ≡ length bytes → length bytes ≤ length old → new ≡ writtenOf bytes old → Writes bytes old (Done n) new
-wrote-all bytes old new n e h w =
-    let t : leb (length bytes) (length old) ≡ true = le-leb (length bytes) (length old) h in
-    record { answer = simp t (ap Done e); contents = simp t w }
-
--- a record with counts: the four bytes of its header, and its n counts by the callee
-abbrev pub head-of : ℕ → ℕ → List ℕ
-head-of kind n = 2 * n ∷ 0 ∷ kind % 256 ∷ kind / 256 ∷ []
-
-module _ (kind n : ℕ) (cs old ys : List ℕ) (few : n ≤ 15) (m : n ≤ length cs) (room : 4 + 2 * n ≤ length old) where
-  counts-length : length (wordBytes (take n cs)) ≡ 2 * n
-  counts-length = words-length (take n cs) ∙ ap (λ (n : ℕ). 2 * n) (length-take-le n cs m)
-
-  counts-header : recordOf kind (wordBytes (take n cs)) ≡ head-of kind n ++ wordBytes (take n cs)
-  counts-header =
-      let a : 2 * n % 256 ≡ 2 * n = omega arith in
-      let b : 2 * n / 256 ≡ 0 = omega arith in
-      rw counts-length (rw (a, b) refl)
-
-  pub counts-written : ys ≡ writtenOf (wordBytes (take n cs)) (take (length (sets old 0 (head-of kind n)) - 4) (drop 4 (sets old 0 (head-of kind n))))
-      → Writes (recordOf kind (wordBytes (take n cs))) old (Done (4 + 2 * n)) (take 4 (sets old 0 (head-of kind n)) ++ (ys ++ drop (length (sets old 0 (head-of kind n)) - 4) (drop 4 (sets old 0 (head-of kind n)))))
-  counts-written q =
-      let l : length (wordBytes (take n cs)) ≡ 2 * n = counts-length in
-      wrote-all (recordOf kind (wordBytes (take n cs))) old _ (4 + 2 * n) (omega arith) (omega arith)
-      (mid-written (head-of kind n) (wordBytes (take n cs)) old (sets old 0 (head-of kind n)) ys refl (omega arith) q ∙ ap (λ (b : List ℕ). writtenOf b old) (sym counts-header))
-
-pub short-counts : (kind n : ℕ) (cs old : List ℕ) → n ≤ length cs → length old < 4 + 2 * n → Writes (recordOf kind (wordBytes (take n cs))) old (Refused 5) old
-short-counts kind n cs old m h =
-    let l : length (wordBytes (take n cs)) ≡ 2 * n = words-length (take n cs) ∙ ap (λ (n : ℕ). 2 * n) (length-take-le n cs m) in
-    short (recordOf kind (wordBytes (take n cs))) old (omega arith)
-
--- SETUP's bytes with the CRC's byte as it was made
-abbrev pub setupWith : Setup → ℕ → List ℕ
-setupWith v crc = v .part ∷ crc ∷ v .address ∷ v .«gain_code» ∷ v .offset ∷ bytes16 (v .floor)
-
-pub at-crc : (v : Setup) (old : List ℕ) {new : List ℕ} {r : Wrote} {crc : ℕ} → crc ≡ bitOf (v .crc) → Writes (recordOf 0 (setupWith v crc)) old r new → Writes (recordOf 0 (setupBytes v)) old r new
-at-crc v old {new} {r} e w = subst (λ (n : ℕ). Writes (recordOf 0 (setupWith v n)) old r new) e w
+-- what holds of a record holds of the same payload made another way
+pub at-payload : (kind : ℕ) (old : List ℕ) {b b′ new : List ℕ} {r : Wrote} → b ≡ b′ → Writes (recordOf kind b) old r new
+    → Writes (recordOf kind b′) old r new
+at-payload kind old {b} {b′} {new} {r} e w = subst (λ (l : List ℕ). Writes (recordOf kind l) old r new) e w

@@ -1,12 +1,13 @@
 // Records, written: an event's record at a part, or the number it is refused with.
 ghost use mathlib.Core.Path.{_≡_};
-ghost use Prim.Native.Nat.{_*_, _≤_};
+ghost use Prim.Native.Nat.{_+_, _*_, _≤_};
 ghost use mathlib.Core.List.{[], _∷_, _++_};
 ghost use lib.ListN.{length, take};
+ghost use lib.Seq.{sets};
 ghost use Rattle.events.specs.declared.Event.the-variants.{Setup as SetupEvent, OnBus, Wires};
 ghost use Rattle.records.specs.Numbers.{bitOf};
 ghost use Rattle.records.specs.Record.{setupGood, standing, noCounts};
-ghost use Rattle.writer.specs.Write.{bits32, bytes16, bytes32, wordBytes, writtenOf, recordOf, recordFor, refusalFor, setupBytes, Writes, Puts};
+ghost use Rattle.writer.specs.Write.{bits32, bytes16, bytes32, wordBytes, recordOf, recordFor, refusalFor, setupBytes, Writes, Puts};
 ghost use Rattle.writer.specs.CheckedLaws.{refusalAt};
 use constants::kind;
 use constants::number;
@@ -15,6 +16,11 @@ use events::BusEvent;
 use events::Counts;
 use events::Event;
 use events::Setup;
+
+// A record's header, and its longest payload.
+const HEADER: usize = 4;
+
+const PAYLOAD_MOST: usize = 30;
 
 // What writing gives: how many bytes it wrote, or the number it is refused with.
 pub enum Wrote {
@@ -48,143 +54,128 @@ fn setup_good(v: Setup) -> bool
         & (v.cells == 0)
 }
 
+// Bytes, at a place.
+fn put_bytes(out: &mut [u8], at: usize, bytes: &[u8])
+    requires { ⌜ at + length (now bytes) ≤ length (now out) ⌝ }
+    ensures { λ _. ⌜ now (out .exit) ≡ sets (now (out .entry)) at (now (bytes .entry)) ⌝ }
+{
+    let mut i = 0;
+    while i < bytes.len() {
+        out[at + i] = bytes[i];
+        i += 1;
+    }
+}
+
+// The bytes of numbers of 2 bytes, at the start of a buffer.
+fn put_words(out: &mut [u8], words: &[u16])
+    requires { ⌜ 2 * length (now words) ≤ length (now out) ⌝ }
+    ensures { λ _. ⌜ now (out .exit) ≡ sets (now (out .entry)) 0 (wordBytes (now (words .entry))) ⌝ }
+{
+    let mut i = 0;
+    while i < words.len() {
+        let word = words[i];
+        out[2 * i] = (word % 256) as u8;
+        out[2 * i + 1] = (word / 256) as u8;
+        i += 1;
+    }
+}
+
+// A record: its header, and its payload.
+fn write_bytes(out: &mut [u8], kind: u16, payload: &[u8]) -> Wrote
+    requires { ⌜ length (now payload) ≤ 30 ⌝ }
+    ensures { λ r. ⌜ Writes (recordOf kind (now (payload .entry))) (now (out .entry)) r (now (out .exit)) ⌝ }
+{
+    let n = payload.len();
+    if out.len() < HEADER + n {
+        return Wrote::Refused(number::NO_ROOM);
+    }
+    out[0] = (n % 256) as u8;
+    out[1] = (n / 256) as u8;
+    out[2] = (kind % 256) as u8;
+    out[3] = (kind / 256) as u8;
+    put_bytes(out, HEADER, payload);
+    Wrote::Done(HEADER + n)
+}
+
+// A record whose payload is numbers of 2 bytes.
+fn write_words(out: &mut [u8], kind: u16, words: &[u16]) -> Wrote
+    requires { ⌜ length (now words) ≤ 15 ⌝ }
+    ensures { λ r. ⌜ Writes (recordOf kind (wordBytes (now (words .entry)))) (now (out .entry)) r (now (out .exit)) ⌝ }
+{
+    let n = 2 * words.len();
+    let mut bytes = [0u8; PAYLOAD_MOST];
+    put_words(&mut bytes, words);
+    write_bytes(out, kind, &bytes[..n])
+}
+
 // A record with no payload.
 fn write_bare(out: &mut [u8], kind: u16) -> Wrote
     ensures { λ r. ⌜ Writes (recordOf kind []) (now (out .entry)) r (now (out .exit)) ⌝ }
 {
-    if out.len() < 4 {
-        return Wrote::Refused(number::NO_ROOM);
-    }
-    out[0] = 0;
-    out[1] = 0;
-    out[2] = (kind % 256) as u8;
-    out[3] = (kind / 256) as u8;
-    Wrote::Done(4)
+    let bytes = [0u8; 1];
+    write_bytes(out, kind, &bytes[..0])
 }
 
 // A record whose payload is a byte.
 fn write_byte(out: &mut [u8], kind: u16, b: u8) -> Wrote
     ensures { λ r. ⌜ Writes (recordOf kind (b ∷ [])) (now (out .entry)) r (now (out .exit)) ⌝ }
 {
-    if out.len() < 5 {
-        return Wrote::Refused(number::NO_ROOM);
-    }
-    out[0] = 1;
-    out[1] = 0;
-    out[2] = (kind % 256) as u8;
-    out[3] = (kind / 256) as u8;
-    out[4] = b;
-    Wrote::Done(5)
+    let bytes = [b];
+    write_bytes(out, kind, &bytes)
 }
 
 // A record whose payload is a number of 2 bytes.
 fn write_word(out: &mut [u8], kind: u16, n: u16) -> Wrote
     ensures { λ r. ⌜ Writes (recordOf kind (bytes16 n)) (now (out .entry)) r (now (out .exit)) ⌝ }
 {
-    if out.len() < 6 {
-        return Wrote::Refused(number::NO_ROOM);
-    }
-    out[0] = 2;
-    out[1] = 0;
-    out[2] = (kind % 256) as u8;
-    out[3] = (kind / 256) as u8;
-    out[4] = (n % 256) as u8;
-    out[5] = (n / 256) as u8;
-    Wrote::Done(6)
+    let words = [n];
+    write_words(out, kind, &words)
 }
 
 // A record whose payload is a number of 4 bytes.
 fn write_long(out: &mut [u8], kind: u16, u: u32) -> Wrote
     ensures { λ r. ⌜ Writes (recordOf kind (bytes32 u)) (now (out .entry)) r (now (out .exit)) ⌝ }
 {
-    if out.len() < 8 {
-        return Wrote::Refused(number::NO_ROOM);
-    }
-    out[0] = 4;
-    out[1] = 0;
-    out[2] = (kind % 256) as u8;
-    out[3] = (kind / 256) as u8;
-    out[4] = (u % 65536 % 256) as u8;
-    out[5] = (u % 65536 / 256) as u8;
-    out[6] = (u / 65536 % 256) as u8;
-    out[7] = (u / 65536 / 256) as u8;
-    Wrote::Done(8)
+    let words = [(u % 65536) as u16, (u / 65536) as u16];
+    write_words(out, kind, &words)
 }
 
 // A record whose payload is a number of 4 bytes and one of 2.
 fn write_ticks(out: &mut [u8], kind: u16, u: u32, n: u16) -> Wrote
     ensures { λ r. ⌜ Writes (recordOf kind (bytes32 u ++ bytes16 n)) (now (out .entry)) r (now (out .exit)) ⌝ }
 {
-    if out.len() < 10 {
-        return Wrote::Refused(number::NO_ROOM);
-    }
-    out[0] = 6;
-    out[1] = 0;
-    out[2] = (kind % 256) as u8;
-    out[3] = (kind / 256) as u8;
-    out[4] = (u % 65536 % 256) as u8;
-    out[5] = (u % 65536 / 256) as u8;
-    out[6] = (u / 65536 % 256) as u8;
-    out[7] = (u / 65536 / 256) as u8;
-    out[8] = (n % 256) as u8;
-    out[9] = (n / 256) as u8;
-    Wrote::Done(10)
+    let words = [(u % 65536) as u16, (u / 65536) as u16, n];
+    write_words(out, kind, &words)
 }
 
 // A record whose payload is two numbers of 4 bytes.
 fn write_soak(out: &mut [u8], kind: u16, u: u32, n: u32) -> Wrote
     ensures { λ r. ⌜ Writes (recordOf kind (bytes32 u ++ bytes32 n)) (now (out .entry)) r (now (out .exit)) ⌝ }
 {
-    if out.len() < 12 {
-        return Wrote::Refused(number::NO_ROOM);
-    }
-    out[0] = 8;
-    out[1] = 0;
-    out[2] = (kind % 256) as u8;
-    out[3] = (kind / 256) as u8;
-    out[4] = (u % 65536 % 256) as u8;
-    out[5] = (u % 65536 / 256) as u8;
-    out[6] = (u / 65536 % 256) as u8;
-    out[7] = (u / 65536 / 256) as u8;
-    out[8] = (n % 65536 % 256) as u8;
-    out[9] = (n % 65536 / 256) as u8;
-    out[10] = (n / 65536 % 256) as u8;
-    out[11] = (n / 65536 / 256) as u8;
-    Wrote::Done(12)
+    let words = [
+        (u % 65536) as u16,
+        (u / 65536) as u16,
+        (n % 65536) as u16,
+        (n / 65536) as u16,
+    ];
+    write_words(out, kind, &words)
 }
 
 // SETUP's record.
 fn write_setup(out: &mut [u8], v: Setup) -> Wrote
     ensures { λ r. ⌜ Writes (recordOf 0 (setupBytes v)) (now (out .entry)) r (now (out .exit)) ⌝ }
 {
-    if out.len() < 11 {
-        return Wrote::Refused(number::NO_ROOM);
-    }
-    out[0] = 7;
-    out[1] = 0;
-    out[2] = 0;
-    out[3] = 0;
-    out[4] = v.part;
-    out[5] = bit_of(v.crc);
-    out[6] = v.address;
-    out[7] = v.gain_code;
-    out[8] = v.offset;
-    out[9] = (v.floor % 256) as u8;
-    out[10] = (v.floor / 256) as u8;
-    Wrote::Done(11)
-}
-
-// The bytes of the first numbers of 2 bytes.
-fn put_words(out: &mut [u8], of: [u16; 15], n: usize)
-    requires { ⌜ (n ≤ 15) × (2 * n ≤ length (now out)) ⌝ }
-    ensures { λ _. ⌜ now (out .exit) ≡ writtenOf (wordBytes (take n of)) (now (out .entry)) ⌝ }
-{
-    let mut i = 0;
-    while i < n {
-        out[2 * i] = (of[i] % 256) as u8;
-        out[2 * i + 1] = (of[i] / 256) as u8;
-        i += 1;
-    }
+    let crc = bit_of(v.crc);
+    let bytes = [
+        v.part,
+        crc,
+        v.address,
+        v.gain_code,
+        v.offset,
+        (v.floor % 256) as u8,
+        (v.floor / 256) as u8,
+    ];
+    write_bytes(out, kind::SETUP, &bytes)
 }
 
 // The record of an event with counts.
@@ -193,16 +184,8 @@ fn write_counts(out: &mut [u8], kind: u16, counts: Counts) -> Wrote
     ensures { λ r. ⌜ Writes (recordOf kind (wordBytes (take (counts .many) (counts .of)))) (now (out .entry)) r (now (out .exit)) ⌝ }
 {
     let n = counts.many as usize;
-    if out.len() < 4 + 2 * n {
-        return Wrote::Refused(number::NO_ROOM);
-    }
     let of = counts.of;
-    out[0] = (2 * n) as u8;
-    out[1] = 0;
-    out[2] = (kind % 256) as u8;
-    out[3] = (kind / 256) as u8;
-    put_words(&mut out[4..], of, n);
-    Wrote::Done(4 + 2 * n)
+    write_words(out, kind, &of[..n])
 }
 
 // A part alone, as a setup.

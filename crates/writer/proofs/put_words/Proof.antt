@@ -1,51 +1,44 @@
--- `put_words` writes two bytes a turn: what is written so far are the first i numbers' bytes.
-use borrow.Author.Needs.{needs}
-use mir.Syntax.{w16}
-use mir.Val.{Fits}
-use Prim.Native.Nat.{ℕ, _≤_, _-_}
-use mathlib.Core.Path.{_≡_, refl, _∙_, ap}
+-- Two bytes a turn: those that are put so far are the first i numbers'.
+use Prim.Native.Nat.{ℕ, _+_, _≤_, _-_}
+use mathlib.Core.Path.{_≡_, refl, ap, _∙_}
+use mathlib.Core.List.{List}
 use native.Mathlib.Omega.{arith}
-use lib.ListN.{length, take, getD, length-set}
-use Rattle.writer.specs.Write.{writtenOf, wordBytes}
+use lib.ListN.{length, take, length-set}
+use lib.Seq.{sets, length-sets, take-all}
+use Rattle.writer.specs.Write.{wordBytes}
 use Rattle.writer.proofs.Stores.{words-next}
 use Rattle.writer.proofs.put_words.Statement.{statement}
 use Rattle.writer.proofs.put_words.Tie as tie
 
 abbrev Inv-loop : tie.InvT-loop
-Inv-loop out₀ n of i₀ out i = (i ≤ n) × (length out ≡ length out₀) × (out ≡ writtenOf (wordBytes (take i of)) out₀)
+Inv-loop out₀ words i₀ out i = (i ≤ length words) × (length out ≡ length out₀) × (out ≡ sets out₀ 0 (wordBytes (take i words)))
 
 abbrev μ-loop : tie.MeasureT-loop
-μ-loop out₀ n of i₀ out i = n - i
+μ-loop out₀ words i₀ out i = length words - i
 
 loop-holds : tie.Need-loop-holds Inv-loop μ-loop
 loop-holds c = (omega arith, refl, refl)
 
-mul-out : tie.Need-mul-out Inv-loop μ-loop
-mul-out c = omega arith
+mul-word : tie.Need-mul-word Inv-loop μ-loop
+mul-word c = omega arith
 
-array-read-out : tie.Need-array-read-out Inv-loop μ-loop
-array-read-out c = omega arith
+shared-slice-read-word : tie.Need-shared-slice-read-word Inv-loop μ-loop
+shared-slice-read-word c = omega arith
 
 cast-out : tie.Need-cast-out Inv-loop μ-loop
 cast-out c = omega arith
 
-mul-out-2 : tie.Need-mul-out-2 Inv-loop μ-loop
-mul-out-2 c = omega arith
+mul-out : tie.Need-mul-out Inv-loop μ-loop
+mul-out c = omega arith
 
 slice-write-out : tie.Need-slice-write-out Inv-loop μ-loop
 slice-write-out c = omega arith
 
-mul-out-3 : tie.Need-mul-out-3 Inv-loop μ-loop
-mul-out-3 c = omega arith
-
-array-read-out-2 : tie.Need-array-read-out-2 Inv-loop μ-loop
-array-read-out-2 c = omega arith
-
 cast-out-2 : tie.Need-cast-out-2 Inv-loop μ-loop
-cast-out-2 c = let b : Fits w16 (getD (c .before .before .args .t2) (c .before .loop .i) 0) = search needs in omega arith
+cast-out-2 c = omega (arith, c .shared-slice-known .given (c .before .before .loop .i))
 
-mul-out-4 : tie.Need-mul-out-4 Inv-loop μ-loop
-mul-out-4 c = omega arith
+mul-out-2 : tie.Need-mul-out-2 Inv-loop μ-loop
+mul-out-2 c = omega arith
 
 add-out : tie.Need-add-out Inv-loop μ-loop
 add-out c = omega arith
@@ -61,10 +54,10 @@ loop-less c = omega arith
 
 loop-again : tie.Need-loop-again Inv-loop μ-loop
 loop-again c =
-    let l = c .before in
+    let l = c .before .before in
     let a = l .before .args in
-    let n : length (a .t2) ≡ 15 = search needs in
-    (omega arith, simp length-set (l .loop .inv .1), words-next (a .t2) (a .out .now) (l .loop .out) (a .n) (l .loop .i) (omega arith) (omega arith) (omega arith) (l .loop .inv .2))
+    let n = words-next (a .words .now) (a .out .now) (l .loop .out) (l .loop .i) (omega arith) (l .loop .inv .2) in
+    (omega arith, ap length n ∙ length-sets (a .out .now) 0 (wordBytes (take (l .loop .i + 1) (a .words .now))), n)
 
 same-length : tie.Need-same-length Inv-loop μ-loop
 same-length c = c .before .loop .inv .1
@@ -73,8 +66,7 @@ returns : tie.Need-returns Inv-loop μ-loop
 returns c =
     let l = c .before in
     let a = l .before .args in
-    let e : l .loop .i ≡ a .n = omega arith in
-    l .loop .inv .2 ∙ ap (λ (i : ℕ). writtenOf (wordBytes (take i (a .t2))) (a .out .now)) e
+    l .loop .inv .2 ∙ ap (λ (w : List ℕ). sets (a .out .now) 0 (wordBytes w)) (take-all (l .loop .i) (a .words .now) (c .loop-test .left))
 
 pub put-words-spec : {M : Type 1} → statement M
 put-words-spec =
@@ -83,15 +75,13 @@ put-words-spec =
     Inv-loop
     μ-loop
     loop-holds
-    mul-out
-    array-read-out
+    mul-word
+    shared-slice-read-word
     cast-out
-    mul-out-2
+    mul-out
     slice-write-out
-    mul-out-3
-    array-read-out-2
     cast-out-2
-    mul-out-4
+    mul-out-2
     add-out
     slice-write-out-2
     add-i
