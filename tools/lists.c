@@ -278,6 +278,9 @@ int main(int count, char **words)
         return 2;
     }
     read_all(&input, file, script ? (size_t)-1 : MOST + 1);
+    if (input.length == 0) {
+        return 0;
+    }
     if (script || input.length <= MOST) {
         faults = turn(&input, script, name == NULL ? "standard input" : name, &lists);
     } else {
@@ -286,6 +289,8 @@ int main(int count, char **words)
     if (lists.length > MOST + 1) {
         lists.length = MOST + 1;
     }
-    fwrite(lists.letters, 1, lists.length, stdout);
+    if (lists.length > 0) {
+        fwrite(lists.letters, 1, lists.length, stdout);
+    }
     return fflush(stdout) == 0 && faults == 0 ? 0 : 1;
 }
