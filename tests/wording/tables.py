@@ -78,6 +78,17 @@ def hold_forecast(path):
         hold(all(kind.kind in "if" for kind in table.dtypes) or table.empty, f"{path}: {table.dtypes}")
 
 
+def hold_full(path):
+    """65,536 scans are too many for a season, and each has its line."""
+    wired = bytes.fromhex("070000000100080a1ee803 0100160004 00000200")
+    path.write_bytes(wired + (bytes.fromhex("0a000300") + bytes.fromhex("1c25") * 5) * 65_536)
+    status, text, said = common.run("forecast", "--season", path)
+    hold(status == 1 and text == "" and said.startswith("forecast: no season, 22: "), f"./forecast of 65,536 scans says {said}")
+    status, text, _ = common.run("forecast", "--scans", path)
+    table = pandas.read_csv(io.StringIO(text))
+    hold(status == 0 and table.shape == (65_536, 6) and (table.iloc[:, 2:] == 354 * 9_500 + 30_000).all(axis=None), "65,536 scans are not printed")
+
+
 def hold_reasons():
     """Why each record of tests/play is refused, in words, as it is stored."""
     text = ""
@@ -113,6 +124,7 @@ with tempfile.TemporaryDirectory() as name:
     for path in [*common.SCENES, *common.streams(pathlib.Path(name), range(12))]:
         records += hold_run(path)
         scenes += 1
+    hold_full(pathlib.Path(name) / "full.bytes")
 for path in ROOT.glob("examples/*.hex"):
     hold_forecast(path)
 print(f"tests/tables: {scenes} streams, {records} records, are read by pandas as the model has them; 1,000,000 records more take {hold_memory()} KB more")
