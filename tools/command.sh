@@ -40,7 +40,7 @@ take() {
             [[ -z $option || $option = "$1" ]] || give_up 2 "only one of $option and $1; usage: $usage"
             option=$1
             ;;
-        -) ;;
+        -) files+=(/dev/stdin) ;;
         *) files+=("$1") ;;
         esac
         shift
