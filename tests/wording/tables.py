@@ -101,13 +101,14 @@ def hold_reasons():
 
 def most_memory(records):
     """The most memory, in KB, that a table of so many records from a pipe takes, and how many rows it has."""
-    made = f"import sys; sys.stdout.buffer.write(bytes.fromhex('0700000001000800000000'))\nfor _ in range({records // 100}): sys.stdout.buffer.write(b'\\0\\0\\2\\0' * 100)"
+    made = ("import sys\nout = sys.stdout.buffer\nout.write(bytes.fromhex('0700000001000800000000'))\n"
+            f"for _ in range({records // 100}): out.write(b'\\0\\0\\2\\0' * 100)")
     with subprocess.Popen(["/usr/bin/python3", "-c", made], stdout=subprocess.PIPE) as source:
         counted = ("import resource, subprocess, sys\n"
                    "with subprocess.Popen(['./play', '--csv'], stdout=subprocess.PIPE) as play: rows = sum(1 for _ in play.stdout)\n"
                    "print(resource.getrusage(resource.RUSAGE_CHILDREN).ru_maxrss, rows - 1)")
-        said = subprocess.run(["/usr/bin/python3", "-c", counted], cwd=ROOT, stdin=source.stdout, stdout=subprocess.PIPE, check=True, text=True).stdout
-    return map(int, said.split())
+        done = subprocess.run(["/usr/bin/python3", "-c", counted], cwd=ROOT, stdin=source.stdout, stdout=subprocess.PIPE, check=True)
+    return map(int, done.stdout.split())
 
 
 def hold_memory():
@@ -127,4 +128,5 @@ with tempfile.TemporaryDirectory() as name:
     hold_full(pathlib.Path(name) / "full.bytes")
 for path in ROOT.glob("examples/*.hex"):
     hold_forecast(path)
-print(f"tests/tables: {scenes} streams, {records} records, are read by pandas as the model has them; 1,000,000 records more take {hold_memory()} KB more")
+print(f"tests/tables: {scenes} streams, {records} records, are read by pandas as the model has them;"
+      f" 1,000,000 records more take {hold_memory()} KB more")
