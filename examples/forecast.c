@@ -82,29 +82,48 @@ static int print_season(const uint8_t *stream, size_t length)
     return 0;
 }
 
-/* How many cells the pack has, or minus a number: SETUP and wiring stand before the first BOOT, and no scan is stored before it. */
+/* The length of the record at a place, or 0 where it is cut short. */
+static size_t record_at(const uint8_t *stream, size_t length, size_t at)
+{
+    size_t whole = length - at < HEADER ? 0 : HEADER + stream[at] + 256u * stream[at + 1];
+    return whole <= length - at ? whole : 0;
+}
+
+static unsigned kind_at(const uint8_t *stream, size_t at)
+{
+    return stream[at + 2] + 256u * stream[at + 3];
+}
+
+/* How many cells the pack has, or minus a number. A season that is full has them before its first BOOT, where no scan is stored yet. */
 static int64_t cells_of(const uint8_t *stream, size_t length)
 {
     int64_t rows[MOST_CELLS * TORALINGE_SEASON_SIZE];
+    int64_t cells = toralinge_season(stream, length, rows, MOST_CELLS * TORALINGE_SEASON_SIZE);
     size_t at = 0;
-    while (length - at >= HEADER) {
-        size_t next = HEADER + stream[at] + 256u * stream[at + 1];
-        if (next > length - at || (next == HEADER && stream[at + 2] + 256u * stream[at + 3] == TORALINGE_KIND_BOOT)) {
-            break;
-        }
-        at += next;
+    if (cells != -TORALINGE_SEASON_FULL) {
+        return cells;
+    }
+    while (kind_at(stream, at) != TORALINGE_KIND_BOOT || record_at(stream, length, at) != HEADER) {
+        at += record_at(stream, length, at);
     }
     return toralinge_season(stream, at, rows, MOST_CELLS * TORALINGE_SEASON_SIZE);
 }
 
-/* A line a stored scan. A cell that was not connected has an empty place. */
-static void print_scan(int64_t scan, int64_t cells, const int64_t *row)
+/* Whether the chip has just stored the scan that it was fed. */
+static int is_stored(const uint8_t *chip, const uint8_t *entry)
 {
-    int64_t cell;
-    printf("%" PRId64 ",%" PRId64, scan, row[0]);
+    uint8_t ctrl1 = 0;
+    toralinge_register(chip, TORALINGE_CHIP_SIZE, TORALINGE_REG_SYS_CTRL1, &ctrl1);
+    return entry[TORALINGE_ENTRY_NUMBER] == TORALINGE_DONE && (ctrl1 & TORALINGE_CTRL1_ADC_EN) != 0;
+}
+
+/* The voltages that a chip has, as the end of a line. A cell that is not connected has an empty place. */
+static void print_voltages(const uint8_t *chip, int64_t cells)
+{
+    int64_t cell, microvolts;
     for (cell = 1; cell <= cells; cell++) {
-        if (row[1] >> (cell - 1) & 1) {
-            printf(",%" PRId64, row[1 + cell]);
+        if (toralinge_voltage(chip, TORALINGE_CHIP_SIZE, (uint32_t)cell, &microvolts) == TORALINGE_DONE) {
+            printf(",%" PRId64, microvolts);
         } else {
             printf(",");
         }
@@ -114,23 +133,24 @@ static void print_scan(int64_t scan, int64_t cells, const int64_t *row)
 
 static int print_scans(const uint8_t *stream, size_t length)
 {
-    size_t room = (length / (HEADER + 10) + 1) * TORALINGE_SCAN_SIZE; /* the shortest scan has five counts */
-    int64_t *rows = malloc(room * sizeof *rows);
-    int64_t scans = rows == NULL ? -TORALINGE_NO_ROOM : toralinge_scans(stream, length, rows, room), cells, at;
-    if (scans < 0) {
-        free(rows);
-        return refused("scans", -scans);
+    uint8_t chip[TORALINGE_CHIP_SIZE] = {0}, entry[TORALINGE_ENTRY_SIZE];
+    int64_t cells = cells_of(stream, length), cell, record, scan = 0;
+    size_t at = 0, size;
+    if (cells < 0) {
+        return refused("scans", -cells);
     }
-    cells = cells_of(stream, length);
     printf("scan,record");
-    for (at = 1; at <= cells; at++) {
-        printf(",cell %d in microvolts", (int)at);
+    for (cell = 1; cell <= cells; cell++) {
+        printf(",cell %d in microvolts", (int)cell);
     }
     printf("\n");
-    for (at = 0; at < scans; at++) {
-        print_scan(at + 1, cells, rows + at * TORALINGE_SCAN_SIZE);
+    for (record = 0; (size = record_at(stream, length, at)) > 0; record++, at += size) {
+        toralinge_feed(chip, sizeof chip, stream + at, size, entry, sizeof entry);
+        if (kind_at(stream, at) == TORALINGE_KIND_SCAN && is_stored(chip, entry)) {
+            printf("%" PRId64 ",%" PRId64, ++scan, record);
+            print_voltages(chip, cells);
+        }
     }
-    free(rows);
     return 0;
 }
 

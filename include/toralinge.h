@@ -4,8 +4,8 @@
  * Link with target/libtoralinge.a, for x86-64 Linux; `./library` proves every call and writes it. A
  * program that wants less links with single ones, in any number: `rt staticlib NAME` writes
  * target/staticlib/libNAME.a, where NAME is i2c_lists for toralinge_list, services_stream for
- * toralinge_bleed and toralinge_reply, season_stream for toralinge_season, plain for toralinge_plain, feed for
- * toralinge_feed, chip_c for the other calls on a kept chip, and stream for all other calls.
+ * toralinge_bleed and toralinge_reply, season_stream for toralinge_season, season_scans for toralinge_scans, plain for
+ * toralinge_plain, feed for toralinge_feed, chip_c for the other calls on a kept chip, and stream for all other calls.
  *
  * The rules stand in docs/CHIP.md, each with a number. Every call here answers for every value of its
  * arguments, and is proved to answer exactly as these rules say.
@@ -192,6 +192,14 @@ enum toralinge_season_place {
     TORALINGE_SEASON_SIZE = 9
 };
 
+/* The seventeen numbers of a scan in toralinge_scans, in this order. */
+enum toralinge_scan_place {
+    TORALINGE_SCAN_RECORD = 0,       /* the number of its record, from 0 as the entries of toralinge_play */
+    TORALINGE_SCAN_CONNECTED = 1,    /* the connected cells as bits, cell 1 the lowest */
+    TORALINGE_SCAN_MICROVOLTS = 2,   /* the microvolts of cells 1 to 15, 0 where not connected or no such cell */
+    TORALINGE_SCAN_SIZE = 17
+};
+
 /*
  * Plays a whole stream of records on a new chip and writes one entry of five bytes for each record.
  *
@@ -366,6 +374,21 @@ uint8_t toralinge_reply(const uint8_t *stream, size_t length, uint8_t command, u
  *   5         room is below nine for each cell
  */
 int64_t toralinge_season(const uint8_t *stream, size_t length, int64_t *rows, size_t room);
+
+/*
+ * Plays a whole stream on a new chip and gives each scan that it stored. (In libseason_scans.a.)
+ *
+ * rows, room      where seventeen numbers for each scan go, and how many int64_t may stand there
+ *
+ * Returns how many scans were stored, and writes seventeen numbers for each from rows[0] on, the first scan
+ * first; every later number keeps its value. A scan is stored and a cell is connected as for toralinge_season.
+ *
+ * Otherwise writes nothing and returns minus a number, looked at in this order:
+ *   9         the stream is empty
+ *   1, 2, 9   the number that refuses the first record, so that no chip stands
+ *   5         room is below seventeen for each scan
+ */
+int64_t toralinge_scans(const uint8_t *stream, size_t length, int64_t *rows, size_t room);
 
 /*
  * Cell voltage in microvolts: (344 + gain_code) x count + 1,000 x offset, offset as a signed byte.

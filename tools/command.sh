@@ -6,8 +6,8 @@ source "$root/tests/machine.sh"
 
 # What -h and -V print.
 tell_help() {
-    printf 'usage: %s\n%s\n  -h, --help     this text\n  -V, --version  the version\nman -l man/%s.1 says more. The status is 1 where input is refused, 2 for wrong use.\n' \
-        "$usage" "$help" "$me"
+    printf 'usage: %s\n%s\n  -h, --help     this text\n  -V, --version  the version\n' "$usage" "$help"
+    printf 'man -l man/%s.1 says more. The status is 1 where input is refused, 2 for wrong use.\n' "$me"
 }
 
 version() {
@@ -40,7 +40,7 @@ take() {
             [[ -z $option || $option = "$1" ]] || give_up 2 "only one of $option and $1; usage: $usage"
             option=$1
             ;;
-        -) ;;
+        -) files+=(/dev/stdin) ;;
         *) files+=("$1") ;;
         esac
         shift

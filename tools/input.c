@@ -61,7 +61,7 @@ int input_open(struct input *in, const char *name)
 {
     size_t length = name == NULL ? 0 : strlen(name);
     memset(in, 0, sizeof *in);
-    in->name = name == NULL ? "standard input" : name;
+    in->name = name == NULL || strcmp(name, "/dev/stdin") == 0 ? "standard input" : name;
     in->file = name == NULL ? STDIN_FILENO : open(name, O_RDONLY);
     in->line = 1;
     if (in->file < 0) {

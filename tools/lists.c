@@ -79,6 +79,14 @@ static int is_outside(struct word message)
     return address < 0x08 || address > 0x77;
 }
 
+static int is_command(struct word word)
+{
+    static const char name[] = "i2ctransfer";
+    size_t length = sizeof name - 1;
+    return word.length >= length && memcmp(word.at + word.length - length, name, length) == 0 &&
+           (word.length == length || word.at[word.length - length - 1] == '/');
+}
+
 static void say_word(struct word word)
 {
     size_t at;
@@ -101,6 +109,8 @@ static void say_fault(struct word word, struct word message, unsigned left)
         fputs(" is one byte more than ", stderr);
         say_word(message);
         fputs(message.at[0] == 'w' ? " has" : " takes", stderr);
+    } else if (is_command(word)) {
+        fputs(" is left aside with --script alone, where a bus and a list follow it", stderr);
     } else {
         fputs(" is no message wN@ADDR or rN@ADDR, N 1 to 64, ADDR 0x and one or two hex digits", stderr);
     }
@@ -190,14 +200,6 @@ static const char *add_words(struct text *to, const char *at, const char *end, u
     return at < end ? at + 1 : end;
 }
 
-static int is_command(struct word word)
-{
-    static const char name[] = "i2ctransfer";
-    size_t length = sizeof name - 1;
-    return word.length >= length && memcmp(word.at + word.length - length, name, length) == 0 &&
-           (word.length == length || word.at[word.length - length - 1] == '/');
-}
-
 static const char *after(struct word word, const char *end)
 {
     return word.at + word.length == end ? end : word.at + word.length + 1;
@@ -278,14 +280,19 @@ int main(int count, char **words)
         return 2;
     }
     read_all(&input, file, script ? (size_t)-1 : MOST + 1);
+    if (input.length == 0) {
+        return 0;
+    }
     if (script || input.length <= MOST) {
-        faults = turn(&input, script, name == NULL ? "standard input" : name, &lists);
+        faults = turn(&input, script, name == NULL || strcmp(name, "/dev/stdin") == 0 ? "standard input" : name, &lists);
     } else {
         lists = input;
     }
     if (lists.length > MOST + 1) {
         lists.length = MOST + 1;
     }
-    fwrite(lists.letters, 1, lists.length, stdout);
+    if (lists.length > 0) {
+        fwrite(lists.letters, 1, lists.length, stdout);
+    }
     return fflush(stdout) == 0 && faults == 0 ? 0 : 1;
 }

@@ -78,6 +78,17 @@ def hold_forecast(path):
         hold(all(kind.kind in "if" for kind in table.dtypes) or table.empty, f"{path}: {table.dtypes}")
 
 
+def hold_full(path):
+    """65,536 scans are too many for a season, and each has its line."""
+    wired = bytes.fromhex("070000000100080a1ee803 0100160004 00000200")
+    path.write_bytes(wired + (bytes.fromhex("0a000300") + bytes.fromhex("1c25") * 5) * 65_536)
+    status, text, said = common.run("forecast", "--season", path)
+    hold(status == 1 and text == "" and said.startswith("forecast: no season, 22: "), f"./forecast of 65,536 scans says {said}")
+    status, text, _ = common.run("forecast", "--scans", path)
+    table = pandas.read_csv(io.StringIO(text))
+    hold(status == 0 and table.shape == (65_536, 6) and (table.iloc[:, 2:] == 354 * 9_500 + 30_000).all(axis=None), "65,536 scans are not printed")
+
+
 def hold_reasons():
     """Why each record of tests/play is refused, in words, as it is stored."""
     text = ""
@@ -90,13 +101,14 @@ def hold_reasons():
 
 def most_memory(records):
     """The most memory, in KB, that a table of so many records from a pipe takes, and how many rows it has."""
-    made = f"import sys; sys.stdout.buffer.write(bytes.fromhex('0700000001000800000000'))\nfor _ in range({records // 100}): sys.stdout.buffer.write(b'\\0\\0\\2\\0' * 100)"
+    made = ("import sys\nout = sys.stdout.buffer\nout.write(bytes.fromhex('0700000001000800000000'))\n"
+            f"for _ in range({records // 100}): out.write(b'\\0\\0\\2\\0' * 100)")
     with subprocess.Popen(["/usr/bin/python3", "-c", made], stdout=subprocess.PIPE) as source:
         counted = ("import resource, subprocess, sys\n"
                    "with subprocess.Popen(['./play', '--csv'], stdout=subprocess.PIPE) as play: rows = sum(1 for _ in play.stdout)\n"
                    "print(resource.getrusage(resource.RUSAGE_CHILDREN).ru_maxrss, rows - 1)")
-        said = subprocess.run(["/usr/bin/python3", "-c", counted], cwd=ROOT, stdin=source.stdout, stdout=subprocess.PIPE, check=True, text=True).stdout
-    return map(int, said.split())
+        done = subprocess.run(["/usr/bin/python3", "-c", counted], cwd=ROOT, stdin=source.stdout, stdout=subprocess.PIPE, check=True)
+    return map(int, done.stdout.split())
 
 
 def hold_memory():
@@ -113,6 +125,8 @@ with tempfile.TemporaryDirectory() as name:
     for path in [*common.SCENES, *common.streams(pathlib.Path(name), range(12))]:
         records += hold_run(path)
         scenes += 1
+    hold_full(pathlib.Path(name) / "full.bytes")
 for path in ROOT.glob("examples/*.hex"):
     hold_forecast(path)
-print(f"tests/tables: {scenes} streams, {records} records, are read by pandas as the model has them; 1,000,000 records more take {hold_memory()} KB more")
+print(f"tests/tables: {scenes} streams, {records} records, are read by pandas as the model has them;"
+      f" 1,000,000 records more take {hold_memory()} KB more")

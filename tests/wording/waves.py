@@ -85,4 +85,5 @@ with tempfile.TemporaryDirectory() as name:
         more = hold_wave(path, room / "run.vcd")
         samples, found = samples + more[0], found + more[1]
 hold(found > 1_000, "too little is on the bus")
-print(f"tests/waves: sigrok reads {len(paths)} waves of {samples} samples, and its I2C decoder finds {found} starts, stops and bytes as they were sent")
+print(f"tests/waves: sigrok reads {len(paths)} waves of {samples} samples,"
+      f" and its I2C decoder finds {found} starts, stops and bytes as they were sent")

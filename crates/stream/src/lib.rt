@@ -359,12 +359,11 @@ pub fn run_from(mut chip: Chip, mut fresh: bool, s: &[u8], out: &mut [u8]) -> Le
     'stream: while at < s.len() {
         while at < s.len() {
             let rest = &s[at..];
-            let setup = chip.setup;
-            let read = records::read_rest(rest, setup.part);
+            let read = records::read_rest(rest, chip.setup.part);
             let Read::Record { event, next } = read else {
                 note(out, n, entry_of(unanswered(number_of(read)), face));
                 n = n + 1;
-                at = at + passed(read, setup.part, rest.len());
+                at = at + passed(read, chip.setup.part, rest.len());
                 continue 'stream;
             };
             let open = fresh;
@@ -372,7 +371,7 @@ pub fn run_from(mut chip: Chip, mut fresh: bool, s: &[u8], out: &mut [u8]) -> Le
             let mut answer = unanswered(0);
             match work_of(chip.normal, event) {
                 Work::Scans => {
-                    chip = chip.scanned(counted(setup.part, event, rest, next));
+                    chip = chip.scanned(counted(chip.setup.part, event, rest, next));
                     face = face_of(chip);
                 }
                 Work::Ticks(value) => {
@@ -397,7 +396,7 @@ pub fn run_from(mut chip: Chip, mut fresh: bool, s: &[u8], out: &mut [u8]) -> Le
                 }
                 Work::Other => {
                     let step = act(chip, open, event, rest, next);
-                    fresh = (setup.part == 0) | (open & (step.number != 0));
+                    fresh = (chip.setup.part == 0) | (open & (step.number != 0));
                     chip = step.chip;
                     answer = answer_of(step);
                     face = face_of(chip);

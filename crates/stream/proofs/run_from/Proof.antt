@@ -78,7 +78,7 @@ stream-again c = (going (c .before), c .before .loop .inv .1)
 -- a turn in the loop, of any kind: r is the place after a record was read
 module _ (r : tie.After-read-rest Inv-loop μ-loop Inv-stream μ-stream) where
   abbrev head : tie.At-loop Inv-loop μ-loop Inv-stream μ-stream
-  head = r .before .before .before .before
+  head = r .before .before .before
 
   abbrev chip : Chip
   chip = head .loop .chip
@@ -96,7 +96,7 @@ module _ (r : tie.After-read-rest Inv-loop μ-loop Inv-stream μ-stream) where
   rest = take (length (stream head) - at) (drop at (stream head))
 
   more : at < length (stream head)
-  more = r .before .before .before .loop-test .taken
+  more = r .before .before .loop-test .taken
 
   slow : 4 * n ≤ at
   slow = going head .slow more
