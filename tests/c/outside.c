@@ -528,7 +528,7 @@ static int value_kept(size_t written)
     return 1;
 }
 
-static void cell_is(uint8_t gain_code, uint8_t offset, uint16_t count, uint8_t number, int64_t microvolts)
+static void cell_is(uint32_t gain_code, uint8_t offset, uint32_t count, uint8_t number, int64_t microvolts)
 {
     lend();
     CHECK(toralinge_cell_microvolts(gain_code, offset, count, &lent.value.wide) == number);
@@ -536,7 +536,7 @@ static void cell_is(uint8_t gain_code, uint8_t offset, uint16_t count, uint8_t n
     CHECK(number != 0 || lent.value.wide == microvolts);
 }
 
-static void ohms_are(uint16_t count, uint8_t number, uint64_t ohms)
+static void ohms_are(uint32_t count, uint8_t number, uint64_t ohms)
 {
     lend();
     CHECK(toralinge_thermistor_ohms(count, &lent.value.ohms) == number);
@@ -544,7 +544,7 @@ static void ohms_are(uint16_t count, uint8_t number, uint64_t ohms)
     CHECK(number != 0 || lent.value.ohms == ohms);
 }
 
-static void die_is(uint16_t count, uint8_t number, int64_t half_thousandths)
+static void die_is(uint32_t count, uint8_t number, int64_t half_thousandths)
 {
     lend();
     CHECK(toralinge_die_temperature(count, &lent.value.wide) == number);
@@ -552,9 +552,9 @@ static void die_is(uint16_t count, uint8_t number, int64_t half_thousandths)
     CHECK(number != 0 || lent.value.wide == half_thousandths);
 }
 
-typedef uint8_t code_call(uint8_t gain_code, uint8_t offset, int64_t wanted, uint8_t *code);
+typedef uint8_t code_call(uint32_t gain_code, uint8_t offset, int64_t wanted, uint8_t *code);
 
-static void code_is(code_call *call, uint8_t gain_code, uint8_t offset, int64_t wanted, uint8_t number, uint8_t code)
+static void code_is(code_call *call, uint32_t gain_code, uint8_t offset, int64_t wanted, uint8_t number, uint8_t code)
 {
     lend();
     CHECK(call(gain_code, offset, wanted, &lent.value.code) == number);
@@ -572,16 +572,20 @@ static void conversions(void)
     cell_is(31, 0, 16384, TORALINGE_BAD_VALUE, 0);
     cell_is(32, 0, 0, TORALINGE_BAD_SETUP, 0);
     cell_is(255, 255, 65535, TORALINGE_BAD_SETUP, 0);
+    cell_is(266, 30, 6144, TORALINGE_BAD_SETUP, 0); /* 10 with 256 more */
+    cell_is(10, 30, 65536 + 6144, TORALINGE_BAD_VALUE, 0);
     ohms_are(0, 0, 0);
     ohms_are(4661, 0, 9999);
     ohms_are(9322, 0, 2749990000u);
     ohms_are(9323, TORALINGE_OPEN_SENSOR, 0);
     ohms_are(16384, TORALINGE_OPEN_SENSOR, 0);
     ohms_are(65535, TORALINGE_OPEN_SENSOR, 0);
+    ohms_are(65536, TORALINGE_OPEN_SENSOR, 0);
     die_is(0, 0, 680000);
     die_is(3842, 0, -34);
     die_is(16383, 0, 680000 - 177 * 16383);
     die_is(16384, TORALINGE_BAD_VALUE, 0);
+    die_is(65536, TORALINGE_BAD_VALUE, 0);
     code_is(toralinge_over_voltage_code, 10, 30, 4300000, 0, 0xF1);
     code_is(toralinge_under_voltage_code, 10, 30, 2500000, 0, 0xB4);
     code_is(toralinge_over_voltage_code, 0, 0, 344 * 8192 - 1, TORALINGE_NO_CODE, 0);
@@ -593,6 +597,7 @@ static void conversions(void)
     code_is(toralinge_under_voltage_code, 31, 0x80, 375 * 8192 - 128001, 0, 0xFF);
     code_is(toralinge_under_voltage_code, 31, 0x80, 375 * 8192 - 128000, TORALINGE_NO_CODE, 0);
     code_is(toralinge_over_voltage_code, 32, 30, 4300000, TORALINGE_BAD_SETUP, 0);
+    code_is(toralinge_over_voltage_code, 266, 30, 4300000, TORALINGE_BAD_SETUP, 0);
     code_is(toralinge_under_voltage_code, 32, 30, INT64_MAX, TORALINGE_BAD_SETUP, 0);
     code_is(toralinge_over_voltage_code, 0, 0x80, INT64_MAX, TORALINGE_NO_CODE, 0);
     code_is(toralinge_over_voltage_code, 0, 0x7F, INT64_MIN, TORALINGE_NO_CODE, 0);
