@@ -9,13 +9,13 @@ use Rattle.values_c.proofs.toralinge_cell_microvolts.Statement.{stateme
 use Rattle.values_c.proofs.toralinge_cell_microvolts.Tie as tie
 
 returns : tie.Need-returns
-returns c = 
+returns c =
     let v = c .before .before .before .before in
     let a = v .before .before .before .args in
     gives-as saidVoltage (v .cell-voltage .ensures ∙ cell-wide (a .gain-code) (a .offset) (a .count) (v .before .before .code-of .ensures) (v .before .count-of .ensures)) (c .before .before .answer .given .1) refl (result (c .struct-told .given .0 .1) refl)
 
 returns-2 : tie.Need-returns-2
-returns-2 c = 
+returns-2 c =
     let v = c .before .before .before .before in
     let a = v .before .before .before .args in
     gives-as saidVoltage (v .cell-voltage .ensures ∙ cell-wide (a .gain-code) (a .offset) (a .count) (v .before .before .code-of .ensures) (v .before .count-of .ensures)) (c .before .before .answer2 .given .1) (c .number-of .ensures) refl

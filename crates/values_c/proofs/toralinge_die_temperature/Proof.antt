@@ -10,7 +10,7 @@ use Rattle.values_c.proofs.toralinge_die_temperature.Statement.{stateme
 use Rattle.values_c.proofs.toralinge_die_temperature.Tie as tie
 
 returns : tie.Need-returns
-returns c = 
+returns c =
     let v = c .before .before .before in
     let a = v .before .before .args in
     let z = c .before .answer .given .0 .0 in
@@ -18,7 +18,7 @@ returns c =
     gives-as saidDie (v .die-temperature .ensures ∙ die-wide (a .count) (v .before .count-of .ensures)) (c .before .answer .given .1) refl e
 
 returns-2 : tie.Need-returns-2
-returns-2 c = 
+returns-2 c =
     let v = c .before .before .before .before in
     let a = v .before .before .args in
     gives-as saidDie (v .die-temperature .ensures ∙ die-wide (a .count) (v .before .count-of .ensures)) (c .before .before .answer2 .given .1) (c .number-of .ensures) refl

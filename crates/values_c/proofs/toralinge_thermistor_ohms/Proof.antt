@@ -8,13 +8,13 @@ use Rattle.values_c.proofs.toralinge_thermistor_ohms.Statement.{stateme
 use Rattle.values_c.proofs.toralinge_thermistor_ohms.Tie as tie
 
 returns : tie.Need-returns
-returns c = 
+returns c =
     let v = c .before .before .before in
     let a = v .before .before .args in
     gives-as saidOhms (v .thermistor-ohms .ensures ∙ ohms-wide (a .count) (v .before .count-of .ensures)) (c .before .answer .given .1) refl refl
 
 returns-2 : tie.Need-returns-2
-returns-2 c = 
+returns-2 c =
     let v = c .before .before .before .before in
     let a = v .before .before .args in
     gives-as saidOhms (v .thermistor-ohms .ensures ∙ ohms-wide (a .count) (v .before .count-of .ensures)) (c .before .before .answer2 .given .1) (c .number-of .ensures) refl

@@ -11,14 +11,14 @@ use Rattle.values_c.proofs.toralinge_under_voltage_code.Statement.{stat
 use Rattle.values_c.proofs.toralinge_under_voltage_code.Tie as tie
 
 returns : tie.Need-returns
-returns c = 
+returns c =
     let v = c .before .before .before in
     let s = v .before .before in
     let a = s .args in
     gives-as saidCode (v .under-voltage-code .ensures ∙ threshold-wide 4096 8191 (a .gain-code) (a .offset) _ (v .before .code-of .ensures) ∙ ap (underSaid (a .gain-code) (a .offset)) (toZ-ofZ {w = w64} (s .fits .wanted))) (c .before .answer .given .1) refl refl
 
 returns-2 : tie.Need-returns-2
-returns-2 c = 
+returns-2 c =
     let v = c .before .before .before .before in
     let s = v .before .before in
     let a = s .args in
