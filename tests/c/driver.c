@@ -8,7 +8,7 @@
 #define MOST_SHOWN 20
 #define PLAIN_BEGINNING 16384
 
-static unsigned long streams, records, plainly, asked, rows, conversions, differences;
+static unsigned long streams, records, plainly, pieces, asked, rows, conversions, differences;
 
 static void get(void *to, size_t size)
 {
@@ -135,6 +135,55 @@ static void play_into(const struct expected *want, size_t room)
         guarded_free(&exact);
     }
     guarded_free(&buffer);
+}
+
+/* The place after some records from a place on: the end where there are fewer, or one is cut short. */
+static size_t after_records(const struct expected *want, size_t at, size_t many)
+{
+    while (many > 0 && at < want->length) {
+        size_t left = want->length - at;
+        size_t whole = left < 4 ? left : 4 + want->stream[at] + 256 * (size_t)want->stream[at + 1];
+        at += whole < left ? whole : left;
+        many--;
+    }
+    return at;
+}
+
+/* Fed to a kept chip in pieces of 1 to 9 records, the entries are the model's; the bytes behind the chip stay. */
+static void feed_in_pieces(const struct expected *want)
+{
+    size_t at = 0, done = 0, full = TORALINGE_ENTRY_SIZE * want->count;
+    uint64_t chance = want->number * 2654435761u + 1;
+    struct guarded chip = guarded_new(TORALINGE_CHIP_SIZE);
+    uint8_t *entries = malloc(full + 1);
+    if (entries == NULL) {
+        fprintf(stderr, "driver: out of memory\n");
+        exit(2);
+    }
+    memset(chip.room, 0, TORALINGE_CHIP_SIZE);
+    while (at < want->length && done < want->count) {
+        size_t end = after_records(want, at, 1 + (size_t)(chance >> 33) % 9);
+        int64_t given = toralinge_feed(chip.room, TORALINGE_CHIP_SIZE, want->stream + at, end - at,
+                                       entries + TORALINGE_ENTRY_SIZE * done, full - TORALINGE_ENTRY_SIZE * done);
+        if (given < 0) {
+            differs(want, "a piece is not fed");
+            break;
+        }
+        pieces++;
+        done += (size_t)given;
+        at = end;
+        chance = chance * 6364136223846793005u + 1442695040888963407u;
+    }
+    if (done != want->count) {
+        differs(want, "count of entries in pieces");
+    } else {
+        compare_entries(want, entries);
+    }
+    if (!guarded_kept(&chip, TORALINGE_CHIP_SIZE)) {
+        differs(want, "a byte is written behind the chip");
+    }
+    free(entries);
+    guarded_free(&chip);
 }
 
 /* The engine that keeps no runs: the model's entries, or -24; then what a longer stream begins with, as the other engine plays it. */
@@ -316,6 +365,7 @@ static void stream_block(void)
     }
     memcpy(lent, want.stream, want.length);
     play_into(&want, full);
+    feed_in_pieces(&want);
     play_into(&want, full + 1 + (size_t)(want.number % 90));
     if (full > 0) {
         play_into(&want, full - 1);
@@ -410,8 +460,8 @@ int main(void)
             return 2;
         }
     }
-    printf("driver: %lu streams, %lu records (%lu of them plainly), %lu questions, %lu rows of seasons and %lu conversions compared, %lu "
+    printf("driver: %lu streams, %lu records (%lu of them plainly), %lu pieces, %lu questions, %lu rows of seasons and %lu conversions compared, %lu "
            "differences\n",
-           streams, records, plainly, asked, rows, conversions, differences);
+           streams, records, plainly, pieces, asked, rows, conversions, differences);
     return differences == 0 ? 0 : 1;
 }
