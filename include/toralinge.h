@@ -5,7 +5,8 @@
  * program that wants less links with single ones, in any number: `rt staticlib NAME` writes
  * target/staticlib/libNAME.a, where NAME is i2c_lists for toralinge_list, services_stream for
  * toralinge_bleed and toralinge_reply, season_stream for toralinge_season, season_scans for toralinge_scans, plain for
- * toralinge_plain, feed for toralinge_feed, chip_c for the other calls on a kept chip, and stream for all other calls.
+ * toralinge_plain, feed for toralinge_feed, chip_c for the other calls on a kept chip, record_c for toralinge_record and
+ * toralinge_values, season_c for reports that are kept, values_c for the conversions and the CRC, and stream for all other calls.
  *
  * The rules stand in docs/CHIP.md, each with a number. Every call here answers for every value of its
  * arguments, and is proved to answer exactly as these rules say.
@@ -178,7 +179,14 @@ enum { TORALINGE_CELLBAL_SIZE = 3, TORALINGE_REPLY_SIZE = 3 };
  */
 enum { TORALINGE_CHIP_SIZE = 96 };
 
-/* The nine numbers of a cell in toralinge_season, in this order. */
+/*
+ * A season's report that lives between calls is kept as this many bytes, likewise: byte 0 is the layout's version, 1, then
+ * whose scans they are (part, gain code, offset, cells, floor), how many, and the columns. All zero: none yet. Two reports
+ * that differ have different bytes, and bytes that are no report are refused with 26.
+ */
+enum { TORALINGE_REPORT_SIZE = 309 };
+
+/* The nine numbers of a cell in toralinge_season and toralinge_rows, in this order. */
 enum toralinge_season_place {
     TORALINGE_SEASON_SCANS = 0,          /* how many scans were stored */
     TORALINGE_SEASON_PRESENT = 1,        /* 1, or 0 where there are no scans and so no least and no greatest */
@@ -389,6 +397,88 @@ int64_t toralinge_season(const uint8_t *stream, size_t length, int64_t *rows, si
  *   5         room is below seventeen for each scan
  */
 int64_t toralinge_scans(const uint8_t *stream, size_t length, int64_t *rows, size_t room);
+
+/*
+ * Adds to a kept report the scans that feeding these records to this chip stores. The chip is only looked at: call this
+ * before toralinge_feed with the same chip and records. (In libseason_c.a, as the two calls after it.)
+ *
+ * report, size        the report, and how many bytes may stand there; those after TORALINGE_REPORT_SIZE keep their values
+ * chip, chip_size     the chip, as toralinge_feed takes it; zeroed bytes are no chip yet, so that a zeroed report and a
+ *                     zeroed chip give the report of a whole stream
+ * records, length     the records
+ *
+ * Returns how many scans the report then has. A report that has no scans becomes one of the chip that stands after the
+ * records; where none stands it stays as it was.
+ *
+ * Otherwise changes nothing and returns minus a number, looked at in this order:
+ *   5         size is below TORALINGE_REPORT_SIZE
+ *   26        the bytes are no report, or no chip
+ *   22        these records alone store more than 65,535 scans
+ *   9         neither a report nor, after the records, a chip
+ *   25        the report is another chip's: part, gain code, offset, cells or floor differ
+ *   22        the two together have more than 65,535 scans
+ */
+int64_t toralinge_grow(uint8_t *report, size_t size, const uint8_t *chip, size_t chip_size, const uint8_t *records,
+                       size_t length);
+
+/*
+ * Joins the reports of two consecutive parts of a season: it is the report of the whole, with the second part's scan
+ * numbers moved on. The parts stay as they are; whole may be neither of them.
+ *
+ * Returns 0 and writes TORALINGE_REPORT_SIZE bytes from whole[0] on, or writes nothing and returns, looked at in this
+ * order: 26 (a part is no report, or none yet), 25 (the parts are of different chips: part, gain code, offset, cells or
+ * floor differ), 22 (together they have more than 65,535 scans), 5 (room is below TORALINGE_REPORT_SIZE).
+ */
+uint8_t toralinge_join(const uint8_t *first, size_t first_size, const uint8_t *second, size_t second_size,
+                       uint8_t *whole, size_t room);
+
+/*
+ * The rows of a kept report, as toralinge_season gives those of a stream: nine numbers for each cell of the pack.
+ *
+ * Returns how many cells there are, or writes nothing and returns minus a number, looked at in this order: 26 (the bytes
+ * are no report), 9 (none yet), 5 (room is below nine for each cell).
+ */
+int64_t toralinge_rows(const uint8_t *report, size_t size, int64_t *rows, size_t room);
+
+/*
+ * Writes the record of a kind from its values, so that nobody packs bytes by hand. (In librecord_c.a, as the call after it.)
+ *
+ * kind            one of enum toralinge_kind
+ * part            1 to 3: the part of the chip that the record is for; any for SETUP, which has its own
+ * values, count   SETUP: part, CRC, address, gain code, offset as a byte (0 to 255), floor. SCAN: a count for each input of
+ *                 the part. TEMP: one for each five. COUNT, SENSE, OUT, WIRING (cells): one value. LOAD, LEVEL, IN: 0 or 1.
+ *                 TICKS, SOAK: value and repeat number. Others: none
+ * record, room    where the record goes, and how many bytes may stand there; 34 are always enough
+ *
+ * Returns how many bytes the record has, from record[0] on; every later byte keeps its value.
+ *
+ * Otherwise writes nothing and returns minus a number, looked at in this order:
+ *   1         part is not 1 to 3 (for SETUP: its own is a value)
+ *   2         the kind is unknown, or has another number of values
+ *   1, 13, 3  a value is out of range: of SETUP, of WIRING (no row for so many cells), of another kind
+ *   5         the record does not fit into room
+ */
+int64_t toralinge_record(uint32_t kind, uint32_t part, const int64_t *values, size_t count, uint8_t *record, size_t room);
+
+/*
+ * The record that bytes begin with, back as its kind and values: what toralinge_record wrote is read back as it was given,
+ * whatever bytes follow.
+ *
+ * record, length  the bytes; those after the record are not looked at
+ * part            of the chip that stands, 1 to 3; 0 where none does yet, and SETUP alone is taken
+ * kind            where the kind goes
+ * values, room    where the values go, and how many int64_t may stand there; 15 are always enough
+ *
+ * Returns how many values there are, writes *kind and the values from values[0] on; every later number keeps its value.
+ *
+ * Otherwise writes nothing and returns minus a number, looked at in this order:
+ *   1         part is above 3
+ *   9         the record is cut short
+ *   2         the kind is unknown or wrong where it stands, or its payload has another length
+ *   1, 3      a value is out of range: of SETUP, of another kind
+ *   5         the values do not fit into room
+ */
+int64_t toralinge_values(const uint8_t *record, size_t length, uint32_t part, uint32_t *kind, int64_t *values, size_t room);
 
 /*
  * Cell voltage in microvolts: (344 + gain_code) x count + 1,000 x offset, offset as a signed byte.

@@ -97,7 +97,7 @@ want_library() {
 }
 
 # The crates whose calls include/toralinge.h declares.
-calls=(stream values_c i2c_lists services_stream season_stream season_scans plain chip_c feed record_c)
+calls=(stream values_c i2c_lists services_stream season_stream season_scans plain chip_c feed record_c season_c)
 
 # want_calls: all of them in one library, with those of c/ that are text; sets `library`.
 want_calls() {
