@@ -361,7 +361,7 @@ uint8_t toralinge_bleed(const uint8_t *stream, size_t length, uint32_t margin, u
  *   11        the value does not fit its word
  *   5         room is below 3
  */
-uint8_t toralinge_reply(const uint8_t *stream, size_t length, uint8_t command, uint32_t milliohms, uint8_t *reply,
+uint8_t toralinge_reply(const uint8_t *stream, size_t length, uint32_t command, uint32_t milliohms, uint8_t *reply,
                         size_t room);
 
 /*

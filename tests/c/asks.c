@@ -15,7 +15,7 @@ static struct stream awake(uint8_t part)
 }
 
 /* Command 0 asks for cells to bleed. */
-static uint8_t ask(const struct stream *of, uint8_t command, uint32_t with, uint8_t *out, size_t room)
+static uint8_t ask(const struct stream *of, uint32_t command, uint32_t with, uint8_t *out, size_t room)
 {
     if (command == 0) {
         return toralinge_bleed(of->bytes, of->length, with, out, room);
@@ -24,7 +24,7 @@ static uint8_t ask(const struct stream *of, uint8_t command, uint32_t with, uint
 }
 
 /* The three bytes stand at the start and nothing else is touched; in any smaller room nothing is. */
-static void given(const struct stream *of, uint8_t command, uint32_t with, uint8_t one, uint8_t two, uint8_t three)
+static void given(const struct stream *of, uint32_t command, uint32_t with, uint8_t one, uint8_t two, uint8_t three)
 {
     size_t room;
     for (room = 0; room <= TORALINGE_REPLY_SIZE + 8; room++) {
@@ -42,7 +42,7 @@ static void given(const struct stream *of, uint8_t command, uint32_t with, uint8
 }
 
 /* Nothing is written, whatever the room. */
-static void refused(const struct stream *of, uint8_t command, uint32_t with, uint8_t number)
+static void refused(const struct stream *of, uint32_t command, uint32_t with, uint8_t number)
 {
     size_t room;
     for (room = 0; room <= TORALINGE_REPLY_SIZE + 2; room++) {
@@ -146,6 +146,7 @@ static void order(void)
     refused(&made, 0, 65537, TORALINGE_BAD_VALUE); /* 1 with 65,536 more */
     refused(&made, 0, 1, TORALINGE_ASLEEP);
     refused(&made, 0x07, 0, TORALINGE_BAD_COMMAND); /* 23 before 3 */
+    refused(&made, 0x109, 10, TORALINGE_BAD_COMMAND); /* and no command is cut to a byte */
     refused(&made, 0x0B, 1, TORALINGE_BAD_COMMAND);
     refused(&made, TORALINGE_TEMPERATURE, 0, TORALINGE_BAD_VALUE);
     refused(&made, TORALINGE_VOLTAGE, 101, TORALINGE_BAD_VALUE);

@@ -1,25 +1,22 @@
 -- What is asked of a kept chip, by whether one stands. Assumes nothing.
 use mathlib.Core.Path.{_≡_, refl, sym, ap, _∙_, subst}
-use mathlib.Core.Bool.{Bool, true, false, cond, not, _&&_, _||_, and-false}
+use mathlib.Core.Bool.{Bool, true, false, cond, and-false}
 use mathlib.Core.List.{List}
 use Prim.Native.Nat.{ℕ, _<_, _≤_}
 use native.Mathlib.Omega.{arith}
-use lib.Dec.{eqb, ltb, leb}
-use lib.IntN.{ℤ}
+use lib.Dec.{eqb, ltb}
 use lib.Ieee.{Float}
 use lib.ListN.{length, set}
-use borrow.Author.Tests.{eq-eqb, ne-eqb, lt-ltb, le-ltb, ltb-true, ltb-false, lt-leb}
+use borrow.Author.Tests.{eq-eqb, ne-eqb, lt-ltb, le-ltb, ltb-false, lt-leb}
 use Rattle.values.specs.Values.{Said, gives, refuses, numberSaid, valueSaid}
 use Rattle.values.specs.declared.Reading.{Reading}
 use Rattle.registers.specs.Read.{readAt}
 use Rattle.wiring.specs.Rows.{packCells}
 use Rattle.wiring.specs.Numbered.{few-cells}
-use Rattle.smart_battery.specs.declared.Pack.{Pack}
-use Rattle.smart_battery.specs.Words.{known, wordFor}
 use Rattle.chip.specs.declared.Chip.{Chip}
 use Rattle.chip.specs.Outward.{voltageSaid, Reads, forecastNumber}
 use Rattle.values_c.specs.Convert.{Gives}
-use Rattle.stream.specs.Forecast.{Doubles, Contents}
+use Rattle.stream.specs.Forecast.{Contents}
 use Rattle.stream.proofs.Doubles.{four}
 use Rattle.chip_bytes.specs.declared.Kept.{Kept}
 use Rattle.chip_bytes.specs.Layout.{keptOf}
@@ -74,11 +71,6 @@ cell-by n c false e =
 
 pub cell-wide : (n : ℕ) (c : Chip) {m : ℕ} → m ≡ byteOr n → voltageSaid m c ≡ voltageSaid n c
 cell-wide n c e = ap (λ (m : ℕ). voltageSaid m c) e ∙ cell-by n c (ltb n 256) refl
-
-pub command-large : (p : Pack) (total : ℤ) (command r : ℕ) → 255 < command → wordFor p total command r ≡ refuses 23
-unfolding wordFor
-command-large p total command r h =
-    simp (ne-eqb command 0x08 (λ e. omega arith), ne-eqb command 0x09 (λ e. omega arith), ne-eqb command 0x0A (λ e. omega arith))
 
 -- ── forecasting's doubles ──
 of-kept : (b : List ℕ) (d : Kept) → d ≡ keptOf b → (old new : List Float) (r : ℕ) → r ≡ readNumber d (length old)

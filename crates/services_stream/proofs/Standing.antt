@@ -3,6 +3,8 @@ use mathlib.Core.Path.{_≡_, refl, sym, ap, _∙_, subst}
 use mathlib.Core.List.{List}
 use Prim.Native.Nat.{ℕ, _<_, _≤_}
 use lib.ListN.{length, set}
+use lib.IntN.{ℤ}
+use native.Mathlib.Omega.{arith}
 use borrow.Author.Tests.{eq-eqb, ne-eqb, lt-ltb, le-ltb}
 use Rattle.values.specs.Values.{Said, gives, refuses}
 use Rattle.records.specs.Record.{readOf, numberOf}
@@ -10,6 +12,8 @@ use Rattle.chip.specs.declared.Chip.{Chip}
 use Rattle.bleed.specs.declared.Choice.{Choice}
 use Rattle.smart_battery.specs.Laws.{three-set}
 use Rattle.smart_battery.specs.Reply.{Replied}
+use Rattle.smart_battery.specs.Words.{wordFor}
+use Rattle.smart_battery.specs.declared.Pack.{Pack}
 use Rattle.stream.specs.Stream.{lastChip}
 use Rattle.stream.specs.AskedLaws.{standingSaid, standing-none, standing-some}
 use Rattle.services_stream.specs.Asks.{Bled}
@@ -43,3 +47,9 @@ put-short old p h = record { answer = rw (lt-ltb (length old) 3 h); contents = r
 
 pub put-long : (old : List ℕ) (p : Choice) → 3 ≤ length old → Bled (gives p) old 0 (set (set (set old 0 (p .one)) 1 (p .two)) 2 (p .three))
 put-long old p h = record { answer = rw (le-ltb (length old) 3 h); contents = rw (le-ltb (length old) 3 h) (three-set old (p .one) (p .two) (p .three) h) }
+
+-- no command is above a byte
+pub command-large : (p : Pack) (total : ℤ) (command r : ℕ) → 255 < command → wordFor p total command r ≡ refuses 23
+unfolding wordFor
+command-large p total command r h =
+    simp (ne-eqb command 0x08 (λ e. omega arith), ne-eqb command 0x09 (λ e. omega arith), ne-eqb command 0x0A (λ e. omega arith))

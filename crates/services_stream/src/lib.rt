@@ -42,7 +42,7 @@ pub extern "C" fn toralinge_bleed(stream: &[u8], margin: u32, cellbal: &mut [u8]
 #[no_mangle]
 pub extern "C" fn toralinge_reply(
     stream: &[u8],
-    command: u8,
+    command: u32,
     milliohms: u32,
     reply: &mut [u8],
 ) -> u8
@@ -53,5 +53,8 @@ pub extern "C" fn toralinge_reply(
     if setup.part == 0 {
         return records::first_number(stream);
     }
-    services_chip::reply(chip, command, milliohms, reply)
+    if 255 < command {
+        return number::BAD_COMMAND;
+    }
+    services_chip::reply(chip, command as u8, milliohms, reply)
 }

@@ -1,9 +1,10 @@
--- By whether a chip stands, then as it replies.
+-- By whether a chip stands, then by the command, then as it replies.
+use mathlib.Core.Path.{_∙_}
 use borrow.Author.Needs.{needs}
 use Rattle.chip.specs.declared.Chip.{Chip}
 use Rattle.smart_battery.specs.Words.{wordFor}
 use Rattle.services_chip.specs.Care.{packOf, linkedTotal}
-use Rattle.services_stream.proofs.Standing.{none-said, some-said, replied-as, replied-refused}
+use Rattle.services_stream.proofs.Standing.{none-said, some-said, replied-as, replied-refused, command-large}
 use Rattle.services_stream.proofs.toralinge_reply.Statement.{statement}
 use Rattle.services_stream.proofs.toralinge_reply.Tie as tie
 
@@ -15,7 +16,16 @@ returns c =
 
 returns-2 : tie.Need-returns-2
 returns-2 c =
-    let i = c .before .before .before .before in
+    let i = c .before in
+    let k = i .before .before .before in
+    let a = k .before .before .before .args in
+    replied-refused (a .command) (a .reply .now) _
+    (some-said (a .stream .now) (k .last-chip .result) (k .last-chip .ensures) (λ (d : Chip). wordFor (packOf d) (linkedTotal d) (a .command) (a .milliohms)) (i .if1 .left)
+    ∙ command-large _ _ (a .command) (a .milliohms) (c .if2 .taken))
+
+returns-3 : tie.Need-returns-3
+returns-3 c =
+    let i = c .before .before .before .before .before in
     let k = i .before .before .before in
     let a = k .before .before .before .args in
     replied-as (a .command) (a .reply .now) _ _
@@ -23,4 +33,13 @@ returns-2 c =
 
 pub toralinge-reply-spec : {M : Type 1} → statement M
 toralinge-reply-spec =
-    tie.close (tie.spec (λ c κs. search needs) (λ c κs. search needs) returns (λ c κs. search needs) (λ c. search needs) returns-2)
+    tie.close
+    (tie.spec
+    (λ c κs. search needs)
+    (λ c κs. search needs)
+    returns
+    returns-2
+    (λ c. search needs)
+    (λ c κs. search needs)
+    (λ c. search needs)
+    returns-3)
