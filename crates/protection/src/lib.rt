@@ -120,7 +120,7 @@ pub fn under_line(s: Settings) -> u16
     UV_START + TRIP_STEP * s.uv_trip as u16
 }
 
-fn scd_limit(protect1: u8) -> u32
+pub fn scd_limit(protect1: u8) -> u32
     ensures { λ r. ⌜ r ≡ getD (scdLimit (bit protect1 128)) (protect1 % 8) 0 ⌝ }
 {
     let code = (protect1 % 8) as usize;
@@ -133,7 +133,7 @@ fn scd_limit(protect1: u8) -> u32
     }
 }
 
-fn ocd_limit(protect1: u8, protect2: u8) -> u32
+pub fn ocd_limit(protect1: u8, protect2: u8) -> u32
     ensures { λ r. ⌜ r ≡ getD (ocdLimit (bit protect1 128)) (protect2 % 16) 0 ⌝ }
 {
     let code = (protect2 % 16) as usize;
@@ -146,7 +146,7 @@ fn ocd_limit(protect1: u8, protect2: u8) -> u32
     }
 }
 
-fn ov_scans(s: Settings) -> u16
+pub fn ov_scans(s: Settings) -> u16
     ensures { λ r. ⌜ r ≡ rule Ov s .need ⌝ }
 {
     if s.delay_dis {
@@ -155,7 +155,7 @@ fn ov_scans(s: Settings) -> u16
     OV_SCANS[(s.protect3 / 16 % 4) as usize]
 }
 
-fn uv_scans(s: Settings) -> u16
+pub fn uv_scans(s: Settings) -> u16
     ensures { λ r. ⌜ r ≡ rule Uv s .need ⌝ }
 {
     if s.delay_dis {
@@ -164,7 +164,7 @@ fn uv_scans(s: Settings) -> u16
     UV_SCANS[(s.protect3 / 64 % 4) as usize]
 }
 
-fn scd_ticks(s: Settings) -> u16
+pub fn scd_ticks(s: Settings) -> u16
     ensures { λ r. ⌜ r ≡ rule Scd s .need ⌝ }
 {
     if s.delay_dis {
@@ -184,7 +184,7 @@ fn ticks_at(code: u8) -> u16
     OCD_TICKS_SECOND << (code - 1)
 }
 
-fn ocd_ticks(s: Settings) -> u16
+pub fn ocd_ticks(s: Settings) -> u16
     ensures { λ r. ⌜ r ≡ rule Ocd s .need ⌝ }
 {
     if s.delay_dis {
