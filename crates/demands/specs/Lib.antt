@@ -17,6 +17,9 @@ pub mod Twice
 pub mod Spoiled
 pub mod Opened
 pub mod NoTrace
+pub mod Dropped
+pub mod DroppedLaws
+pub mod DroppedBytesLaws
 pub mod Wired
 pub mod Streams
 pub mod Answered

@@ -56,6 +56,24 @@ view (OnBus (Out b)) = sends b
 view (OnBus (In nack)) = takes nack
 view (Level l) = chips (Level l) refl
 
+-- ── the CRC is refused ──
+pub denied : (v t x : ℕ) (base : Chip) → Calmed base → base .normal ≡ true
+    → eqb (stepped (OnBus (Out x)) (phased (Checking v t) base) .byte) 1 ≡ true
+    → stepped (OnBus (Out x)) (phased (Checking v t) base) ≡ answered 1 (phased Idle base)
+unfolding outed checked
+denied v t x base m a h =
+    bus-is (Out x) (phased (Checking v t) base) a
+    ∙ by (eqb x t) (subst (λ s. eqb (s .byte) 1 ≡ true) (bus-is (Out x) (phased (Checking v t) base) a) h)
+  where
+    by : (w : Bool)
+        → eqb (sent (cond w (stores (base .bus .line .pointer) v) (refuses (base .bus .line .pointer)))
+        (phased (Checking v t) base) .byte) 1 ≡ true
+        → settled
+        (sent (cond w (stores (base .bus .line .pointer) v) (refuses (base .bus .line .pointer))) (phased (Checking v t) base))
+        ≡ answered 1 (phased Idle base)
+    by true h = absurd (true≢false (sym h))
+    by false h = settles (answered 1 (phased Idle base)) m
+
 module _ (es : List Event) (ih : Claim es) where
   -- nothing spoiled is open: an OUT that opens such a byte is dropped, and the remaining stream's chip stays writing
   whole-out : (b : ℕ) (c : Chip) (x : Bool) → Calmed c → spoiled (next (OnBus (Out b)) c) es ≡ x
@@ -126,25 +144,6 @@ module _ (es : List Event) (ih : Claim es) where
   not-open : {A : Type 0} (c : Chip) → waiting c ≡ false → spoiled c es ≡ true → A
   not-open c w h = absurd (true≢false (sym (spoiled-waits c es h) ∙ w))
 
-  -- the CRC is refused
-  denied : (v t x : ℕ) (base : Chip) → Calmed base → base .normal ≡ true → spoiled (phased (Checking v t) base) (OnBus (Out x) ∷ es) ≡ true
-      → stepped (OnBus (Out x)) (phased (Checking v t) base) ≡ answered 1 (phased Idle base)
-  unfolding outed checked
-  denied v t x base m a h =
-      bus-is (Out x) (phased (Checking v t) base) a
-      ∙ by (eqb x t)
-      (subst (λ s. eqb (s .byte) 1 ≡ true) (bus-is (Out x) (phased (Checking v t) base) a)
-      (spoiled-out (phased (Checking v t) base) x es h))
-    where
-      by : (w : Bool)
-          → eqb (sent (cond w (stores (base .bus .line .pointer) v) (refuses (base .bus .line .pointer)))
-          (phased (Checking v t) base) .byte) 1 ≡ true
-          → settled
-          (sent (cond w (stores (base .bus .line .pointer) v) (refuses (base .bus .line .pointer))) (phased (Checking v t) base))
-          ≡ answered 1 (phased Idle base)
-      by true h = absurd (true≢false (sym h))
-      by false h = settles (answered 1 (phased Idle base)) m
-
   open-step : (e : Event) (v t s : ℕ) (base : Chip) → Calmed base → base .normal ≡ true
       → spoiled (phased (Checking v t) base) (e ∷ es) ≡ true → View e
       → played (phased (Writing s) base) (remains Open (phased (Checking v t) base) (e ∷ es))
@@ -170,7 +169,8 @@ module _ (es : List Event) (ih : Claim es) where
       (subst (λ x. spoiled (x .chip) es ≡ true) (bus-still Stop (phased (Checking v t) base) a m)
       (spoiled-on (phased (Checking v t) base) (OnBus Stop) es refl h))
   open-step e v t s base m a h (sends x) =
-      subst (λ z. Goes Lost (phased (Writing s) base) z) (sym (denied v t x base m a h)) (ih .lost s base m a)
+      subst (λ z. Goes Lost (phased (Writing s) base) z) (sym (denied v t x base m a (spoiled-out (phased (Checking v t) base) x es h)))
+      (ih .lost s base m a)
   open-step e v t s base m a h (takes nack) =
       subst₂ (λ x y. Stays Open (OnBus (In nack)) x y) (sym (bus-still (In nack) (phased (Checking v t) base) a m))
       (sym (bus-still (In nack) (phased (Writing s) base) a m))

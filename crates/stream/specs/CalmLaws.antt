@@ -27,7 +27,7 @@ wires-calm true true u c k = ship-calm u
 wires-calm true false u c k = k
 wires-calm false t u c k = k
 
-acted-calm : (o : Bool) (e : Event) (n : Counts) (c : Chip) → Calmed c → Calmed (acted o e n c .chip)
+pub acted-calm : (o : Bool) (e : Event) (n : Counts) (c : Chip) → Calmed c → Calmed (acted o e n c .chip)
 unfolding acted wiredWith
 acted-calm o (Setup v) n c k = ship-calm v
 acted-calm o Por n c k = calm-as (meantOf (c .setup) Por n) c k
