@@ -2,3 +2,4 @@ pub mod Stored
 pub mod AskedLaws
 pub mod HeardLaws
 pub mod CodedLaws
+pub mod PartsLaws
