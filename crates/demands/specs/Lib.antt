@@ -23,6 +23,8 @@ pub mod DroppedBytesLaws
 pub mod Wired
 pub mod Streams
 pub mod Answered
+pub mod Older
+pub mod OlderLaws
 pub mod Latches
 pub mod Between
 pub mod Level
