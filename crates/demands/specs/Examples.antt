@@ -2,7 +2,7 @@
 use mathlib.Core.Path.{_≡_, refl}
 use mathlib.Core.Bool.{Bool, true, false}
 use mathlib.Core.List.{List, [], _∷_, _++_}
-use Prim.Native.Nat.{ℕ}
+use Prim.Native.Nat.{ℕ, zero, suc, _-_}
 use lib.ListN.{replicate}
 use lib.IntN.{pos, negℤ}
 use Rattle.crc8.specs.Crc.{byteOn}
@@ -133,6 +133,23 @@ lines =
 pub lines-hold : found lines ≡ wanted lines
 unfolding stepped happened fits rule over under beyond
 lines-hold = refl
+
+-- ── a part of fifteen cells: a cell outside is judged at every place, by itself ──
+abbrev largest : Setup
+largest = record { part = 3; crc = false; address = 8; «gain_code» = 10; offset = 30; floor = 1000; cells = 0 }
+
+abbrev cellAt : ℕ → ℕ → Event
+cellAt k x = Scan (replicate k 9000 ++ x ∷ replicate (14 - k) 9000)
+
+-- SYS_STAT after four scans with x at the k-th place, for each of the first n places
+abbrev pub atEach : ℕ → ℕ → List ℕ
+atEach zero x = []
+atEach (suc k) x = status largest (Boot ∷ times 4 (cellAt k x)) ∷ atEach k x
+
+pub places-hold : (atEach 15 10953 ≡ replicate 15 4) × (atEach 15 10952 ≡ replicate 15 0) × (atEach 15 6511 ≡ replicate 15 8)
+    × (atEach 15 6512 ≡ replicate 15 0) × (atEach 15 999 ≡ replicate 15 0)
+unfolding stepped happened fits rule over under
+places-hold = (refl, refl, refl, refl, refl)
 
 -- what ends a run, and what does not: three over scans, the named events, then one over scan
 abbrev between : List Event → List Event
