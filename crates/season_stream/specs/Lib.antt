@@ -2,3 +2,4 @@ pub mod Scans
 pub mod SettledLaws
 pub mod Rows
 pub mod DoneLaws
+pub mod EventsLaws
