@@ -10,6 +10,7 @@ use borrow.Author.Tests.{lt-ltb, le-ltb, lt-leb, ne-eqb, ltb-true, ltb-false, le
 use Rattle.i2c_words.specs.Grammar.{charW, charR, charAt, charX, char0, Digit, digit, Hex, short, long, Count, ones, tens, Spells}
 use Rattle.i2c_words.specs.Grammar.{writes, reads, byte}
 use Rattle.i2c_words.specs.Reader.{digitOf, valueOf, oneOf, joinedOf, twoOf, messageFor, messageOf, wordBy, wordOf}
+use Rattle.i2c_words.specs.Reader.{wordNumber}
 use Rattle.i2c_words.specs.DigitsLaws.{digit-read, one-read, value-read, digit-spelt, one-spelt, value-spelt}
 use Rattle.i2c_words.specs.declared.Word.{Word}
 use Rattle.i2c_words.specs.declared.Word.the-variants.{Write, Read, Byte, Unknown}
@@ -194,3 +195,21 @@ word-read (byte a v h) = let r : (valueOf a ≡ v) × (v < 256) =
 -- ── two readings of a word are the same ──
 pub word-unique : {w : List ℕ} {x y : Word} → Spells w x → Spells w y → x ≡ y
 word-unique s t = sym (word-read s) ∙ word-read t
+
+-- ── a word has number 0 just where it spells something ──
+spells-done : {w : List ℕ} {x : Word} → Spells w x → wordNumber x ≡ 0
+spells-done (writes n a k v c h) = refl
+spells-done (reads n a k v c h) = refl
+spells-done (byte a v h) = refl
+
+pub spelt-done : {w : List ℕ} {x : Word} → Spells w x → wordNumber (wordOf w) ≡ 0
+spelt-done s = ap wordNumber (word-read s) ∙ spells-done s
+
+pub done-spelt : (w : List ℕ) → wordNumber (wordOf w) ≡ 0 → Spells w (wordOf w)
+done-spelt w h = by (wordOf w) h (word-spelt w)
+  where
+    by : (x : Word) → wordNumber x ≡ 0 → Spelt w x → Spells w x
+    by (Write k v) h s = s
+    by (Read k v) h s = s
+    by (Byte v) h s = s
+    by Unknown h s = absurd (omega (arith, h))

@@ -72,3 +72,10 @@ wordBy byte w = cond (ltb byte 256) (Byte byte) (messageOf w)
 
 abbrev pub wordOf : List ℕ → Word
 wordOf w = wordBy (valueOf w) w
+
+-- the number of each answer (CHIP O4): a word that is none makes its line no list (CHIP N20)
+abbrev pub wordNumber : Word → ℕ
+wordNumber (Write count address) = 0
+wordNumber (Read count address) = 0
+wordNumber (Byte v) = 0
+wordNumber Unknown = 20

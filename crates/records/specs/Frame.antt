@@ -15,3 +15,8 @@ frameOf r = cond (ltb (length r) 4) 0 (cond (ltb (length r - 4) (le16 r 0)) 0 (4
 -- the payload's length, the kind, and the place after the payload
 unfoldable pub headerOf : List ℕ → Framed
 headerOf r = cond (ltb (length r) 4) Short (cond (ltb (length r - 4) (le16 r 0)) Short (Header (le16 r 2) (4 + le16 r 0)))
+
+-- the number of each answer (CHIP O4)
+abbrev pub framedNumber : Framed → ℕ
+framedNumber (Header kind next) = 0
+framedNumber Short = 9

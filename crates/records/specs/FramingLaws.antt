@@ -13,7 +13,7 @@ use Rattle.events.specs.declared.Checked.the-variants.{Good, Bad}
 use Rattle.events.specs.declared.Event.{Event}
 use Rattle.events.specs.declared.Event.the-variants.{Setup}
 use Rattle.records.specs.Numbers.{le16}
-use Rattle.records.specs.Frame.{headerOf}
+use Rattle.records.specs.Frame.{headerOf, framedNumber}
 use Rattle.records.specs.Record.{checkedIn, setupIn, payloadOf, asRead, readOf, numberOf}
 use Rattle.records.specs.declared.Framed.{Framed}
 use Rattle.records.specs.declared.Framed.the-variants.{Header, Short}
@@ -77,6 +77,10 @@ short-reads part r = by (ltb (length r) 4) (ltb (length r - 4) (le16 r 0))
     by true t e = refl
     by false true e = refl
     by false false e = let z : Header (le16 r 2) (4 + le16 r 0) ≡ Short = e in absurd (short-header (le16 r 2) (4 + le16 r 0) (sym z))
+
+-- ── the header's number is its record's: 9 where either is cut short, whatever the part ──
+pub framed-number : (part : ℕ) (r : List ℕ) → headerOf r ≡ Short → numberOf (readOf part r) ≡ framedNumber (headerOf r)
+framed-number part r h = ap numberOf (short-reads part r h) ∙ sym (ap framedNumber h)
 
 -- ── the number of a stream's first record ──
 abbrev pub payloadNumber : Payload → ℕ
