@@ -1,3 +1,4 @@
 pub mod Address
 pub mod Weight
 pub mod Number
+pub mod ApartLaws
