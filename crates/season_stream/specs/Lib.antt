@@ -3,3 +3,4 @@ pub mod SettledLaws
 pub mod Rows
 pub mod DoneLaws
 pub mod EventsLaws
+pub mod BegunLaws
