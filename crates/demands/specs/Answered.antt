@@ -16,9 +16,10 @@ use Rattle.records.specs.Record.{readOf}
 use Rattle.chip.specs.declared.Chip.{Chip}
 use Rattle.chip.specs.declared.Stepped.{Stepped}
 use Rattle.chip.specs.Chip.{numbered, inShip}
-use Rattle.stream.specs.declared.Entry.{Entry}
-use Rattle.stream.specs.Stream.{Turn, entryOf, turned, turnOf, runs, entries}
-use Rattle.stream.specs.StandingLaws.{first-entries}
+use Rattle.turn.specs.declared.Entry.{Entry}
+use Rattle.turn.specs.Turn.{Turn, entryOf, turned, turnOf}
+use Rattle.turn.specs.Entries.{runs, entries}
+use Rattle.turn.specs.StandingLaws.{first-entries}
 use Rattle.demands.specs.Demand.{chip}
 use Rattle.demands.specs.Wired.{celled}
 use Rattle.demands.specs.Streams.{restAfter, heardNext, answerTo, freshNext, cellsNext, Untouched, Took, took, turn-is, goes-on}

@@ -22,8 +22,8 @@ use Rattle.registers.specs.Fault.{bitOf}
 use Rattle.registers.specs.Read.{statusByte}
 use Rattle.chip.specs.declared.Chip.{Chip}
 use Rattle.chip.specs.Outward.{pinsOf}
-use Rattle.stream.specs.declared.Entry.{Entry}
-use Rattle.stream.specs.Stream.{entries, entryBytes, bytesOf}
+use Rattle.turn.specs.declared.Entry.{Entry}
+use Rattle.turn.specs.Entries.{entries, entryBytes, bytesOf}
 use Rattle.demands.specs.Demand.{judges, chip, shown, up, alerted, Accepted, Due}
 use Rattle.demands.specs.Theorem.{rising}
 use Rattle.demands.specs.Streams.{shows, toShow, histories, entries-show}

@@ -19,8 +19,8 @@ use Rattle.bus.specs.declared.Phase.the-variants.{Idle}
 use Rattle.chip.specs.declared.Chip.{Chip}
 use Rattle.chip.specs.declared.Stepped.{Stepped}
 use Rattle.chip.specs.Chip.{numbered}
-use Rattle.stream.specs.declared.Entry.{Entry}
-use Rattle.stream.specs.Stream.{entryOf, acted}
+use Rattle.turn.specs.declared.Entry.{Entry}
+use Rattle.turn.specs.Turn.{entryOf, acted}
 use Rattle.demands.specs.Spoiled.{Sort, Chips, Resets, Frames, Sends, Takes, isSends, waiting, Mode, drops, then, phased}
 
 -- ── one record, of a chip that stands ──

@@ -30,13 +30,14 @@ use Rattle.chip.specs.declared.Chip.{Chip}
 use Rattle.chip.specs.declared.Stepped.{Stepped}
 use Rattle.chip.specs.Chip.{inShip, storedAt, happened, stepped}
 use Rattle.chip.specs.Calm.{ship-calm}
-use Rattle.stream.specs.declared.Entry.{Entry}
-use Rattle.stream.specs.Stream.{Turn, none, entryOf, bornOf, acted, turn, turned, turnOf, runs, stands, stays, entriesFrom, chipFrom}
-use Rattle.stream.specs.Stream.{freshFrom, entries}
-use Rattle.stream.specs.StandingLaws.{setup-turn}
-use Rattle.stream.specs.CountedLaws.{Framed, framed}
-use Rattle.stream.specs.PrefixLaws.{Whole-records, none-left, one-more}
-use Rattle.stream.specs.Pieces.{In-two, fed-in-two, joined}
+use Rattle.turn.specs.declared.Entry.{Entry}
+use Rattle.turn.specs.Turn.{Turn, none, entryOf, bornOf, acted, turn, turned, turnOf}
+use Rattle.turn.specs.Entries.{runs, stands, stays, entriesFrom, chipFrom}
+use Rattle.turn.specs.Entries.{freshFrom, entries}
+use Rattle.turn.specs.StandingLaws.{setup-turn}
+use Rattle.turn.specs.CountedLaws.{Framed, framed}
+use Rattle.turn.specs.PrefixLaws.{Whole-records, none-left, one-more}
+use Rattle.turn.specs.Pieces.{In-two, fed-in-two, joined}
 use Rattle.demands.specs.Spoiled.{Whole, phased}
 use Rattle.demands.specs.Streams.{a-part}
 use Rattle.demands.specs.Dropped.{answerIn, freshIn, sortAt, answerAt, freshAt, spoiledAt, stay, picked, Seen, playedAt}

@@ -36,8 +36,8 @@ use Rattle.chip.specs.Chip.{numbered, answered, inShip, sent, onBus, settled, n
 use Rattle.chip.specs.Chip.{steppedBy}
 use Rattle.chip.specs.Calm.{Calmed, ship-calm, settles}
 use Rattle.chip.specs.RepeatLaws.{ticking-mode}
-use Rattle.stream.specs.Stream.{wiredAs, acted}
-use Rattle.stream.specs.CalmLaws.{acted-calm}
+use Rattle.turn.specs.Turn.{wiredAs, acted}
+use Rattle.turn.specs.CalmLaws.{acted-calm}
 use Rattle.demands.specs.Refused.{refused-as}
 use Rattle.demands.specs.Spoiled.{Sort, Chips, Resets, Frames, Sends, Takes, sortOf, isSends, waiting, Mode, Whole, Open, Lost}
 use Rattle.demands.specs.Spoiled.{drops, then, phased}

@@ -13,8 +13,8 @@ use Rattle.records.specs.Numbers.{le16}
 use Rattle.records.specs.Frame.{frameOf}
 use Rattle.records.specs.Record.{payloadOf, asRead}
 use Rattle.chip.specs.declared.Chip.{Chip}
-use Rattle.stream.specs.declared.Entry.{Entry}
-use Rattle.stream.specs.Stream.{Turn, none, turned}
+use Rattle.turn.specs.declared.Entry.{Entry}
+use Rattle.turn.specs.Turn.{Turn, none, turned}
 
 -- by the newest kind that it knows
 module _ (newest : ℕ) where

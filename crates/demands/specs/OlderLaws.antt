@@ -15,9 +15,10 @@ use Rattle.records.specs.Numbers.{le16}
 use Rattle.records.specs.Frame.{frameOf}
 use Rattle.records.specs.Record.{payloadOf, asRead, readOf}
 use Rattle.chip.specs.declared.Chip.{Chip}
-use Rattle.stream.specs.declared.Entry.{Entry}
-use Rattle.stream.specs.Stream.{Turn, none, turned, turnOf, runs, entries}
-use Rattle.stream.specs.CountedLaws.{Framed, framed}
+use Rattle.turn.specs.declared.Entry.{Entry}
+use Rattle.turn.specs.Turn.{Turn, none, turned, turnOf}
+use Rattle.turn.specs.Entries.{runs, entries}
+use Rattle.turn.specs.CountedLaws.{Framed, framed}
 use Rattle.demands.specs.Older.{payloadOlder, readOlder, turnOlder, runsOlder, entriesOlder, knownBy, known}
 
 module _ (newest : ℕ) where

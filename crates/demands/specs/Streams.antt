@@ -26,9 +26,10 @@ use Rattle.chip.specs.declared.Chip.{Chip}
 use Rattle.chip.specs.declared.Stepped.{Stepped}
 use Rattle.chip.specs.Chip.{numbered, inShip, steppedAs}
 use Rattle.chip.specs.Outward.{pinsOf}
-use Rattle.stream.specs.declared.Entry.{Entry}
-use Rattle.stream.specs.Stream.{Turn, entryOf, wiredAs, acted, staysFresh, turned, turnOf, runs, stands, entries, lastChip}
-use Rattle.stream.specs.StandingLaws.{acted-is, good-part, first-stands, first-entries}
+use Rattle.turn.specs.declared.Entry.{Entry}
+use Rattle.turn.specs.Turn.{Turn, entryOf, wiredAs, acted, staysFresh, turned, turnOf}
+use Rattle.turn.specs.Entries.{runs, stands, entries, lastChip}
+use Rattle.turn.specs.StandingLaws.{acted-is, good-part, first-stands, first-entries}
 use Rattle.demands.specs.Demand.{chip}
 use Rattle.demands.specs.History.{setup-is}
 use Rattle.demands.specs.Refused.{refused-as}

@@ -14,10 +14,11 @@ use borrow.Author.Tests.{lt-ltb, le-ltb, lt-leb, le-leb}
 use Rattle.chip.specs.declared.Chip.{Chip}
 use Rattle.chip.specs.Calm.{Calmed}
 use Rattle.stream.specs.declared.Left.{Left}
-use Rattle.stream.specs.Stream.{entriesFrom, chipFrom, freshFrom, Ran}
-use Rattle.stream.specs.Frames.{framesFrom}
-use Rattle.stream.specs.CountedLaws.{entries-from-count}
-use Rattle.stream.proofs.Loop.{entered-all}
+use Rattle.turn.specs.Entries.{entriesFrom, chipFrom, freshFrom}
+use Rattle.stream.specs.Stream.{Ran}
+use Rattle.turn.specs.Frames.{framesFrom}
+use Rattle.turn.specs.CountedLaws.{entries-from-count}
+use Rattle.turn.proofs.Runs.{entered-all}
 use Rattle.chip_bytes.specs.declared.Kept.{Kept}
 use Rattle.chip_bytes.specs.Layout.{noChip, keptAt, keptOf, keptIn}
 use Rattle.chip_bytes.specs.OneLaws.{Stood, kept-stood}

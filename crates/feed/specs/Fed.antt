@@ -6,8 +6,8 @@ use Prim.Native.Nat.{ℕ, _*_}
 use lib.Dec.{leb, ltb}
 use lib.IntN.{ℤ, pos, negsuc}
 use lib.ListN.{length, drop}
-use Rattle.stream.specs.declared.Entry.{Entry}
-use Rattle.stream.specs.Stream.{entriesFrom, chipFrom, freshFrom, bytesOf}
+use Rattle.turn.specs.declared.Entry.{Entry}
+use Rattle.turn.specs.Entries.{entriesFrom, chipFrom, freshFrom, bytesOf}
 use Rattle.chip_bytes.specs.declared.Kept.{Kept}
 use Rattle.chip_bytes.specs.Layout.{keptOf, keptIn}
 

@@ -15,10 +15,12 @@ use Rattle.records.specs.declared.Read.the-variants.{Cut}
 use Rattle.records.specs.Record.{readOf}
 use Rattle.chip.specs.declared.Chip.{Chip}
 use Rattle.chip.specs.Chip.{numbered}
-use Rattle.stream.specs.declared.Entry.{Entry}
-use Rattle.stream.specs.Stream.{none, entryOf, turned, turnOf, runs, stands, stays, entriesFrom, chipFrom, freshFrom, entries}
-use Rattle.stream.specs.Stream.{entryBytes, bytesOf, Played}
-use Rattle.stream.specs.Pieces.{joined, fedEntries, fedChip, fedFresh, Whole-pieces, fed-in-pieces, played-in-pieces}
+use Rattle.turn.specs.declared.Entry.{Entry}
+use Rattle.turn.specs.Turn.{none, entryOf, turned, turnOf}
+use Rattle.turn.specs.Entries.{runs, stands, stays, entriesFrom, chipFrom, freshFrom, entries}
+use Rattle.turn.specs.Entries.{entryBytes, bytesOf}
+use Rattle.stream.specs.Stream.{Played}
+use Rattle.turn.specs.Pieces.{joined, fedEntries, fedChip, fedFresh, Whole-pieces, fed-in-pieces, played-in-pieces}
 use Rattle.chip_bytes.specs.declared.Kept.{Kept}
 use Rattle.chip_bytes.specs.Layout.{keeps, noChip, keptAt, keptOf, keptBytes, keptIn}
 use Rattle.chip_bytes.specs.OneLaws.{Stood, not-yet, trip, kept-length}

@@ -28,9 +28,10 @@ use Rattle.chip.specs.Chip.{numbered, inShip, steppedAs, steppedBy}
 use Rattle.chip.specs.Calm.{Calmed}
 use Rattle.chip.specs.RepeatLaws.{setup-as, calm-as}
 use Rattle.demands.specs.Refused.{refused-as}
-use Rattle.stream.specs.Stream.{Turn, none, bornOf, wiredAs, acted, staysFresh, turned, turnOf, stays, chipFrom, freshFrom}
-use Rattle.stream.specs.Stream.{stands as ends}
-use Rattle.stream.specs.StandingLaws.{acted-is}
+use Rattle.turn.specs.Turn.{Turn, none, bornOf, wiredAs, acted, staysFresh, turned, turnOf}
+use Rattle.turn.specs.Entries.{stays, chipFrom, freshFrom}
+use Rattle.turn.specs.Entries.{stands as ends}
+use Rattle.turn.specs.StandingLaws.{acted-is}
 use Rattle.chip_bytes.specs.Layout.{setupStands, couldStand}
 use Rattle.chip_bytes.specs.TripLaws.{Sized}
 use Rattle.chip_bytes.specs.OneLaws.{Stood, not-yet, stands, part-not}

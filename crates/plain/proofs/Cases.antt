@@ -13,7 +13,7 @@ use Rattle.protection.specs.declared.Runs.{Runs}
 use Rattle.protection.specs.Fault.{noRuns}
 use Rattle.chip.specs.declared.Chip.{Chip}
 use Rattle.chip.specs.Chip.{withRuns}
-use Rattle.stream.specs.Stream.{turnOf}
+use Rattle.turn.specs.Turn.{turnOf}
 use Rattle.turn.specs.declared.Turned.{Turned}
 use Rattle.turn.specs.TurnedLaws.{asTurn}
 use Rattle.plain_back.specs.declared.Streaks.{Streaks}

@@ -14,11 +14,14 @@ use mir.Facts.{toZ-pos}
 use borrow.Author.Tests.{le-leb, lt-leb}
 use Rattle.chip.specs.declared.Chip.{Chip}
 use Rattle.stream.specs.declared.Left.{Left}
-use Rattle.stream.specs.Stream.{none, Turn, turnOf, noted, entered, entries, entriesFrom, Ran}
+use Rattle.turn.specs.Turn.{none, Turn, turnOf}
+use Rattle.turn.specs.Entries.{noted, entered, entries, entriesFrom}
+use Rattle.stream.specs.Stream.{Ran}
 use Rattle.chip.specs.Calm.{ship-calm}
-use Rattle.stream.specs.Frames.{framesOf}
-use Rattle.stream.specs.CountedLaws.{entries-count}
-use Rattle.stream.proofs.Loop.{rest-is, Going, going-none, going-end, going-stop, going-place, going-more, entered-all}
+use Rattle.turn.specs.Frames.{framesOf}
+use Rattle.turn.specs.CountedLaws.{entries-count}
+use Rattle.turn.proofs.Runs.{rest-is, entered-all}
+use Rattle.stream.proofs.Loop.{Going, going-none, going-end, going-stop, going-place, going-more}
 use Rattle.turn.specs.declared.Turned.{Turned}
 use Rattle.turn.specs.TurnedLaws.{asTurn}
 use Rattle.plain_back.specs.Said.{most}

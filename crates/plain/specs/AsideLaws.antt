@@ -28,7 +28,7 @@ use Rattle.chip.specs.declared.Chip.{Chip}
 use Rattle.chip.specs.declared.Stepped.{Stepped}
 use Rattle.chip.specs.Chip.{numbered, withRuns, inShip, accepted, storedAt, stored, onBus, settled, normally, asleep, happened, stepped}
 use Rattle.chip.specs.Chip.{steppedAs}
-use Rattle.stream.specs.Stream.{wiredAs, acted, staysFresh, turn, turned}
+use Rattle.turn.specs.Turn.{wiredAs, acted, staysFresh, turn, turned}
 use Rattle.plain.specs.Plain.{isJudging, asks, forgetful}
 
 -- the chip, and an answer of it, without runs

@@ -18,8 +18,9 @@ use Rattle.protection.specs.Fault.{runsOf, noRuns}
 use Rattle.protection.specs.Rule.{cap}
 use Rattle.chip.specs.declared.Chip.{Chip}
 use Rattle.chip.specs.Chip.{withRuns}
-use Rattle.stream.specs.declared.Entry.{Entry}
-use Rattle.stream.specs.Stream.{none, Turn, turnOf, bytesOf, entered}
+use Rattle.turn.specs.declared.Entry.{Entry}
+use Rattle.turn.specs.Turn.{none, Turn, turnOf}
+use Rattle.turn.specs.Entries.{bytesOf, entered}
 use Rattle.plain_back.specs.declared.Streaks.{Streaks}
 use Rattle.plain_back.specs.Said.{streakOf, streaksIn, most}
 

@@ -32,9 +32,11 @@ use Rattle.protection.specs.Repeat.{ticksJudged, alike, ticks-alike}
 use Rattle.protection.specs.TablesLaws.{run-tells}
 use Rattle.chip.specs.declared.Chip.{Chip}
 use Rattle.chip.specs.Chip.{withRuns}
-use Rattle.stream.specs.declared.Entry.{Entry}
-use Rattle.stream.specs.Stream.{none, Turn, turned, turnOf, runs, stands, entries, lastChip, bytesOf, Played}
-use Rattle.stream.specs.PrefixLaws.{same-frame, turn-inside, turn-past}
+use Rattle.turn.specs.declared.Entry.{Entry}
+use Rattle.turn.specs.Turn.{none, Turn, turned, turnOf}
+use Rattle.turn.specs.Entries.{runs, stands, entries, lastChip, bytesOf}
+use Rattle.stream.specs.Stream.{Played}
+use Rattle.turn.specs.PrefixLaws.{same-frame, turn-inside, turn-past}
 use Rattle.demands.specs.Demand.{chip}
 use Rattle.demands.specs.History.{runs-are}
 use Rattle.demands.specs.Told.{run-of}

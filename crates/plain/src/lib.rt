@@ -113,7 +113,7 @@ fn run(s: &[u8], out: &mut [u8])
     requires { ⌜ length (now s) ≤ 65536 ⌝ }
     ensures { λ _. ⌜ Noted (now (s .entry)) (now (out .entry)) (now (out .exit)) ⌝ }
 {
-    let mut chip = stream::no_chip();
+    let mut chip = turn::no_chip();
     let mut fresh = false;
     let mut at = 0;
     let mut n = 0;

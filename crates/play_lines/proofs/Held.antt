@@ -13,8 +13,9 @@ use mir.Syntax.{w64}
 use mir.Val.{toZ, ofZ, Fits}
 use mir.Facts.{toZ-pos}
 use borrow.Author.Tests.{le-leb}
-use Rattle.stream.specs.declared.Entry.{Entry}
-use Rattle.stream.specs.Stream.{entries, bytesOf, Played}
+use Rattle.turn.specs.declared.Entry.{Entry}
+use Rattle.turn.specs.Entries.{entries, bytesOf}
+use Rattle.stream.specs.Stream.{Played}
 use Rattle.play_lines.specs.Text.{mostInput, Holds}
 use Rattle.play_lines.specs.FewLaws.{entries-few}
 

@@ -10,9 +10,9 @@ use lib.ListN.{length, getD, take, drop, length-drop, drop-of-length-le}
 use lib.Seq.{take-all, drop-cons, drop-drop, getD-append-add, length-sets}
 use borrow.Author.Tests.{eqb-true, eqb-false}
 use Rattle.records.specs.Frame.{frameOf}
-use Rattle.stream.specs.declared.Entry.{Entry}
-use Rattle.stream.specs.Stream.{entryBytes, bytesOf}
-use Rattle.stream.specs.CountedLaws.{frame-place}
+use Rattle.turn.specs.declared.Entry.{Entry}
+use Rattle.turn.specs.Entries.{entryBytes, bytesOf}
+use Rattle.turn.specs.CountedLaws.{frame-place}
 use Rattle.play_lines.specs.Line.{lineOf}
 use Rattle.play_lines.specs.Text.{linesFrom, mostText, entryIn, Holds, Puts}
 use Rattle.play_lines.proofs.Putting.{and-then, as-text, put-none}

@@ -13,10 +13,10 @@ use Rattle.records.specs.Record.{readOf}
 use Rattle.records.specs.ReadingLaws.{Placed, placed}
 use Rattle.records.specs.declared.Read.{Read}
 use Rattle.records.specs.declared.Read.the-variants.{Record, Refused, Cut}
-use Rattle.stream.specs.Stream.{entries}
-use Rattle.stream.specs.Frames.{frames, framesAfter, framesOf}
-use Rattle.stream.specs.CountedLaws.{frame-place, entries-count}
-use Rattle.stream.specs.declared.Entry.{Entry}
+use Rattle.turn.specs.Entries.{entries}
+use Rattle.turn.specs.Frames.{frames, framesAfter, framesOf}
+use Rattle.turn.specs.CountedLaws.{frame-place, entries-count}
+use Rattle.turn.specs.declared.Entry.{Entry}
 use Rattle.play_lines.specs.Line.{leading, decimal, hexByte, kindText, busText, recordText, answerText, stateText, lineOf}
 use Rattle.play_lines.specs.Text.{mostInput, mostText, tooLong, linesFrom, textOf}
 

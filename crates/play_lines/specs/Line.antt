@@ -4,7 +4,7 @@ use mathlib.Core.List.{List, [], _∷_, _++_}
 use mathlib.Core.Bool.{cond}
 use lib.ListN.{length, getD}
 use lib.Dec.{eqb, ltb}
-use Rattle.stream.specs.declared.Entry.{Entry}
+use Rattle.turn.specs.declared.Entry.{Entry}
 
 -- the characters: -, the space, the line's end, and the digits from 0 on
 abbrev pub dash : ℕ

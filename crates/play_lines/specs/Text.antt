@@ -8,8 +8,8 @@ use lib.Seq.{sets}
 use lib.Dec.{ltb, leb}
 use lib.IntN.{ℤ, pos, negsuc}
 use Rattle.records.specs.Frame.{frameOf}
-use Rattle.stream.specs.declared.Entry.{Entry}
-use Rattle.stream.specs.Stream.{entries, bytesOf}
+use Rattle.turn.specs.declared.Entry.{Entry}
+use Rattle.turn.specs.Entries.{entries, bytesOf}
 use Rattle.play_lines.specs.Line.{lineOf}
 
 -- standard input, at most 65,536 bytes

@@ -3,11 +3,11 @@ ghost use mathlib.Core.Path.{_≡_};
 ghost use Prim.Native.Nat.{_+_, _*_, _<_, _≤_};
 ghost use mathlib.Core.List.{[], _∷_};
 ghost use lib.ListN.{length};
-ghost use Rattle.stream.specs.Stream.{entries};
+ghost use Rattle.turn.specs.Entries.{entries};
 ghost use Rattle.play_lines.specs.Line.{leading, decimal, hexGlyph, hexByte, kindText, busText, pinsText, recordText, answerText, stateText, lineOf, dash};
 ghost use Rattle.play_lines.specs.Text.{tooLong, linesFrom, textOf, mostText, Holds, entryIn, Puts, Written};
 use constants::range;
-use stream::Entry;
+use turn::Entry;
 
 // A byte at a place, where the buffer reaches it. Each `put_..` answers the place after what it put: a variable is named for what comes there.
 fn put(out: &mut [u8], at: usize, b: u8) -> usize

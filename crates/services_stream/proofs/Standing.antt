@@ -14,8 +14,8 @@ use Rattle.smart_battery.specs.Laws.{three-set}
 use Rattle.smart_battery.specs.Reply.{Replied}
 use Rattle.smart_battery.specs.Words.{wordFor}
 use Rattle.smart_battery.specs.declared.Pack.{Pack}
-use Rattle.stream.specs.Stream.{lastChip}
-use Rattle.stream.specs.AskedLaws.{standingSaid, standing-none, standing-some}
+use Rattle.turn.specs.Entries.{lastChip}
+use Rattle.turn.specs.AskedLaws.{standingSaid, standing-none, standing-some}
 use Rattle.services_stream.specs.Asks.{Bled}
 
 module _ (s : List ℕ) (c : Chip) (h : c ≡ lastChip s) where

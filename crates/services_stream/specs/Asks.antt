@@ -10,8 +10,8 @@ use Rattle.bleed.specs.declared.Choice.{Choice}
 use Rattle.smart_battery.specs.Words.{wordFor}
 use Rattle.smart_battery.specs.Reply.{repliedNumber}
 use Rattle.services_chip.specs.Care.{proposalSaid, packOf, linkedTotal}
-use Rattle.stream.specs.Stream.{lastChip}
-use Rattle.stream.specs.AskedLaws.{standingSaid}
+use Rattle.turn.specs.Entries.{lastChip}
+use Rattle.turn.specs.AskedLaws.{standingSaid}
 
 -- the proposal, and the Smart Battery word
 abbrev pub proposalAt : List ℕ → ℕ → Said Choice

@@ -17,9 +17,9 @@ use Rattle.smart_battery.specs.Words.{kelvins, millivolts, milliamps, unsignedS
 use Rattle.smart_battery.specs.Reply.{repliedNumber, replyBytes, repliedBytes, Replied}
 use Rattle.chip.specs.declared.Chip.{Chip}
 use Rattle.services_chip.specs.Care.{cellsOf, linkedOf, proposalSaid, packOf, linkedTotal}
-use Rattle.stream.specs.Stream.{lastChip}
-use Rattle.stream.specs.StandingLaws.{no-chip}
-use Rattle.stream.specs.AskedLaws.{standingSaid, standing-none, standing-some}
+use Rattle.turn.specs.Entries.{lastChip}
+use Rattle.turn.specs.StandingLaws.{no-chip}
+use Rattle.turn.specs.AskedLaws.{standingSaid, standing-none, standing-some}
 use Rattle.services_stream.specs.Asks.{proposalAt, wordAt, choiceBytes, bledBytes, Bled}
 
 -- ── no refusal has number 0 ──

@@ -1,7 +1,6 @@
 -- The loop that counts frames: what it has counted and what is left make the count. Assumes nothing.
-use mathlib.Core.Path.{_≡_, refl, ap, sym, _∙_, subst}
-use mathlib.Core.Bool.{Bool, true, false, cond}
-use mathlib.Core.Logic.{_≢_}
+use mathlib.Core.Path.{_≡_, refl, ap, sym, _∙_}
+use mathlib.Core.Bool.{Bool, cond}
 use mathlib.Core.List.{List, [], _∷_}
 use Prim.Native.Nat.{ℕ, zero, suc, _+_, _-_, _*_, _<_, _≤_}
 use native.Mathlib.Omega.{arith}
@@ -10,15 +9,14 @@ use lib.Dec.{eqb}
 use lib.ListN.{length, take, drop, length-drop, drop-of-length-le}
 use lib.Seq.{drop-drop}
 use borrow.Author.Tests.{eq-eqb, ne-eqb}
-use Rattle.events.specs.declared.Event.{Event}
 use Rattle.records.specs.declared.Read.{Read}
 use Rattle.records.specs.declared.Read.the-variants.{Record, Refused, Cut}
 use Rattle.records.specs.Frame.{frameOf}
 use Rattle.records.specs.FramingLaws.{first-refused}
 use Rattle.records.specs.Record.{readOf, numberOf}
-use Rattle.stream.specs.Frames.{frames, framesAfter, framesOf}
-use Rattle.stream.specs.CountedLaws.{Framed, framed, frame-place}
-use Rattle.stream.proofs.Loop.{rest-is}
+use Rattle.turn.specs.Frames.{frames, framesAfter, framesOf}
+use Rattle.turn.specs.CountedLaws.{Framed, framed, frame-place}
+use Rattle.turn.proofs.Runs.{rest-is}
 
 pub record Counting (s : List ℕ) (at n : ℕ) : Type 0 where
   pub whole : frames (length s) s ≡ n + frames (length s - n) (drop at s)

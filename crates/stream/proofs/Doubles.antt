@@ -1,10 +1,10 @@
 -- Forecasting's call by the chip that stands: none, asleep, no room, or a reading. Assumes nothing.
 use mathlib.Core.Path.{_≡_, refl, sym, ap, _∙_, subst}
-use mathlib.Core.Bool.{Bool, true, false, cond, _&&_, not}
+use mathlib.Core.Bool.{Bool, true, false}
 use mathlib.Core.List.{List, [], _∷_}
-use Prim.Native.Nat.{ℕ, _<_, _≤_, suc}
+use Prim.Native.Nat.{ℕ, _<_, _≤_}
 use native.Mathlib.Omega.{arith}
-use lib.Dec.{eqb, ltb}
+use lib.Dec.{eqb}
 use lib.Ieee.{Float}
 use lib.ListN.{length, drop, set}
 use borrow.Author.Tests.{eq-eqb, ne-eqb, lt-ltb, le-ltb}
@@ -19,8 +19,8 @@ use Rattle.chip.proofs.outward.ForecastAnswer.{the-type as answer-type}
 use Rattle.chip.specs.declared.outward.ForecastAnswer.{ForecastAnswer}
 use Rattle.chip.specs.declared.outward.ForecastAnswer.the-variants.{Is, Asleep, NotConnected}
 use Rattle.chip.specs.Outward.{Reads, forecastNumber, saidForecast, Forecasts}
-use Rattle.stream.specs.Stream.{lastChip}
-use Rattle.stream.specs.Forecast.{readingNumber, isGiven, Doubles, Contents, Read4}
+use Rattle.turn.specs.Entries.{lastChip}
+use Rattle.stream.specs.Forecast.{readingNumber, isGiven, Contents, Read4}
 
 -- the call's answer and contents of the chip in hand are those of the chip that stands
 of-chip : (s : List ℕ) (old new : List Float) (r : ℕ) (c : Chip) → c ≡ lastChip s

@@ -26,35 +26,13 @@ use Rattle.chip.specs.declared.Chip.{Chip}
 use Rattle.chip.specs.declared.Stepped.{Stepped}
 use Rattle.chip.specs.Chip.{numbered}
 use Rattle.chip.specs.Calm.{Calmed, ship-calm}
-use Rattle.stream.specs.Stream.{Turn, turn, turnOf, turned, runs, stands, stays, entries, entriesFrom, chipFrom, freshFrom, none, entryOf, entryBytes, bytesOf, noted, entered, passed, Ran, Played}
-use Rattle.stream.specs.CalmLaws.{turn-calm}
+use Rattle.turn.specs.Turn.{Turn, turn, turnOf, turned, none, entryOf}
+use Rattle.turn.specs.Entries.{runs, stands, stays, entries, entriesFrom, chipFrom, freshFrom, entryBytes, bytesOf, noted, entered}
+use Rattle.stream.specs.Stream.{passed, Ran, Played}
+use Rattle.turn.specs.CalmLaws.{turn-calm}
+use Rattle.turn.proofs.Runs.{rest-is, bytes-append, bytes-length, entered-all, runs-cons, runs-nil, stands-cons, stands-nil, stays-cons, stays-nil, turn-next}
 use Rattle.stream.specs.declared.Left.{Left}
-use Rattle.stream.specs.declared.Entry.{Entry}
-
-pub rest-is : (s : List ℕ) (at : ℕ) → take (length s - at) (drop at s) ≡ drop at s
-rest-is s at = take-all (length s - at) (drop at s) (simp length-drop (omega arith))
-
--- five stores, as the code has their places
-pub sets-five : (l : List ℕ) (i a b c d e : ℕ) → set (set (set (set (set l i a) (i + 1) b) (i + 2) c) (i + 3) d) (i + 4) e ≡ sets l i (a ∷ b ∷ c ∷ d ∷ e ∷ [])
-sets-five l i a b c d e =
-    let p : i + 2 ≡ suc (suc i) = omega arith in
-    let q : i + 3 ≡ suc (suc (suc i)) = omega arith in
-    let r : i + 4 ≡ suc (suc (suc (suc i))) = omega arith in
-    rw (add-one i, p, q, r)
-
-bytes-append : (a b : List Entry) → bytesOf (a ++ b) ≡ bytesOf a ++ bytesOf b
-bytes-append [] b = refl
-bytes-append (e ∷ a) b = ap (λ (l : List ℕ). entryBytes e ++ l) (bytes-append a b)
-
-bytes-length : (a : List Entry) → length (bytesOf a) ≡ 5 * length a
-bytes-length [] = refl
-bytes-length (e ∷ a) =
-    let h : length (bytesOf a) ≡ 5 * length a = bytes-length a in
-    omega arith
-
--- entries that all fit
-pub entered-all : (old : List ℕ) (es : List Entry) → length es ≤ length old / 5 → entered old es ≡ bytesOf es ++ drop (5 * length es) old
-entered-all old es h = ap (λ (l : List Entry). bytesOf l ++ drop (5 * length l) old) (take-all (length old / 5) es h)
+use Rattle.turn.specs.declared.Entry.{Entry}
 
 -- entries that were noted in a buffer
 pub record Made (done : List Entry) (old out : List ℕ) (n : ℕ) : Type 0 where
@@ -108,45 +86,6 @@ module _ (done : List Entry) (old out : List ℕ) (n : ℕ) (e : Entry) (m : Mad
 
   pub made-next : Made (done ++ (e ∷ [])) old (noted out n e) (n + 1)
   made-next = record { count = more-length; same = noted-length; wrote = noted-is }
-
--- a turn of a run, where bytes are left
-runs-cons : (f : ℕ) (o : Bool) (chip : Chip) (l : List ℕ) → 0 < length l
-    → runs (suc f) o chip l ≡ turnOf o chip l .entry ∷ cond (turnOf o chip l .last) [] (runs f (turnOf o chip l .fresh) (turnOf o chip l .chip) (drop (turnOf o chip l .next) l))
-runs-cons f o chip [] h = absurd (not-suc-le-zero h)
-runs-cons f o chip (b ∷ l) h = refl
-
-pub stands-cons : (f : ℕ) (o : Bool) (chip : Chip) (l : List ℕ) → 0 < length l
-    → stands (suc f) o chip l ≡ cond (turnOf o chip l .last) (turnOf o chip l .chip) (stands f (turnOf o chip l .fresh) (turnOf o chip l .chip) (drop (turnOf o chip l .next) l))
-stands-cons f o chip [] h = absurd (not-suc-le-zero h)
-stands-cons f o chip (b ∷ l) h = refl
-
-pub stands-nil : (f : ℕ) (o : Bool) (chip : Chip) → stands f o chip [] ≡ chip
-stands-nil zero o chip = refl
-stands-nil (suc f) o chip = refl
-
-stays-cons : (f : ℕ) (o : Bool) (chip : Chip) (l : List ℕ) → 0 < length l
-    → stays (suc f) o chip l ≡ cond (turnOf o chip l .last) (turnOf o chip l .fresh) (stays f (turnOf o chip l .fresh) (turnOf o chip l .chip) (drop (turnOf o chip l .next) l))
-stays-cons f o chip [] h = absurd (not-suc-le-zero h)
-stays-cons f o chip (b ∷ l) h = refl
-
-stays-nil : (f : ℕ) (o : Bool) (chip : Chip) → stays f o chip [] ≡ o
-stays-nil zero o chip = refl
-stays-nil (suc f) o chip = refl
-
-runs-nil : (f : ℕ) (o : Bool) (chip : Chip) → runs f o chip [] ≡ []
-runs-nil zero o chip = refl
-runs-nil (suc f) o chip = refl
-
--- a turn that is not the last goes past a header, and stays within the bytes
-turned-next : (o : Bool) (chip : Chip) (rest : List ℕ) (x : Read) → Placed (length rest) x → turned o chip rest x .last ≡ false
-    → (4 ≤ turned o chip rest x .next) × (turned o chip rest x .next ≤ length rest)
-turned-next o chip rest (Record e n) h l = h
-turned-next o chip rest (Refused k n) h l = h
-turned-next o chip rest Cut h l = let z : _≡_ {A = ℕ} 0 1 = cc in absurd (omega arith)
-
-pub turn-next : (o : Bool) (chip : Chip) (rest : List ℕ) → turnOf o chip rest .last ≡ false → (4 ≤ turnOf o chip rest .next) × (turnOf o chip rest .next ≤ length rest)
-unfolding turnOf
-turn-next o chip rest l = turned-next o chip rest (readOf (chip .setup .part) rest) (placed (chip .setup .part) rest) l
 
 -- no record, but a refusal or a cut
 abbrev pub Skipped : Read → Type 0

@@ -1,15 +1,14 @@
 -- What is known of an event or a record that was taken apart, put to use: a record that was read needs no second check. Assumes nothing.
 use mathlib.Core.Path.{_≡_, refl, ap, sym, _∙_, subst}
 use mathlib.Core.Bool.{Bool, true, false, cond, not, _&&_, _||_}
-use mathlib.Core.Logic.{⊎-elim, _≢_, inl, inr}
+use mathlib.Core.Logic.{⊎-elim, inl, inr}
 use mathlib.Core.List.{List, [], _∷_}
-use Prim.Native.Nat.{ℕ, _-_}
+use Prim.Native.Nat.{ℕ}
 use native.Mathlib.Omega.{arith}
 use lib.Dec.{eqb}
 use borrow.Author.Tests.{eqb-true, eqb-false, eq-eqb}
 use types.Run.{OneOf}
 use denote.Enum.Declared.{tagOf}
-use Rattle.events.specs.declared.Setup.{Setup as SetupValues}
 use Rattle.events.specs.declared.Counts.{Counts}
 use Rattle.events.specs.declared.BusEvent.{BusEvent}
 use Rattle.events.specs.declared.Event.{Event}
@@ -19,11 +18,9 @@ use Rattle.events.proofs.Event.{the-type as event-type}
 use Rattle.records.specs.declared.Read.the-variants.{Record}
 use Rattle.records.specs.Record.{readOf, countsBeside}
 use Rattle.events.specs.Setup.{inputs}
-use lib.ListN.{take, drop}
+use lib.ListN.{take}
 use lib.IntN.{ℤ}
 use Rattle.records.specs.SoundLaws.{IsSetup, first-setup, Meaning, isWires, later-means}
-use Rattle.wiring.specs.declared.Wiring.{Wiring}
-use Rattle.wiring.specs.Rows.{wiredWith}
 use Rattle.chip.specs.declared.Chip.{Chip}
 use Rattle.chip.specs.declared.Stepped.{Stepped}
 use Rattle.protection.specs.declared.Judged.{Judged}
@@ -37,9 +34,11 @@ use Rattle.registers.specs.State.{withOutsideLevel}
 use Rattle.registers.specs.Judging.{pulledByLevel}
 use Rattle.registers.specs.LevelLaws.{Calm}
 use Rattle.chip.specs.Chip.{numbered, withNormal, withBus, withRegisters, withRuns, settled, normally, asleep, happened, stepped, ticked, steppedAs, steppedBy, happenedAs, happenedBy}
-use Rattle.stream.specs.Stream.{unanswered, answerOf, answerHeard, faceOf, entryWith, entryOf, saying, bornOf, wiredAs, wires, acted, staysFresh, turn, turned, turnOf}
+use Rattle.stream.specs.Stream.{unanswered, answerOf, answerHeard, faceOf, entryWith, saying}
+use Rattle.turn.specs.Turn.{entryOf, acted, staysFresh, turn, turned, turnOf}
 use Rattle.stream.specs.declared.Answer.{Answer}
-use Rattle.stream.specs.declared.Entry.{Entry}
+use Rattle.turn.specs.declared.Entry.{Entry}
+use Rattle.turn.proofs.Cases.{Later, other-acted}
 use Rattle.stream.specs.declared.Face.{Face}
 use Rattle.stream.specs.Often.{often, awakeWork, registersMoved}
 use Rattle.stream.specs.declared.Work.the-variants.{Other}
@@ -62,28 +61,7 @@ checked : (c : Chip) (e : Event) (k : Counts) → Meaning (c .setup) e k → hap
 unfolding meantOf
 checked c e k m = counts-by (countsFit (countsWanted (c .setup) e) k) (eventOf (c .setup) e (k .of)) c m
 
--- no SETUP: what a record that was read does is what happens
-abbrev Later : Event → Type 0
-Later e = OneOf (1 ∷ 2 ∷ 3 ∷ 4 ∷ 5 ∷ 6 ∷ 7 ∷ 8 ∷ 9 ∷ 10 ∷ 11 ∷ 12 ∷ 13 ∷ []) (tagOf event-type e)
-
-pub other-acted : (o : Bool) (c : Chip) (e : Event) (k : Counts) → Later e → steppedBy e k c ≡ acted o e k c
-unfolding acted
-other-acted op c (Setup v) k o = absurd (⊎-elim (λ h. omega arith) (⊎-elim (λ h. omega arith) (⊎-elim (λ h. omega arith) (⊎-elim (λ h. omega arith) (⊎-elim (λ h. omega arith) (⊎-elim (λ h. omega arith) (⊎-elim (λ h. omega arith) (⊎-elim (λ h. omega arith) (⊎-elim (λ h. omega arith) (⊎-elim (λ h. omega arith) (⊎-elim (λ h. omega arith) (⊎-elim (λ h. omega arith) (λ h. omega arith)))))))))))) o)
-other-acted op c Por k o = refl
-other-acted op c Boot k o = refl
-other-acted op c Scan k o = refl
-other-acted op c Temp k o = refl
-other-acted op c (Count n) k o = refl
-other-acted op c (Sense v) k o = refl
-other-acted op c Pin k o = refl
-other-acted op c (Load l) k o = refl
-other-acted op c Xready k o = refl
-other-acted op c (OnBus b) k o = refl
-other-acted op c (Level l) k o = refl
-other-acted op c (Ticks v n) k o = refl
-other-acted op c (Soak v n) k o = refl
-other-acted op c (Wires n) k o = absurd (⊎-elim (λ h. omega arith) (⊎-elim (λ h. omega arith) (⊎-elim (λ h. omega arith) (⊎-elim (λ h. omega arith) (⊎-elim (λ h. omega arith) (⊎-elim (λ h. omega arith) (⊎-elim (λ h. omega arith) (⊎-elim (λ h. omega arith) (⊎-elim (λ h. omega arith) (⊎-elim (λ h. omega arith) (⊎-elim (λ h. omega arith) (⊎-elim (λ h. omega arith) (λ h. omega arith)))))))))))) o)
-
+-- no SETUP
 other-first : (e : Event) → IsSetup e → Later e → ⊥
 other-first (Setup v) f o = ⊎-elim (λ h. omega arith) (⊎-elim (λ h. omega arith) (⊎-elim (λ h. omega arith) (⊎-elim (λ h. omega arith) (⊎-elim (λ h. omega arith) (⊎-elim (λ h. omega arith) (⊎-elim (λ h. omega arith) (⊎-elim (λ h. omega arith) (⊎-elim (λ h. omega arith) (⊎-elim (λ h. omega arith) (⊎-elim (λ h. omega arith) (⊎-elim (λ h. omega arith) (λ h. omega arith)))))))))))) o
 other-first Por f o = f
@@ -232,22 +210,6 @@ boots c k h = h ∙ sym (by (c .normal) refl)
     by : (b : Bool) → c .normal ≡ b → cond b (settled (normally Booted c)) (asleep Booted c) ≡ numbered 0 (withNormal true c)
     by true e = settles (numbered 0 c) k ∙ ap (λ (a : Bool). numbered 0 (withNormal a c)) e
     by false e = settles (numbered 0 (withNormal true c)) k
-
--- SETUP
-pub setup-is : {s : Stepped} (op : Bool) (c : Chip) (e : Event) (v : SetupValues) (k : Counts) → e ≡ Setup v → s ≡ bornOf v → s ≡ acted op e k c
-unfolding acted
-setup-is op c e v k q h = h ∙ ap (λ (e : Event). acted op e k c) (sym q)
-
--- a wiring record
-pub wires-is : {s : Stepped} (op : Bool) (c : Chip) (e : Event) (n : ℕ) (k : Counts) → e ≡ Wires n → s ≡ wires op n c → s ≡ acted op e k c
-unfolding acted
-wires-is op c e n k q h = h ∙ ap (λ (e : Event). acted op e k c) (sym q)
-
-pub wires-closed : {s : Stepped} (n : ℕ) (c : Chip) {op : Bool} → op ≡ false → s ≡ numbered 2 c → s ≡ wires op n c
-wires-closed n c e h = h ∙ sym (ap (λ (o : Bool). wires o n c) e)
-
-pub wires-fresh : {s : Stepped} {w w′ : Wiring} (n : ℕ) (c : Chip) {op : Bool} → op ≡ true → w ≡ wiredWith (c .setup) n → w ≡ w′ → s ≡ wiredAs w′ c → s ≡ wires op n c
-wires-fresh n c e h q p = p ∙ ap (λ (w : Wiring). wiredAs w c) (sym q ∙ h) ∙ sym (ap (λ (o : Bool). wires o n c) e)
 
 -- an entry of what was answered and what the chip shows
 pub entry-is : {e : Entry} {a : Answer} {f : Face} (s : Stepped) → e ≡ entryWith a f → a ≡ answerOf s → f ≡ faceOf (s .chip) → e ≡ entryOf s

@@ -1,7 +1,7 @@
 -- CHIP P8: forecasting's one reading of doubles. Assumes nothing.
 use mathlib.Core.Path.{_≡_}
 use mathlib.Core.Bool.{Bool, true, false, cond, _&&_, not}
-use mathlib.Core.List.{List, [], _∷_}
+use mathlib.Core.List.{List, _∷_}
 use Prim.Native.Nat.{ℕ}
 use lib.Dec.{eqb, ltb}
 use lib.Ieee.{Float}
@@ -10,7 +10,7 @@ use Rattle.records.specs.Record.{readOf, numberOf}
 use Rattle.values.specs.declared.Reading.{Reading}
 use Rattle.chip.specs.declared.Chip.{Chip}
 use Rattle.chip.specs.Outward.{Reads, forecastNumber}
-use Rattle.stream.specs.Stream.{lastChip}
+use Rattle.turn.specs.Entries.{lastChip}
 
 -- where no chip stands the first record's number, 9 for an empty stream; 4 asleep, 10 where no cell is connected; then 5 for room below 4
 abbrev pub readingNumber : List ℕ → Chip → ℕ → ℕ

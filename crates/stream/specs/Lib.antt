@@ -1,11 +1,5 @@
 pub mod Stream
 pub mod Often
-pub mod Frames
-pub mod CountedLaws
 pub mod Forecast
-pub mod AskedLaws
-pub mod CalmLaws
-pub mod PrefixLaws
-pub mod Pieces
-pub mod StandingLaws
+pub mod ForecastLaws
 pub mod SameLaws

@@ -10,7 +10,8 @@ use lib.ListN.{length, drop}
 use Rattle.values.specs.SameLaws.{same-reading}
 use Rattle.values.specs.declared.Reading.{Reading}
 use Rattle.chip.specs.declared.Chip.{Chip}
-use Rattle.stream.specs.Stream.{lastChip, Played}
+use Rattle.turn.specs.Entries.{lastChip}
+use Rattle.stream.specs.Stream.{Played}
 use Rattle.stream.specs.Forecast.{isGiven, Contents, Read4}
 
 -- two that equal a third

@@ -1,9 +1,9 @@
 // The chip that a stream leaves.
 ghost use mathlib.Core.Path.{_≡_};
-ghost use Rattle.stream.specs.Stream.{lastChip};
-use crate::no_chip;
+ghost use Rattle.turn.specs.Entries.{lastChip};
 use crate::run_from;
 use chip::Chip;
+use turn::no_chip;
 
 // Plays a whole stream; where no chip stands, part 0 is given.
 pub fn last_chip(stream: &[u8]) -> Chip

@@ -1,10 +1,12 @@
-// A whole stream played on a chip: five bytes for each record.
+// A whole stream played on a chip, five bytes for each record: quick, where `turn` is plain.
 ghost use mathlib.Core.Path.{_≡_};
 ghost use Prim.Native.Nat.{_+_, _*_, _<_, _^_};
 ghost use lib.ListN.{length, take};
 ghost use Rattle.records.specs.Record.{readOf, numberOf, countsBeside};
 ghost use Rattle.records.specs.declared.Read.the-variants.{Record};
-ghost use Rattle.stream.specs.Stream.{none, faceOf, answerOf, unanswered as unansweredSpec, answerHeard, entryWith, bornOf, wires, acted, noted, passed as passedSpec, Ran, Played};
+ghost use Rattle.turn.specs.Turn.{acted};
+ghost use Rattle.stream.specs.Stream.{faceOf, answerOf, unanswered as unansweredSpec, answerHeard, entryWith, passed as passedSpec, Ran, Played};
+ghost use Rattle.turn.specs.Entries.{noted};
 ghost use mathlib.Core.Bool.{true, false, _&&_};
 ghost use Rattle.registers.specs.State.{withOutsideLevel};
 ghost use Rattle.registers.specs.Judging.{pulledByLevel};
@@ -12,7 +14,7 @@ ghost use Rattle.chip.specs.Chip.{numbered as numberedSpec, withNormal, happene
 ghost use Rattle.chip.specs.Calm.{Calmed};
 ghost use Rattle.events.specs.Event.{Temp};
 ghost use Rattle.events.specs.Setup.{groups};
-ghost use Rattle.stream.specs.Frames.{frames, framesOf, framesFrom};
+ghost use Rattle.turn.specs.Frames.{frames, framesOf, framesFrom};
 ghost use Rattle.stream.specs.Often.{often, workOf, registersMoved as registersMovedSpec};
 use bus::Store;
 use chip::Chip;
@@ -21,24 +23,18 @@ use chip::Stepped;
 use constants::number;
 use events::BusEvent;
 use events::Event;
-use events::Setup;
 use records::Read;
 use registers::Registers;
-use wiring::Wiring;
+use turn::Entry;
+use turn::born;
+use turn::no_chip;
+use turn::numbered;
+use turn::rewired;
 
 pub mod end;
 mod forecast;
 
 pub use end::last_chip;
-
-// What a record gives.
-pub struct Entry {
-    pub number: u8,
-    pub flag: u8,
-    pub byte: u8,
-    pub stat: u8,
-    pub pins: u8,
-}
 
 // What a chip shows outside: SYS_STAT and the pins.
 pub struct Face {
@@ -65,21 +61,6 @@ pub enum Work {
     Ticks(i32),
     Hears(BusEvent),
     Other,
-}
-
-// No chip yet: part 0.
-pub fn no_chip() -> Chip
-    ensures { λ r. ⌜ r ≡ none ⌝ }
-{
-    chip::in_ship(Setup {
-        part: 0,
-        crc: false,
-        address: 0,
-        gain_code: 0,
-        offset: 0,
-        floor: 0,
-        cells: 0,
-    })
 }
 
 // ALERT is up where SYS_STAT is not 0.
@@ -296,38 +277,6 @@ fn act(chip: Chip, fresh: bool, event: Event, rest: &[u8], next: usize) -> Stepp
             let counts = counted(setup.part, event, rest, next);
             seldom(chip, event, counts)
         }
-    }
-}
-
-// A wiring record, which is taken straight after SETUP alone.
-pub fn rewired(chip: Chip, fresh: bool, cells: u8) -> Stepped
-    ensures { λ r. ⌜ r ≡ wires fresh cells chip ⌝ }
-{
-    if !fresh {
-        return numbered(2, chip);
-    }
-    match wiring::wire(chip.setup, cells) {
-        Wiring::With(setup) => born(setup),
-        Wiring::NoRow => numbered(13, chip),
-    }
-}
-
-// The chip that SETUP, or a wiring record, makes.
-pub fn born(setup: Setup) -> Stepped
-    ensures { λ r. ⌜ r ≡ bornOf setup ⌝ }
-{
-    numbered(0, chip::in_ship(setup))
-}
-
-// An answer with no bus byte.
-pub fn numbered(number: u8, chip: Chip) -> Stepped
-    ensures { λ r. ⌜ r ≡ numberedSpec number chip ⌝ }
-{
-    Stepped {
-        chip,
-        number,
-        flag: false,
-        byte: 0,
     }
 }
 

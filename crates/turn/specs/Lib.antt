@@ -1,1 +1,10 @@
+pub mod Turn
+pub mod Entries
 pub mod TurnedLaws
+pub mod Frames
+pub mod AskedLaws
+pub mod CalmLaws
+pub mod StandingLaws
+pub mod CountedLaws
+pub mod PrefixLaws
+pub mod Pieces

@@ -1,6 +1,6 @@
 -- What a turn of the code is among the definitions, and that it loses nothing. Assumes nothing.
 use mathlib.Core.Path.{_≡_, ap}
-use Rattle.stream.specs.Stream.{Turn}
+use Rattle.turn.specs.Turn.{Turn}
 use Rattle.turn.specs.declared.Turned.{Turned}
 
 abbrev pub asTurn : Turned → Turn

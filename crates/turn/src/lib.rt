@@ -1,13 +1,26 @@
 // A record on a chip, as one call: plain on purpose, where `stream` is quick.
 ghost use mathlib.Core.Path.{_≡_};
-ghost use Rattle.stream.specs.Stream.{entryOf, acted, turn as turnSpec, turnOf, noted};
+ghost use Rattle.chip.specs.Chip.{numbered as numberedSpec};
+ghost use Rattle.turn.specs.Turn.{none, entryOf, bornOf, wires, acted, turn as turnSpec, turnOf};
+ghost use Rattle.turn.specs.Entries.{noted};
 ghost use Rattle.turn.specs.TurnedLaws.{asTurn};
 use chip::Chip;
 use chip::Stepped;
+use constants::number;
 use events::Counts;
 use events::Event;
+use events::Setup;
 use records::Read;
-use stream::Entry;
+use wiring::Wiring;
+
+// What a record gives.
+pub struct Entry {
+    pub number: u8,
+    pub flag: u8,
+    pub byte: u8,
+    pub stat: u8,
+    pub pins: u8,
+}
 
 // What a record made of a chip: the next chip, whether a wiring record may follow, the entry, the place after the record, and whether it is the last.
 pub struct Turned {
@@ -16,6 +29,53 @@ pub struct Turned {
     pub entry: Entry,
     pub next: usize,
     pub last: bool,
+}
+
+// No chip yet: part 0.
+pub fn no_chip() -> Chip
+    ensures { λ r. ⌜ r ≡ none ⌝ }
+{
+    chip::in_ship(Setup {
+        part: 0,
+        crc: false,
+        address: 0,
+        gain_code: 0,
+        offset: 0,
+        floor: 0,
+        cells: 0,
+    })
+}
+
+// A wiring record, which is taken straight after SETUP alone.
+pub fn rewired(chip: Chip, fresh: bool, cells: u8) -> Stepped
+    ensures { λ r. ⌜ r ≡ wires fresh cells chip ⌝ }
+{
+    if !fresh {
+        return numbered(number::BAD_KIND, chip);
+    }
+    match wiring::wire(chip.setup, cells) {
+        Wiring::With(setup) => born(setup),
+        Wiring::NoRow => numbered(number::NO_ROW, chip),
+    }
+}
+
+// The chip that SETUP, or a wiring record, makes.
+pub fn born(setup: Setup) -> Stepped
+    ensures { λ r. ⌜ r ≡ bornOf setup ⌝ }
+{
+    numbered(number::DONE, chip::in_ship(setup))
+}
+
+// An answer with no bus byte.
+pub fn numbered(number: u8, chip: Chip) -> Stepped
+    ensures { λ r. ⌜ r ≡ numberedSpec number chip ⌝ }
+{
+    Stepped {
+        chip,
+        number,
+        flag: false,
+        byte: 0,
+    }
 }
 
 fn entry_of(s: Stepped) -> Entry
@@ -39,8 +99,8 @@ fn act(chip: Chip, fresh: bool, event: Event, counts: Counts) -> Stepped
     ensures { λ r. ⌜ r ≡ acted fresh event counts chip ⌝ }
 {
     match event {
-        Event::Setup(setup) => stream::born(setup),
-        Event::Wires(cells) => stream::rewired(chip, fresh, cells),
+        Event::Setup(setup) => born(setup),
+        Event::Wires(cells) => rewired(chip, fresh, cells),
         Event::Por
         | Event::Boot
         | Event::Scan
@@ -77,14 +137,14 @@ pub fn turn(chip: Chip, fresh: bool, rest: &[u8]) -> Turned
 {
     let setup = chip.setup;
     match records::read_rest(rest, setup.part) {
-        Read::Cut => told(stream::numbered(9, chip), fresh, 0, true),
+        Read::Cut => told(numbered(number::CUT, chip), fresh, 0, true),
         Read::Refused { number, next } => {
-            told(stream::numbered(number, chip), fresh, next, setup.part == 0)
+            told(numbered(number, chip), fresh, next, setup.part == 0)
         }
         Read::Record { event, next } => {
             let counts = records::counts_in(event, &rest[4..next]);
             let step = act(chip, fresh, event, counts);
-            let stays = (setup.part == 0) | (fresh & (step.number != 0));
+            let stays = (setup.part == 0) | (fresh & (step.number != number::DONE));
             told(step, stays, next, false)
         }
     }

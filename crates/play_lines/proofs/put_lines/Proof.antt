@@ -3,7 +3,7 @@ use Prim.Native.Nat.{_-_}
 use native.Mathlib.Omega.{arith}
 use mathlib.Core.Path.{_∙_}
 use Rattle.play_lines.proofs.Walking.{Walking, walk-none, walk-end, walk-length, walk-place, walk-more, held-entry}
-use Rattle.stream.specs.Stream.{entries}
+use Rattle.turn.specs.Entries.{entries}
 use Rattle.play_lines.proofs.put_lines.Statement.{statement}
 use Rattle.play_lines.proofs.put_lines.Tie as tie
 

@@ -2,8 +2,8 @@
 use mathlib.Core.Path.{_≡_, sym, ap, _∙_}
 use borrow.Author.Needs.{needs}
 use Rattle.services_chip.specs.Care.{saidProposal, proposalSaid}
-use Rattle.stream.specs.Stream.{lastChip}
-use Rattle.stream.specs.AskedLaws.{standingSaid}
+use Rattle.turn.specs.Entries.{lastChip}
+use Rattle.turn.specs.AskedLaws.{standingSaid}
 use Rattle.services_stream.proofs.Standing.{none-said, some-said, bled-as, bled-refused}
 use Rattle.services_stream.proofs.toralinge_bleed.Statement.{statement}
 use Rattle.services_stream.proofs.toralinge_bleed.Tie as tie

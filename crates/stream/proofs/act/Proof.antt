@@ -1,5 +1,6 @@
 -- A record that was read: SETUP, a wiring record, or an event that needs no second check.
-use Rattle.stream.proofs.Steps.{other-is, setup-is, wires-is}
+use Rattle.stream.proofs.Steps.{other-is}
+use Rattle.turn.proofs.Cases.{setup-is, wires-is}
 use borrow.Author.Needs.{needs}
 use Rattle.stream.proofs.act.Statement.{statement}
 use Rattle.stream.proofs.act.Tie as tie

@@ -1,7 +1,6 @@
 -- How many entries records have at the part that stands.
-use mathlib.Core.Path.{_∙_, sym}
 use borrow.Author.Tests.{eq-eqb, ne-eqb}
-use Rattle.stream.specs.Frames.{framesFrom}
+use Rattle.turn.specs.Frames.{framesFrom}
 use borrow.Author.Needs.{needs}
 use Rattle.stream.proofs.count_from.Statement.{statement}
 use Rattle.stream.proofs.count_from.Tie as tie

@@ -3,7 +3,7 @@ use Prim.Native.Nat.{_*_}
 use native.Mathlib.Omega.{arith}
 use lib.ListN.{length-set}
 use borrow.Author.Tests.{le-leb, lt-leb}
-use Rattle.stream.proofs.Loop.{sets-five}
+use Rattle.turn.proofs.Runs.{sets-five}
 use borrow.Author.Needs.{needs}
 use Rattle.stream.proofs.note.Statement.{statement}
 use Rattle.stream.proofs.note.Tie as tie

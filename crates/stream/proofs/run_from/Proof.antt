@@ -23,7 +23,9 @@ use Rattle.chip.specs.Chip.{numbered, withBus, withRuns, happenedBy}
 use Rattle.chip.specs.Parts.{landed}
 use Rattle.chip.specs.Calm.{Calmed, calm-bus}
 use Rattle.stream.specs.Often.{often, workOf, Sorted, sorted}
-use Rattle.stream.specs.Stream.{Turn, turnOf, passed, noted, acted, staysFresh, turn, answerHeard, unanswered, faceOf, entryOf, saying}
+use Rattle.turn.specs.Turn.{Turn, turnOf, acted, staysFresh, turn, entryOf}
+use Rattle.stream.specs.Stream.{passed, unanswered, faceOf, saying}
+use Rattle.turn.specs.Entries.{noted}
 use Rattle.stream.specs.declared.Answer.{Answer}
 use Rattle.stream.specs.declared.Face.{Face}
 use Rattle.stream.specs.declared.Work.{Work}

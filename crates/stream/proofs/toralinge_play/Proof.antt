@@ -1,7 +1,7 @@
 -- The C call: counted by framing, refused whole or run into the buffer.
 use mathlib.Core.Path.{sym, _∙_}
 use native.Mathlib.Omega.{arith}
-use Rattle.stream.specs.CountedLaws.{entries-count}
+use Rattle.turn.specs.CountedLaws.{entries-count}
 use Rattle.stream.proofs.Loop.{none-calm, from-none, played-short, played-all}
 use borrow.Author.Needs.{needs}
 use Rattle.stream.proofs.toralinge_play.Statement.{statement}

@@ -7,7 +7,6 @@ use Rattle.events.specs.declared.BusEvent.{BusEvent}
 use Rattle.events.specs.declared.Event.{Event}
 use Rattle.events.specs.declared.Event.the-variants.{Sense, OnBus}
 use Rattle.stream.specs.Often.{work-normal, work-asleep, work-other}
-use Rattle.stream.specs.declared.Work.{Work}
 use Rattle.stream.specs.declared.Work.the-variants.{Ticks}
 use Rattle.stream.proofs.Steps.{seldom-work}
 use borrow.Author.Needs.{needs}

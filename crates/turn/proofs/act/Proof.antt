@@ -1,6 +1,6 @@
 -- A record that was read: SETUP, a wiring record, or an event of the chip.
 use mathlib.Core.Path.{_∙_}
-use Rattle.stream.proofs.Steps.{other-acted, setup-is, wires-is}
+use Rattle.turn.proofs.Cases.{other-acted, setup-is, wires-is}
 use borrow.Author.Needs.{needs}
 use Rattle.turn.proofs.act.Statement.{statement}
 use Rattle.turn.proofs.act.Tie as tie

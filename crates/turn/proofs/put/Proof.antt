@@ -3,7 +3,7 @@ use Prim.Native.Nat.{_+_, _*_}
 use native.Mathlib.Omega.{arith}
 use lib.ListN.{length, length-set}
 use borrow.Author.Tests.{le-leb, lt-leb}
-use Rattle.stream.proofs.Loop.{sets-five}
+use Rattle.turn.proofs.Runs.{sets-five}
 use borrow.Author.Needs.{needs}
 use Rattle.turn.proofs.put.Statement.{statement}
 use Rattle.turn.proofs.put.Tie as tie

@@ -1,5 +1,5 @@
 -- The chip that a stream leaves, by a run from none.
-use Rattle.stream.specs.Stream.{chipFrom, lastChip}
+use Rattle.turn.specs.Entries.{chipFrom, lastChip}
 use Rattle.stream.proofs.Loop.{none-calm, from-none}
 use borrow.Author.Needs.{needs}
 use Rattle.stream.proofs.end.last_chip.Statement.{statement}

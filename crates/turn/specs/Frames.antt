@@ -1,7 +1,7 @@
 -- How many entries a stream has, by its framing and its first record alone. Assumes nothing.
 use Prim.Native.Nat.{ℕ, zero, suc, _-_}
 use mathlib.Core.List.{List, [], _∷_}
-use mathlib.Core.Bool.{Bool, true, false, cond}
+use mathlib.Core.Bool.{cond}
 use lib.ListN.{length, drop}
 use lib.Dec.{eqb}
 use Rattle.records.specs.Frame.{frameOf}

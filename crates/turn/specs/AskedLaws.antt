@@ -6,7 +6,7 @@ use Prim.Native.Nat.{ℕ}
 use lib.Dec.{eqb}
 use Rattle.values.specs.Values.{Said, refuses}
 use Rattle.records.specs.Record.{readOf, numberOf}
-use Rattle.stream.specs.Stream.{lastChip}
+use Rattle.turn.specs.Entries.{lastChip}
 
 -- where no chip stands the first record's number, 9 for an empty stream, before anything that is asked of a chip
 unfoldable pub standingSaid : {A : Type 0} → List ℕ → Said A → Said A

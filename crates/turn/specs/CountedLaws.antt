@@ -24,9 +24,10 @@ use Rattle.records.specs.Record.{setupGood, payloadOf, asRead, readOf, countsBe
 use Rattle.records.specs.SoundLaws.{IsSetup, first-setup}
 use Rattle.chip.specs.declared.Chip.{Chip}
 use Rattle.chip.specs.Chip.{inShip}
-use Rattle.stream.specs.Stream.{Turn, none, bornOf, acted, staysFresh, turned, turnOf, runs, entries, entriesFrom}
-use Rattle.stream.specs.Frames.{frames, framesAfter, framesOf, framesFrom}
-use Rattle.stream.specs.StandingLaws.{acted-keeps, good-part}
+use Rattle.turn.specs.Turn.{Turn, none, bornOf, acted, staysFresh, turned, turnOf}
+use Rattle.turn.specs.Entries.{runs, entries, entriesFrom}
+use Rattle.turn.specs.Frames.{frames, framesAfter, framesOf, framesFrom}
+use Rattle.turn.specs.StandingLaws.{acted-keeps, good-part}
 
 -- ── the frame of what was read ──
 abbrev pub Framed : List ℕ → Read → Type 0

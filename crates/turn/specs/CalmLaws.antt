@@ -19,7 +19,8 @@ use Rattle.chip.specs.declared.Chip.{Chip}
 use Rattle.chip.specs.Chip.{numbered}
 use Rattle.chip.specs.Calm.{Calmed, ship-calm}
 use Rattle.chip.specs.RepeatLaws.{calm-as}
-use Rattle.stream.specs.Stream.{wiredAs, acted, turned, turnOf, stands, chipFrom}
+use Rattle.turn.specs.Turn.{wiredAs, acted, turned, turnOf}
+use Rattle.turn.specs.Entries.{stands, chipFrom}
 
 -- after a record
 wires-calm : (o t : Bool) (u : SetupValues) (c : Chip) → Calmed c → Calmed (cond o (wiredAs (cond t (With u) NoRow) c) (numbered 2 c) .chip)

@@ -1,10 +1,9 @@
 -- A wiring record: 2 where it is not straight after SETUP, then the row.
-use mathlib.Core.Path.{sym, _∙_}
 use borrow.Author.Tests.{not-true, not-false}
 use borrow.Author.Needs.{needs}
-use Rattle.stream.proofs.Steps.{wires-closed, wires-fresh}
-use Rattle.stream.proofs.rewired.Statement.{statement}
-use Rattle.stream.proofs.rewired.Tie as tie
+use Rattle.turn.proofs.Cases.{wires-closed, wires-fresh}
+use Rattle.turn.proofs.rewired.Statement.{statement}
+use Rattle.turn.proofs.rewired.Tie as tie
 
 returns : tie.Need-returns
 returns c = let a = c .before .before .args in wires-closed (a .cells) (a .chip) {op = a .fresh} (not-true _ (c .before .if1 .taken)) (c .numbered .ensures)

@@ -2,24 +2,24 @@
 use mathlib.Core.Path.{_≡_, refl, ap, sym, _∙_, subst}
 use mathlib.Core.Bool.{Bool, true, false, cond}
 use mathlib.Core.List.{List, [], _∷_, _++_, append-nil}
-use Prim.Native.Nat.{ℕ, zero, suc, _+_, _-_, _*_, _<_, _≤_}
+use Prim.Native.Nat.{ℕ, zero, suc, _+_, _-_, _<_, _≤_}
 use native.Mathlib.Omega.{arith}
 use native.Mathlib.Nat.{zero-add}
 use lib.Dec.{ltb}
-use lib.ListN.{length, getD, take, drop, length-append, length-take, length-drop, take-append-drop, List·getD-append}
+use lib.ListN.{length, take, drop, length-append, length-take, length-drop, take-append-drop, List·getD-append}
 use lib.Seq.{take-append-le, drop-append-le}
-use borrow.Author.Tests.{ltb-true, ltb-false, le-ltb, lt-ltb}
+use borrow.Author.Tests.{ltb-false, le-ltb}
 use Rattle.records.specs.declared.Payload.{Payload}
 use Rattle.records.specs.declared.Payload.the-variants.{Whole, Unfit}
 use Rattle.records.specs.declared.Read.{Read}
 use Rattle.records.specs.declared.Read.the-variants.{Record, Refused, Cut}
 use Rattle.records.specs.Numbers.{le16}
-use Rattle.events.specs.declared.Event.{Event}
-use Rattle.records.specs.Record.{payloadOf, asRead, readOf, countsIn, countsBeside}
+use Rattle.records.specs.Record.{payloadOf, asRead, readOf, countsIn}
 use Rattle.records.specs.ReadingLaws.{Placed, placed}
 use Rattle.chip.specs.declared.Chip.{Chip}
-use Rattle.stream.specs.declared.Entry.{Entry}
-use Rattle.stream.specs.Stream.{Turn, none, acted, staysFresh, turn, turned, turnOf, runs, stands, stays, entries}
+use Rattle.turn.specs.declared.Entry.{Entry}
+use Rattle.turn.specs.Turn.{Turn, none, acted, staysFresh, turn, turned, turnOf}
+use Rattle.turn.specs.Entries.{runs, stands, stays, entries}
 
 suc-add : (m n : ℕ) → suc m + n ≡ suc (m + n)
 suc-add m n = omega arith

@@ -2,8 +2,8 @@
 use mathlib.Core.Path.{ap, _∙_}
 use Rattle.chip.specs.Chip.{numbered}
 use borrow.Author.Needs.{needs}
-use Rattle.stream.proofs.born.Statement.{statement}
-use Rattle.stream.proofs.born.Tie as tie
+use Rattle.turn.proofs.born.Statement.{statement}
+use Rattle.turn.proofs.born.Tie as tie
 
 returns : tie.Need-returns
 returns c = c .numbered .ensures ∙ ap (numbered 0) (c .before .in-ship .ensures)

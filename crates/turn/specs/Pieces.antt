@@ -15,11 +15,12 @@ use Rattle.records.specs.declared.Read.the-variants.{Record, Refused, Cut}
 use Rattle.records.specs.Frame.{frameOf}
 use Rattle.records.specs.Record.{readOf}
 use Rattle.chip.specs.declared.Chip.{Chip}
-use Rattle.stream.specs.declared.Entry.{Entry}
-use Rattle.stream.specs.Stream.{Turn, none, turned, turnOf, runs, stands, stays, entriesFrom, chipFrom, freshFrom, entries}
-use Rattle.stream.specs.CountedLaws.{Framed, framed}
-use Rattle.stream.specs.StandingLaws.{setup-turn}
-use Rattle.stream.specs.PrefixLaws.{Whole-records, none-left, one-more, same-turn, turn-inside, turn-past}
+use Rattle.turn.specs.declared.Entry.{Entry}
+use Rattle.turn.specs.Turn.{Turn, none, turned, turnOf}
+use Rattle.turn.specs.Entries.{runs, stands, stays, entriesFrom, chipFrom, freshFrom, entries}
+use Rattle.turn.specs.CountedLaws.{Framed, framed}
+use Rattle.turn.specs.StandingLaws.{setup-turn}
+use Rattle.turn.specs.PrefixLaws.{Whole-records, none-left, one-more, same-turn, turn-inside, turn-past}
 
 -- ── fuel: each record takes a byte at least, so more than there are bytes changes nothing ──
 abbrev Alike : ℕ → ℕ → Bool → Chip → List ℕ → Type 0

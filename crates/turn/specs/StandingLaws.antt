@@ -1,14 +1,14 @@
 -- Whether a chip stands: a first record that is read with success makes one, whose setup stays, but for the cells, and its part 1 to 3;
--- else the first record's number is not 0, so that no reading is done with nothing given. Assumes nothing.
+-- else the first record's number is not 0. Assumes nothing.
 use mathlib.Core.Path.{_≡_, refl, ap, sym, _∙_, subst}
-use mathlib.Core.Bool.{Bool, true, false, cond, _&&_, not, true≢false}
+use mathlib.Core.Bool.{Bool, true, false, cond, _&&_, true≢false}
 use mathlib.Core.Logic.{_≢_}
 use mathlib.Core.List.{List, [], _∷_}
 use Prim.Native.Nat.{ℕ, zero, suc, _+_, _-_, _≤_}
 use native.Mathlib.Omega.{arith}
 use lib.Dec.{eqb, ltb, leb}
 use lib.ListN.{length, getD, take, drop}
-use borrow.Author.Tests.{eqb-true, leb-true, ne-eqb}
+use borrow.Author.Tests.{leb-true}
 use Rattle.events.specs.declared.Setup.{Setup as SetupValues}
 use Rattle.events.specs.declared.Counts.{Counts}
 use Rattle.events.specs.declared.Checked.{Checked}
@@ -33,9 +33,8 @@ use Rattle.chip.specs.declared.Chip.{Chip}
 use Rattle.chip.specs.declared.Stepped.{Stepped}
 use Rattle.chip.specs.Chip.{numbered, inShip, steppedBy}
 use Rattle.chip.specs.RepeatLaws.{setup-as}
-use Rattle.chip.specs.Outward.{forecastNumber}
-use Rattle.stream.specs.Stream.{Turn, none, entryOf, bornOf, wiredAs, acted, turned, turnOf, runs, stands, entries, lastChip}
-use Rattle.stream.specs.Forecast.{readingNumber, isGiven}
+use Rattle.turn.specs.Turn.{Turn, none, entryOf, bornOf, wiredAs, acted, turned, turnOf}
+use Rattle.turn.specs.Entries.{runs, stands, entries, lastChip}
 
 -- ── a record that means something in range steps the chip by it ──
 no-setup : (t : Bool) → inRange (cond t unfit unfit) ≡ true → ⊥
@@ -240,16 +239,3 @@ chip-stands s h =
 -- .. and where none stands the number is not 0
 pub no-chip : (s : List ℕ) → lastChip s .setup .part ≡ 0 → numberOf (readOf 0 s) ≢ 0
 no-chip s z h = omega (arith, chip-stands s h .0, z)
-
--- so a reading that is done is given
-pub done-gives : (s : List ℕ) (room : ℕ) → readingNumber s (lastChip s) room ≡ 0 → isGiven (lastChip s) room ≡ true
-done-gives s room h =
-    by (eqb (lastChip s .setup .part) 0) (forecastNumber (lastChip s)) (ltb room 4)
-    (λ e. no-chip s (eqb-true (lastChip s .setup .part) 0 e)) h
-  where
-    by : (n : Bool) (k : ℕ) (t : Bool) → (n ≡ true → numberOf (readOf 0 s) ≢ 0)
-        → cond n (numberOf (readOf 0 s)) (cond (eqb k 0) (cond t 5 0) k) ≡ 0 → not n && eqb k 0 && not t ≡ true
-    by true k t f h = absurd (f refl h)
-    by false zero true f h = absurd (omega (arith, h))
-    by false zero false f h = refl
-    by false (suc k) t f h = absurd (let e : suc k ≡ 0 = simp (ne-eqb (suc k) 0 (λ z. omega (arith, z))) at h in omega (arith, e))

@@ -1,0 +1,94 @@
+-- CHIP P1 to P5: what a record makes of a chip, and the five bytes that it gives. Assumes nothing.
+use Prim.Native.Nat.{ℕ}
+use mathlib.Core.List.{List}
+use mathlib.Core.Bool.{Bool, true, false, cond, not, _&&_, _||_}
+use lib.Dec.{eqb}
+use Rattle.events.specs.declared.Setup.{Setup as SetupValues}
+use Rattle.events.specs.declared.Counts.{Counts}
+use Rattle.events.specs.declared.Event.{Event}
+use Rattle.events.specs.declared.Event.the-variants.{Setup, Por, Boot, Scan, Temp, Count, Sense, Pin, Load, Xready, OnBus, Level, Ticks}
+use Rattle.events.specs.declared.Event.the-variants.{Soak, Wires}
+use Rattle.records.specs.declared.Read.{Read}
+use Rattle.records.specs.declared.Read.the-variants.{Record, Refused, Cut}
+use Rattle.records.specs.Record.{standing, readOf, countsBeside}
+use Rattle.wiring.specs.Rows.{wiredWith, wiredNumber}
+use Rattle.wiring.specs.declared.Wiring.{Wiring}
+use Rattle.wiring.specs.declared.Wiring.the-variants.{With, NoRow}
+use Rattle.bits.specs.Bit.{weighed}
+use Rattle.registers.specs.Read.{statusByte}
+use Rattle.chip.specs.declared.Chip.{Chip}
+use Rattle.chip.specs.declared.Stepped.{Stepped}
+use Rattle.chip.specs.Chip.{numbered, inShip, steppedBy}
+use Rattle.chip.specs.Outward.{pinsOf}
+use Rattle.turn.specs.declared.Entry.{Entry}
+
+-- no chip yet: part 0, and with it SYS_STAT and pins 0
+abbrev pub none : Chip
+none = inShip (standing 0)
+
+-- number, bus flag, bus byte; SYS_STAT, pins
+abbrev pub entryOf : Stepped → Entry
+entryOf s =
+    record {
+      number = s .number;
+      flag = weighed (s .flag) 1;
+      byte = s .byte;
+      stat = statusByte (s .chip .registers .shown .status);
+      pins = pinsOf (s .chip);
+    }
+
+-- the chip that SETUP makes
+abbrev pub bornOf : SetupValues → Stepped
+bornOf v = numbered 0 (inShip v)
+
+-- a wiring record makes the chip anew, with its cells, where it is taken (CHIP W1)
+abbrev pub wiredAs : Wiring → Chip → Stepped
+wiredAs (With u) c = bornOf u
+wiredAs NoRow c = numbered (wiredNumber NoRow) c
+
+abbrev pub wires : Bool → ℕ → Chip → Stepped
+wires fresh n c = cond fresh (wiredAs (wiredWith (c .setup) n) c) (numbered 2 c)
+
+-- SETUP, which the reader gives only first, makes the chip; every other event happens to it. `fresh` says that only SETUP and refused
+-- records stand before
+unfoldable pub acted : Bool → Event → Counts → Chip → Stepped
+acted o (Setup v) k c = bornOf v
+acted o Por k c = steppedBy Por k c
+acted o Boot k c = steppedBy Boot k c
+acted o Scan k c = steppedBy Scan k c
+acted o Temp k c = steppedBy Temp k c
+acted o (Count n) k c = steppedBy (Count n) k c
+acted o (Sense v) k c = steppedBy (Sense v) k c
+acted o Pin k c = steppedBy Pin k c
+acted o (Load l) k c = steppedBy (Load l) k c
+acted o Xready k c = steppedBy Xready k c
+acted o (OnBus b) k c = steppedBy (OnBus b) k c
+acted o (Level l) k c = steppedBy (Level l) k c
+acted o (Ticks v n) k c = steppedBy (Ticks v n) k c
+acted o (Soak v n) k c = steppedBy (Soak v n) k c
+acted o (Wires n) k c = wires o n c
+
+-- .. and after a record: after SETUP, which alone meets no part, and after a refused one
+abbrev pub staysFresh : Bool → Chip → Stepped → Bool
+staysFresh o c s = eqb (c .setup .part) 0 || (o && not (eqb (s .number) 0))
+
+-- ── what a record makes of a chip: its entry, the next chip and place, whether a wiring record may follow, and whether it is the last ──
+pub record Turn : Type 0 where
+  pub chip : Chip
+  pub fresh : Bool
+  pub entry : Entry
+  pub next : ℕ
+  pub last : Bool
+
+abbrev pub turn : Stepped → Bool → ℕ → Bool → Turn
+turn s fresh next last = record { chip = s .chip; fresh = fresh; entry = entryOf s; next = next; last = last }
+
+-- of any record
+abbrev pub turned : Bool → Chip → List ℕ → Read → Turn
+turned o c rest (Record e next) =
+    turn (acted o e (countsBeside rest (Record e next)) c) (staysFresh o c (acted o e (countsBeside rest (Record e next)) c)) next false
+turned o c rest (Refused k next) = turn (numbered k c) o next (eqb (c .setup .part) 0)
+turned o c rest Cut = turn (numbered 9 c) o 0 true
+
+unfoldable pub turnOf : Bool → Chip → List ℕ → Turn
+turnOf o c rest = turned o c rest (readOf (c .setup .part) rest)
