@@ -282,10 +282,11 @@ uint8_t toralinge_reply_of(const uint8_t *chip, size_t size, uint32_t command, u
                            size_t room);
 
 /*
- * Plays a whole stream as toralinge_play does, by an engine that keeps no count of scans or ticks: at each
- * of them it looks back over the records before it, with the settings that stood at each, and decides from
- * these alone. It is there to be read beside the other, and slow: its time grows with the square of the
- * stream, to some seconds. (In libplain.a.)
+ * Plays a whole stream as toralinge_play does, by an engine that keeps no count of scans or ticks: whether OV, UV,
+ * SCD or OCD rises at one of them it decides by looking back over the records before it, each with the settings
+ * that stood at it. That decision and the look back are its own. It shares with toralinge_play how a record is read,
+ * thresholds and delays, where counts are stored, what a bit puts off, and all that other records do. It is there to
+ * be read, and slow: its time grows with the square of the stream, to some seconds. (In libplain.a.)
  *
  * Returns -24, and writes no byte, for a stream of more than TORALINGE_PLAIN_MOST bytes; otherwise returns
  * and writes, for every stream and every room, exactly what toralinge_play does.

@@ -201,7 +201,7 @@ tick-on (suc n) v c =
     (ocd-stays (suc n) s v (c .runs)))
 
 -- where the outside level has nothing to raise: all of them at once
-ticking-is : (n : ℕ) (v : ℤ) (c : Chip) → c .normal ≡ true → Calmed c
+pub ticking-is : (n : ℕ) (v : ℤ) (c : Chip) → c .normal ≡ true → Calmed c
     → ticking n v c ≡ tickedBy (ticksJudged n (c .registers .settings) v (c .runs)) c
 unfolding ticksJudged
 ticking-is zero v c a k = refl

@@ -1,7 +1,7 @@
 -- The loop of the plain engine, beside the base engine's: what stands at its head, and what the C call makes of it. Assumes nothing.
 use mathlib.Core.Path.{_≡_, refl, sym, ap, subst, _∙_}
 use mathlib.Core.Bool.{Bool, true, false}
-use mathlib.Core.List.{List, _++_}
+use mathlib.Core.List.{List}
 use Prim.Native.Nat.{ℕ, _+_, _-_, _*_, _/_, _^_, _≤_, _<_}
 use native.Mathlib.Omega.{arith}
 use lib.Dec.{leb}
@@ -25,8 +25,8 @@ use Rattle.stream.proofs.Loop.{Going, going-none, going-end, going-stop, going-
 use Rattle.turn.specs.declared.Turned.{Turned}
 use Rattle.turn.specs.TurnedLaws.{asTurn}
 use Rattle.plain_back.specs.Said.{most}
-use Rattle.plain.specs.Plain.{forgetful, plainTurn, plainEntries, Noted, PlainPlayed}
-use Rattle.plain.specs.AsideLaws.{unrun}
+use Rattle.plain.specs.Plain.{plainTurn, plainEntries, Noted, PlainPlayed}
+use Rattle.plain.specs.AsideLaws.{unrun, forgetful}
 use Rattle.plain.specs.SameLaws.{plain-turn, plain-entries, Lent, lent-none, lent-runs, lent-next}
 
 -- the base engine's chip stands beside the one that is kept
@@ -57,7 +57,7 @@ module _ (s old out : List ℕ) (o : Bool) (chip : Chip) (at n : ℕ) (g : Playi
     turn-is : asTurn t ≡ forgetful b
     turn-is =
         q ∙ ap (λ (c : Chip). plainTurn (take at s) o c (take (length s - at) (drop at s))) (g .kept) ∙ ap (plainTurn (take at s) o (unrun (g .base))) (rest-is s at)
-        ∙ plain-turn (take at s) o (g .base) (drop at s) (lent-runs (take at s) o (g .base) n (g .lent))
+        ∙ plain-turn (take at s) o (g .base) (drop at s) (lent-runs (take at s) o (g .base) n (g .lent)) (g .lent .calm)
 
     wrote : new ≡ noted out n (b .entry)
     wrote = w ∙ ap (λ (x : Turn). noted out n (x .entry)) turn-is

@@ -1,4 +1,4 @@
--- What is no scan and no tick goes by no run: a chip without runs answers it alike, and is left alike but for the runs. Assumes nothing.
+-- What is no scan and no tick goes by no run: a chip without runs answers it alike, and is left alike, without runs. Assumes nothing.
 use mathlib.Core.Path.{_≡_, refl, sym, ap}
 use mathlib.Core.Bool.{Bool, true, false, cond, true≢false}
 use mathlib.Core.List.{List}
@@ -15,8 +15,7 @@ use Rattle.events.specs.Event.{Event, Por, Boot, Pin, Xready, Scan, Temp, Count
 use Rattle.events.specs.Event.{countsFit}
 use Rattle.wiring.specs.Rows.{hasRow, wiredWith}
 use Rattle.wiring.specs.declared.Wiring.the-variants.{With, NoRow}
-use Rattle.records.specs.declared.Read.{Read}
-use Rattle.records.specs.declared.Read.the-variants.{Record, Refused, Cut}
+use Rattle.records.specs.declared.Read.the-variants.{Record}
 use Rattle.records.specs.Record.{countsBeside}
 use Rattle.bus.specs.declared.Line.{Line}
 use Rattle.bus.specs.declared.Store.{Store}
@@ -28,15 +27,17 @@ use Rattle.chip.specs.declared.Chip.{Chip}
 use Rattle.chip.specs.declared.Stepped.{Stepped}
 use Rattle.chip.specs.Chip.{numbered, withRuns, inShip, accepted, storedAt, stored, onBus, settled, normally, asleep, happened, stepped}
 use Rattle.chip.specs.Chip.{steppedAs}
-use Rattle.turn.specs.Turn.{wiredAs, acted, staysFresh, turn, turned}
-use Rattle.plain.specs.Plain.{isJudging, asks, forgetful}
+use Rattle.turn.specs.Turn.{Turn, wiredAs, acted, staysFresh, turn, turned}
 
--- the chip, and an answer of it, without runs
+-- the chip, an answer of it, and a turn of it, without runs
 abbrev pub unrun : Chip → Chip
 unrun c = withRuns noRuns c
 
-abbrev unrunIn : Stepped → Stepped
+abbrev pub unrunIn : Stepped → Stepped
 unrunIn s = record { chip = unrun (s .chip); number = s .number; flag = s .flag; byte = s .byte }
+
+abbrev pub forgetful : Turn → Turn
+forgetful t = record { chip = unrun (t .chip); fresh = t .fresh; entry = t .entry; next = t .next; last = t .last }
 
 -- neither a scan nor a tick
 abbrev aside : Event → Bool
@@ -123,28 +124,44 @@ wires-unrun true true n c = refl
 wires-unrun true false n c = refl
 wires-unrun false t n c = refl
 
-acted-unrun : (o : Bool) (e : Coded) (k : Counts) (c : Chip) → isJudging e ≡ false → acted o e k (unrun c) ≡ unrunIn (acted o e k c)
+-- the code's events that are neither
+abbrev pub shared : Coded → Bool
+shared (Setup- v) = true
+shared Por- = true
+shared Boot- = true
+shared Pin- = true
+shared Xready- = true
+shared Scan- = false
+shared Temp- = true
+shared (Count- n) = true
+shared (Sense- v) = false
+shared (Load- l) = true
+shared (OnBus- b) = true
+shared (Level- l) = true
+shared (Ticks- v n) = false
+shared (Soak- v n) = false
+shared (Wires- n) = true
+
+acted-unrun : (o : Bool) (e : Coded) (k : Counts) (c : Chip) → shared e ≡ true → acted o e k (unrun c) ≡ unrunIn (acted o e k c)
 unfolding acted meantOf wiredWith
 acted-unrun o (Setup- v) k c h = refl
 acted-unrun o Por- k c h = by-counts (countsFit 0 k) Por c refl
 acted-unrun o Boot- k c h = by-counts (countsFit 0 k) Boot c refl
 acted-unrun o Pin- k c h = by-counts (countsFit 0 k) Pin c refl
 acted-unrun o Xready- k c h = by-counts (countsFit 0 k) Xready c refl
-acted-unrun o Scan- k c h = absurd (true≢false h)
+acted-unrun o Scan- k c h = absurd (true≢false (sym h))
 acted-unrun o Temp- k c h = by-counts (countsFit (groups (c .setup)) k) _ c refl
 acted-unrun o (Count- n) k c h = by-counts (countsFit 0 k) (Count n) c refl
-acted-unrun o (Sense- v) k c h = absurd (true≢false h)
+acted-unrun o (Sense- v) k c h = absurd (true≢false (sym h))
 acted-unrun o (Load- l) k c h = by-counts (countsFit 0 k) (Load l) c refl
 acted-unrun o (OnBus- b) k c h = by-counts (countsFit 0 k) (OnBus b) c refl
 acted-unrun o (Level- l) k c h = by-counts (countsFit 0 k) (Level l) c refl
-acted-unrun o (Ticks- v n) k c h = absurd (true≢false h)
-acted-unrun o (Soak- v n) k c h = absurd (true≢false h)
+acted-unrun o (Ticks- v n) k c h = absurd (true≢false (sym h))
+acted-unrun o (Soak- v n) k c h = absurd (true≢false (sym h))
 acted-unrun o (Wires- n) k c h = wires-unrun o (hasRow (c .setup .part) n) n c
 
--- SO A TURN that asks nothing is the same without runs
-pub turned-unrun : (o : Bool) (c : Chip) (r : List ℕ) (x : Read) → asks x ≡ false
-    → forgetful (turned o (unrun c) r x) ≡ forgetful (turned o c r x)
-turned-unrun o c r (Record e next) h =
-    ap (λ (s : Stepped). forgetful (turn s (staysFresh o c s) next false)) (acted-unrun o e (countsBeside r (Record e next)) c h)
-turned-unrun o c r (Refused k next) h = refl
-turned-unrun o c r Cut h = refl
+-- SO A TURN by such an event is the base engine's, and leaves a chip without runs
+pub turned-unrun : (o : Bool) (c : Chip) (r : List ℕ) (e : Coded) (next : ℕ) → shared e ≡ true
+    → turned o (unrun c) r (Record e next) ≡ forgetful (turned o c r (Record e next))
+turned-unrun o c r e next h =
+    ap (λ (s : Stepped). turn s (staysFresh o c s) next false) (acted-unrun o e (countsBeside r (Record e next)) c h)

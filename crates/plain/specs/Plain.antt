@@ -1,65 +1,57 @@
--- CHIP P11: the plain engine. The chip that it keeps has no runs; at a scan or tick it is lent, for that one record, what the
--- records before it say by themselves. Assumes nothing.
+-- CHIP P11: the plain engine. It decides at a scan and at ticks by what the records before them say; every other record is the base
+-- engine's. The chip that it keeps has no runs. Assumes nothing.
 use mathlib.Core.Path.{_≡_}
-use mathlib.Core.Bool.{Bool, true, false, cond, _&&_}
+use mathlib.Core.Bool.{Bool, false, cond, not, _&&_}
 use mathlib.Core.List.{List, [], _∷_, _++_}
-use Prim.Native.Nat.{ℕ, zero, suc, _*_, min}
-use lib.Dec.{leb}
+use Prim.Native.Nat.{ℕ, zero, suc, _*_}
+use lib.Dec.{eqb, leb}
 use lib.IntN.{ℤ, pos, negsuc}
 use lib.ListN.{length, take, drop}
 use Rattle.events.specs.declared.Event.{Event}
 use Rattle.events.specs.declared.Event.the-variants.{Setup, Por, Boot, Scan, Temp, Count, Sense, Pin, Load, Xready, OnBus, Level, Ticks}
 use Rattle.events.specs.declared.Event.the-variants.{Soak, Wires}
+use Rattle.events.specs.Setup.{inputs}
 use Rattle.records.specs.declared.Read.{Read}
 use Rattle.records.specs.declared.Read.the-variants.{Record, Refused, Cut}
-use Rattle.records.specs.Record.{readOf}
-use Rattle.protection.specs.declared.Runs.{Runs}
-use Rattle.protection.specs.Fault.{runsOf, noRuns}
-use Rattle.protection.specs.Rule.{cap}
+use Rattle.records.specs.Record.{readOf, countsBeside}
 use Rattle.chip.specs.declared.Chip.{Chip}
-use Rattle.chip.specs.Chip.{withRuns}
+use Rattle.chip.specs.declared.Stepped.{Stepped}
 use Rattle.turn.specs.declared.Entry.{Entry}
-use Rattle.turn.specs.Turn.{none, Turn, turnOf}
+use Rattle.turn.specs.Turn.{none, Turn, turn, turned}
 use Rattle.turn.specs.Entries.{bytesOf, entered}
-use Rattle.plain_back.specs.declared.Streaks.{Streaks}
-use Rattle.plain_back.specs.Said.{streakOf, streaksIn, most}
+use Rattle.plain_back.specs.Said.{streaksIn, most}
+use Rattle.plain.specs.Decision.{scanDone, ticksDone}
 
--- a scan, a tick, or ticks of one value
-abbrev pub isJudging : Event → Bool
-isJudging (Setup v) = false
-isJudging Por = false
-isJudging Boot = false
-isJudging Scan = true
-isJudging Temp = false
-isJudging (Count n) = false
-isJudging (Sense v) = true
-isJudging Pin = false
-isJudging (Load l) = false
-isJudging Xready = false
-isJudging (OnBus b) = false
-isJudging (Level l) = false
-isJudging (Ticks v n) = true
-isJudging (Soak v n) = true
-isJudging (Wires n) = false
+-- ── a record, with the records before it at hand ──
+-- one that was decided here; a wiring record may follow it where it may stand and this one was refused (CHIP W1)
+abbrev pub decided : Bool → Stepped → ℕ → Turn
+decided o s next = turn s (o && not (eqb (s .number) 0)) next false
 
-abbrev pub asks : Read → Bool
-asks (Record e next) = isJudging e
-asks (Refused k next) = false
-asks Cut = false
+abbrev pub plainDone : List ℕ → Bool → Chip → List ℕ → Event → ℕ → Turn
+plainDone before o c rest (Setup v) next = turned o c rest (Record (Setup v) next)
+plainDone before o c rest Por next = turned o c rest (Record Por next)
+plainDone before o c rest Boot next = turned o c rest (Record Boot next)
+plainDone before o c rest Scan next =
+    decided o (scanDone (streaksIn before) (take (inputs (c .setup)) (countsBeside rest (Record Scan next) .of)) c) next
+plainDone before o c rest Temp next = turned o c rest (Record Temp next)
+plainDone before o c rest (Count n) next = turned o c rest (Record (Count n) next)
+plainDone before o c rest (Sense v) next = decided o (ticksDone (streaksIn before) v 1 c) next
+plainDone before o c rest Pin next = turned o c rest (Record Pin next)
+plainDone before o c rest (Load l) next = turned o c rest (Record (Load l) next)
+plainDone before o c rest Xready next = turned o c rest (Record Xready next)
+plainDone before o c rest (OnBus b) next = turned o c rest (Record (OnBus b) next)
+plainDone before o c rest (Level l) next = turned o c rest (Record (Level l) next)
+plainDone before o c rest (Ticks v n) next = decided o (ticksDone (streaksIn before) v n c) next
+plainDone before o c rest (Soak v n) next = decided o (ticksDone (streaksIn before) v n c) next
+plainDone before o c rest (Wires n) next = turned o c rest (Record (Wires n) next)
 
--- how many of the newest verdicts are true, cut at the longest delay: `decides` (Same) says that this decides as the verdicts themselves do
-abbrev pub runsFrom : Streaks → Runs
-runsFrom w = runsOf (λ k. min (cap k) (streakOf k w))
-
-abbrev pub lent : Bool → List ℕ → Chip → Chip
-lent judging before c = withRuns (cond judging (runsFrom (streaksIn before)) (c .runs)) c
-
--- ── a record, with the records before it at hand; no run outlives it ──
-abbrev pub forgetful : Turn → Turn
-forgetful t = record { chip = withRuns noRuns (t .chip); fresh = t .fresh; entry = t .entry; next = t .next; last = t .last }
+abbrev pub plainTurned : List ℕ → Bool → Chip → List ℕ → Read → Turn
+plainTurned before o c rest (Record e next) = plainDone before o c rest e next
+plainTurned before o c rest (Refused k next) = turned o c rest (Refused k next)
+plainTurned before o c rest Cut = turned o c rest Cut
 
 unfoldable pub plainTurn : List ℕ → Bool → Chip → List ℕ → Turn
-plainTurn before o c rest = forgetful (turnOf o (lent (asks (readOf (c .setup .part) rest)) before c) rest)
+plainTurn before o c rest = plainTurned before o c rest (readOf (c .setup .part) rest)
 
 -- ── the entries of a stream ──
 abbrev pub plainRuns : ℕ → List ℕ → Bool → Chip → List ℕ → List Entry

@@ -1,41 +1,41 @@
--- CHIP P11: the plain engine's entries are the base engine's, and what it decides with are the verdicts of the records before.
--- Assumes nothing.
+-- CHIP P11: the plain engine's entries are the base engine's, of every stream. Assumes nothing.
 use mathlib.Core.Path.{_≡_, refl, sym, ap, _∙_}
-use mathlib.Core.Bool.{Bool, true, false, cond, _&&_, true≢false}
+use mathlib.Core.Logic.{_≢_}
+use mathlib.Core.Bool.{Bool, true, false, cond, not, _&&_, _||_, true≢false}
 use mathlib.Core.List.{List, [], _∷_, _++_, map, append-assoc, append-nil}
 use Prim.Native.Nat.{ℕ, zero, suc, _+_, _-_, _*_, _≤_, _<_, min}
 use native.Mathlib.Omega.{arith}
 use native.Mathlib.Nat.{zero-add, min-zero}
-use lib.Dec.{leb, ltb}
+use lib.Dec.{eqb, leb}
 use lib.IntN.{ℤ, pos, negsuc}
-use lib.ListN.{length, take, drop, replicate, length-append, length-take}
+use lib.ListN.{length, take, drop, length-append, length-take}
 use lib.Seq.{drop-at}
-use borrow.Author.Tests.{le-leb, lt-ltb}
+use borrow.Author.Tests.{le-leb, leb-true, ne-eqb}
 use Rattle.events.specs.declared.Setup.{Setup as SetupValues}
+use Rattle.events.specs.declared.Counts.{Counts}
 use Rattle.events.specs.declared.Event.{Event as Coded}
 use Rattle.events.specs.declared.Event.the-variants.{Setup, Por, Boot, Scan, Temp, Count, Sense, Pin, Load, Xready, OnBus, Level, Ticks}
 use Rattle.events.specs.declared.Event.the-variants.{Soak, Wires}
-use Rattle.events.specs.Event.{Event}
+use Rattle.events.specs.Setup.{inputs}
+use Rattle.events.specs.Event.{Scan as Scanned, Sense as Sensed, senseFits, ticksMost, soakMost, ticksFit, Meant, ticks, meantOf}
 use Rattle.events.specs.Fault.{Fault, Ov, Uv, Scd, Ocd}
 use Rattle.records.specs.declared.Read.{Read}
 use Rattle.records.specs.declared.Read.the-variants.{Record, Refused, Cut}
-use Rattle.records.specs.Record.{readOf}
-use Rattle.records.specs.SoundLaws.{IsSetup, first-setup}
-use Rattle.settings.specs.declared.Settings.{Settings}
+use Rattle.records.specs.Record.{readOf, countsBeside}
+use Rattle.records.specs.SoundLaws.{IsSetup, first-setup, Meaning, later-means, and-left, and-right}
 use Rattle.protection.specs.declared.Runs.{Runs}
-use Rattle.protection.specs.Streak.{lastAll, streak, bumps, bumps-streak}
+use Rattle.protection.specs.Streak.{streak}
 use Rattle.protection.specs.Fault.{runOf, runsOf}
-use Rattle.protection.specs.declared.Judged.{Judged}
-use Rattle.protection.specs.Rule.{cap, rule, beyond, opinion, someOpinion, risen}
-use Rattle.protection.specs.Judged.{lasts}
-use Rattle.protection.specs.Repeat.{ticksJudged, alike, ticks-alike}
-use Rattle.protection.specs.TablesLaws.{run-tells}
+use Rattle.protection.specs.Rule.{cap}
 use Rattle.chip.specs.declared.Chip.{Chip}
-use Rattle.chip.specs.Chip.{withRuns}
+use Rattle.chip.specs.declared.Stepped.{Stepped}
+use Rattle.chip.specs.Chip.{numbered, happened, stepped, ticked, steppedAs, steppedBy}
+use Rattle.chip.specs.Calm.{Calmed, ship-calm}
 use Rattle.turn.specs.declared.Entry.{Entry}
-use Rattle.turn.specs.Turn.{none, Turn, turned, turnOf}
+use Rattle.turn.specs.Turn.{none, acted, staysFresh, Turn, turn, turned, turnOf}
 use Rattle.turn.specs.Entries.{runs, stands, entries, lastChip, bytesOf}
 use Rattle.stream.specs.Stream.{Played}
+use Rattle.turn.specs.CalmLaws.{turn-calm}
 use Rattle.turn.specs.PrefixLaws.{same-frame, turn-inside, turn-past}
 use Rattle.demands.specs.Demand.{chip}
 use Rattle.demands.specs.History.{runs-are}
@@ -43,53 +43,11 @@ use Rattle.demands.specs.Told.{run-of}
 use Rattle.demands.specs.Wired.{same-but-cells}
 use Rattle.demands.specs.Streams.{heard, cellsIn, last-chip, histories, shows, toShow, entries-show}
 use Rattle.plain_back.specs.Said.{verdictsAfter, verdictsIn, streaksIn, most}
-use Rattle.plain.specs.Plain.{asks, runsFrom, lent, forgetful, plainTurn, plainRuns, plainEntries, PlainPlayed}
-use Rattle.plain.specs.AsideLaws.{unrun, turned-unrun}
-
--- ── WHAT IT DECIDES: an event that judges k raises it exactly where the newest verdicts of this waking spell, its own included and as
--- many as the
--- delay now set, are there and all true. No counter is named ──
-pub decides : (k : Fault) (floor : ℕ) (s : Settings) (before : List ℕ) (e : Event)
-    → risen floor s (runsFrom (streaksIn before)) e k ≡ someOpinion (opinion k floor (rule k s) e)
-    && lastAll (rule k s .need) (opinion k floor (rule k s) e ++ verdictsIn k before)
-unfolding streaksIn
-decides k floor s before e =
-    ap (λ (b : Bool). someOpinion op && b)
-    (ap (λ (n : ℕ). leb (rule k s .need) (bumps (cap k) op n)) (run-is k)
-    ∙ ap (leb (rule k s .need)) (bumps-streak (cap k) op (verdictsIn k before))
-    ∙ run-tells k s (op ++ verdictsIn k before))
-  where
-    op : List Bool
-    op = opinion k floor (rule k s) e
-
-    run-is : (k : Fault) → runOf k (runsFrom (streaksIn before)) ≡ min (cap k) (streak (verdictsIn k before))
-    run-is Ov = refl
-    run-is Uv = refl
-    run-is Scd = refl
-    run-is Ocd = refl
-
--- .. and of ticks of one value every one counts
-pub decides-ticks : (m : ℕ) (s : Settings) (v : ℤ) (before : List ℕ)
-    → ticksJudged (suc m) s v (runsFrom (streaksIn before)) .risen
-    ≡ record {
-      ov = false;
-      uv = false;
-      scd = lastAll (rule Scd s .need) (replicate (suc m) (beyond (rule Scd s) v) ++ verdictsIn Scd before);
-      ocd = lastAll (rule Ocd s .need) (replicate (suc m) (beyond (rule Ocd s) v) ++ verdictsIn Ocd before);
-    }
-unfolding streaksIn
-decides-ticks m s v before =
-    ap (λ (j : Judged). j .risen) (ticks-alike (suc m) s v (runsFrom (streaksIn before)))
-    ∙ (λ i. record { ov = false; uv = false; scd = told Scd i; ocd = told Ocd i })
-  where
-    told : (k : Fault)
-        → ltb 0 (suc m) && lasts k s (alike (cap k) (beyond (rule k s) v) (suc m) (min (cap k) (streak (verdictsIn k before))))
-        ≡ lastAll (rule k s .need) (replicate (suc m) (beyond (rule k s) v) ++ verdictsIn k before)
-    told k =
-        ap (λ (b : Bool). b && lasts k s (alike (cap k) (beyond (rule k s) v) (suc m) (min (cap k) (streak (verdictsIn k before)))))
-        (lt-ltb 0 (suc m) (omega arith))
-        ∙ ap (lasts k s) (bumps-streak (cap k) (replicate (suc m) (beyond (rule k s) v)) (verdictsIn k before))
-        ∙ run-tells k s (replicate (suc m) (beyond (rule k s) v) ++ verdictsIn k before)
+use Rattle.plain_back.specs.Walk.{meant-of}
+use Rattle.plain.specs.Decision.{ticksDone}
+use Rattle.plain.specs.DecisionLaws.{runsFrom, scan-same, tick-same, ticks-same}
+use Rattle.plain.specs.Plain.{decided, plainDone, plainTurned, plainTurn, plainRuns, plainEntries, PlainPlayed}
+use Rattle.plain.specs.AsideLaws.{unrun, unrunIn, forgetful, turned-unrun}
 
 -- ── what the records say is what the base engine's runs hold after them ──
 runs-by : (n : Runs) (f : Fault → ℕ) → ((k : Fault) → runOf k n ≡ f k) → n ≡ runsOf f
@@ -152,24 +110,115 @@ unfolding streaksIn verdictsIn
 runs-said s = sym (runs-by (lastChip s .runs) (λ k. min (cap k) (streak (verdictsAfter k s (readOf 0 s)))) (first-said s (readOf 0 s) refl))
 
 -- ── one record ──
-pub plain-turn : (before : List ℕ) (o : Bool) (c : Chip) (rest : List ℕ) → runsFrom (streaksIn before) ≡ c .runs
-    → plainTurn before o (unrun c) rest ≡ forgetful (turnOf o c rest)
-unfolding plainTurn turnOf
-plain-turn before o c rest h = by (asks (readOf (c .setup .part) rest)) refl
-  where
-    by : (t : Bool) → asks (readOf (c .setup .part) rest) ≡ t
-        → forgetful (turned o (lent t before (unrun c)) rest (readOf (c .setup .part) rest))
-        ≡ forgetful (turned o c rest (readOf (c .setup .part) rest))
-    by true a = ap (λ (n : Runs). forgetful (turned o (withRuns n c) rest (readOf (c .setup .part) rest))) h
-    by false a = turned-unrun o c rest (readOf (c .setup .part) rest) a
+-- what is read as such an event is read of a part
+part-there : (part : ℕ) (rest : List ℕ) (e : Coded) (next : ℕ) → (IsSetup e → ⊥) → readOf part rest ≡ Record e next → part ≢ 0
+part-there part rest e next f q h = f (first-setup rest e next (ap (λ (n : ℕ). readOf n rest) (sym h) ∙ q))
+
+-- and fits, so that the chip moves by it as the plain engine has it
+acted-scan : (o : Bool) (c : Chip) (k : Counts) → Meaning (c .setup) Scan k
+    → acted o Scan k c ≡ happened (Scanned (take (inputs (c .setup)) (k .of))) c
+unfolding acted stepped
+acted-scan o c k m =
+    let x : List ℕ = take (inputs (c .setup)) (k .of) in
+    ap (λ (y : Meant). steppedAs y c) (meant-of (c .setup) Scan k m .0)
+    ∙ ap (λ (t : Bool). cond t (happened (Scanned x) c) (numbered 3 c)) (meant-of (c .setup) Scan k m .1)
+
+acted-sense : (o : Bool) (c : Chip) (v : ℤ) (k : Counts) → Meaning (c .setup) (Sense v) k → acted o (Sense v) k c ≡ happened (Sensed v) c
+unfolding acted stepped
+acted-sense o c v k m =
+    ap (λ (y : Meant). steppedAs y c) (meant-of (c .setup) (Sense v) k m .0)
+    ∙ ap (λ (t : Bool). cond t (happened (Sensed v) c) (numbered 3 c)) (meant-of (c .setup) (Sense v) k m .1)
+
+record-ticks : (most : ℕ) (v : ℤ) (n : ℕ) (c : Chip) (e : Coded) (k : Counts) → meantOf (c .setup) e k ≡ ticks most v n
+    → ticksFit most v n ≡ true → steppedBy e k c ≡ ticked n v c
+record-ticks most v n c e k q f =
+    ap (λ (y : Meant). steppedAs y c) q ∙ ap (λ (t : Bool). cond t (ticked n v c) (numbered 3 c)) f
+
+acted-ticks : (o : Bool) (c : Chip) (v : ℤ) (n : ℕ) (k : Counts) → Meaning (c .setup) (Ticks v n) k → acted o (Ticks v n) k c ≡ ticked n v c
+unfolding acted
+acted-ticks o c v n k m =
+    record-ticks ticksMost v n c (Ticks v n) k (meant-of (c .setup) (Ticks v n) k m .0) (meant-of (c .setup) (Ticks v n) k m .1)
+
+acted-soak : (o : Bool) (c : Chip) (v : ℤ) (n : ℕ) (k : Counts) → Meaning (c .setup) (Soak v n) k → acted o (Soak v n) k c ≡ ticked n v c
+unfolding acted
+acted-soak o c v n k m =
+    record-ticks soakMost v n c (Soak v n) k (meant-of (c .setup) (Soak v n) k m .0) (meant-of (c .setup) (Soak v n) k m .1)
+
+fit-some : (most : ℕ) (v : ℤ) (n : ℕ) → ticksFit most v n ≡ true → 1 ≤ n
+unfolding ticksFit
+fit-some most v n f = leb-true 1 n (and-right (senseFits v) (leb 1 n) (and-left (senseFits v && leb 1 n) (leb n most) f))
+
+module _ (before : List ℕ) (o : Bool) (c : Chip) (rest : List ℕ) (h : runsFrom (streaksIn before) ≡ c .runs) (calm : Calmed c) where
+  decided-as : (s d : Stepped) (next : ℕ) → c .setup .part ≢ 0 → d ≡ unrunIn s
+      → decided o d next ≡ forgetful (turn s (staysFresh o c s) next false)
+  decided-as s d next p q =
+      ap (λ (d : Stepped). decided o d next) q
+      ∙ ap (λ (b : Bool). turn (unrunIn s) (b || (o && not (eqb (s .number) 0))) next false) (sym (ne-eqb (c .setup .part) 0 p))
+
+  ticks-as : (n : ℕ) (v : ℤ) → 1 ≤ n → ticksDone (streaksIn before) v n (unrun c) ≡ unrunIn (ticked n v c)
+  ticks-as zero v l = absurd (omega arith)
+  ticks-as (suc m) v l = ticks-same (streaksIn before) c h m v calm
+
+  plain-done : (e : Coded) (next : ℕ) → readOf (c .setup .part) rest ≡ Record e next
+      → plainDone before o (unrun c) rest e next ≡ forgetful (turned o c rest (Record e next))
+  plain-done (Setup v) next q = turned-unrun o c rest (Setup v) next refl
+  plain-done Por next q = turned-unrun o c rest Por next refl
+  plain-done Boot next q = turned-unrun o c rest Boot next refl
+  plain-done Scan next q =
+      let p : c .setup .part ≢ 0 = part-there (c .setup .part) rest Scan next (λ f. f) q in
+      let k : Counts = countsBeside rest (Record Scan next) in
+      decided-as (acted o Scan k c) _ next p
+      (scan-same (streaksIn before) c h (take (inputs (c .setup)) (k .of))
+      ∙ ap unrunIn (sym (acted-scan o c k (later-means (c .setup) rest Scan next p q refl))))
+  plain-done Temp next q = turned-unrun o c rest Temp next refl
+  plain-done (Count n) next q = turned-unrun o c rest (Count n) next refl
+  plain-done (Sense v) next q =
+      let p : c .setup .part ≢ 0 = part-there (c .setup .part) rest (Sense v) next (λ f. f) q in
+      let k : Counts = countsBeside rest (Record (Sense v) next) in
+      decided-as (acted o (Sense v) k c) _ next p
+      (tick-same (streaksIn before) c h v
+      ∙ ap unrunIn (sym (acted-sense o c v k (later-means (c .setup) rest (Sense v) next p q refl))))
+  plain-done Pin next q = turned-unrun o c rest Pin next refl
+  plain-done (Load l) next q = turned-unrun o c rest (Load l) next refl
+  plain-done Xready next q = turned-unrun o c rest Xready next refl
+  plain-done (OnBus b) next q = turned-unrun o c rest (OnBus b) next refl
+  plain-done (Level l) next q = turned-unrun o c rest (Level l) next refl
+  plain-done (Ticks v n) next q =
+      let p : c .setup .part ≢ 0 = part-there (c .setup .part) rest (Ticks v n) next (λ f. f) q in
+      let k : Counts = countsBeside rest (Record (Ticks v n) next) in
+      let m : Meaning (c .setup) (Ticks v n) k = later-means (c .setup) rest (Ticks v n) next p q refl in
+      decided-as (acted o (Ticks v n) k c) _ next p
+      (ticks-as n v (fit-some ticksMost v n (meant-of (c .setup) (Ticks v n) k m .1)) ∙ ap unrunIn (sym (acted-ticks o c v n k m)))
+  plain-done (Soak v n) next q =
+      let p : c .setup .part ≢ 0 = part-there (c .setup .part) rest (Soak v n) next (λ f. f) q in
+      let k : Counts = countsBeside rest (Record (Soak v n) next) in
+      let m : Meaning (c .setup) (Soak v n) k = later-means (c .setup) rest (Soak v n) next p q refl in
+      decided-as (acted o (Soak v n) k c) _ next p
+      (ticks-as n v (fit-some soakMost v n (meant-of (c .setup) (Soak v n) k m .1)) ∙ ap unrunIn (sym (acted-soak o c v n k m)))
+  plain-done (Wires n) next q = turned-unrun o c rest (Wires n) next refl
+
+  pub plain-turn : plainTurn before o (unrun c) rest ≡ forgetful (turnOf o c rest)
+  unfolding plainTurn turnOf
+  plain-turn = by (readOf (c .setup .part) rest) refl
+    where
+      by : (x : Read) → readOf (c .setup .part) rest ≡ x → plainTurned before o (unrun c) rest x ≡ forgetful (turned o c rest x)
+      by (Record e next) q = plain-done e next q
+      by (Refused k next) q = refl
+      by Cut q = refl
 
 -- ── the bytes lent so far are n whole records, which leave the chip c ──
 pub record Lent (before : List ℕ) (o : Bool) (c : Chip) (n : ℕ) : Type 0 where
   pub leads : (f : ℕ) (q : List ℕ) → stands (n + f) false none (before ++ q) ≡ stands f o c q
   pub few : n ≤ length before
+  pub calm : Calmed c
 
 pub lent-none : Lent [] false none 0
-lent-none = record { leads = λ f q. ap (λ (n : ℕ). stands n false none q) (zero-add f); few = omega arith }
+lent-none =
+    record {
+      leads = λ f q. ap (λ (n : ℕ). stands n false none q) (zero-add f);
+      few = omega arith;
+      calm = ship-calm (none .setup);
+    }
 
 none-left : (f : ℕ) (o : Bool) (c : Chip) → stands f o c [] ≡ c
 none-left zero o c = refl
@@ -213,7 +262,12 @@ module _ (before : List ℕ) (o : Bool) (c : Chip) (n : ℕ) (g : Lent before o 
         ∙ ap (stands f (t .fresh) (t .chip)) (drop-at (take (t .next) rest) q (t .next) sized)
 
     pub lent-next : Lent (before ++ take (t .next) rest) (t .fresh) (t .chip) (n + 1)
-    lent-next = record { leads = leads-on; few = simp length-append (omega (arith, g .few, sized, turn-past o c rest h)) }
+    lent-next =
+        record {
+          leads = leads-on;
+          few = simp length-append (omega (arith, g .few, sized, turn-past o c rest h));
+          calm = turn-calm o c rest (g .calm);
+        }
 
 -- ── all of them ──
 plain-runs : (f : ℕ) (before : List ℕ) (o : Bool) (c : Chip) (n : ℕ) (rest : List ℕ) → Lent before o c n
@@ -223,7 +277,7 @@ plain-runs (suc f) before o c n [] g = refl
 plain-runs (suc f) before o c n (b ∷ r) g =
     ap (λ (x : Turn). x .entry ∷ cond (x .last) []
     (plainRuns f (before ++ take (x .next) (b ∷ r)) (x .fresh) (x .chip) (drop (x .next) (b ∷ r))))
-    (plain-turn before o c (b ∷ r) (lent-runs before o c n g))
+    (plain-turn before o c (b ∷ r) (lent-runs before o c n g) (g .calm))
     ∙ ap (λ (l : List Entry). turnOf o c (b ∷ r) .entry ∷ l)
     (by (turnOf o c (b ∷ r) .last)
     (λ h. plain-runs f (before ++ take (turnOf o c (b ∷ r) .next) (b ∷ r)) (turnOf o c (b ∷ r) .fresh) (turnOf o c (b ∷ r) .chip)

@@ -1,114 +1,178 @@
-// CHIP P11: a second engine that keeps no runs. At each scan or tick it looks back over the records lent so far, and decides from them
-// alone.
+// CHIP P11: a second engine, which keeps no runs, to be read beside CHIP.md. At each scan or tick that is done it looks back over the records before
+// it and decides from them (CHIP J9, J10, H1 and H2): the bit of a fault is due where this record says yes, and it and those in a row before it
+// that said yes are as many as the delay asks for.
+//
+// Its own are that decision, here, and the look back, in plain_back. It shares with the base engine how a record is read (records); thresholds and
+// delays by their codes, and which count or value is beyond one (protection, cell_counts); where counts are stored, what a bit that rises puts off,
+// and the outside level (registers); every record that is no scan and no tick, in the look back too (turn, chip); an entry's bytes (turn), and how
+// many entries there are (stream).
 ghost use mathlib.Core.Path.{_≡_};
-ghost use Prim.Native.Nat.{_≤_, min};
-ghost use lib.ListN.{length};
-ghost use Rattle.records.specs.Record.{readOf};
-ghost use Rattle.protection.specs.Fault.{noRuns};
-ghost use Rattle.chip.specs.Chip.{withRuns};
+ghost use Prim.Native.Nat.{_≤_};
+ghost use lib.ListN.{length, take};
+ghost use Rattle.events.specs.Setup.{inputs};
 ghost use Rattle.turn.specs.TurnedLaws.{asTurn};
-ghost use Rattle.plain.specs.Plain.{isJudging, asks, runsFrom, lent, plainTurn, Noted, PlainPlayed};
+ghost use Rattle.plain_back.specs.Said.{streaksIn};
+ghost use Rattle.plain.specs.Decision.{due as dueSpec, scanDue, ticksDue, shows, scanDone, ticksDone};
+ghost use Rattle.plain.specs.Plain.{decided as decidedSpec, plainTurn, Noted, PlainPlayed};
+use cell_counts::Looked;
 use chip::Chip;
+use chip::Stepped;
+use constants::number;
 use constants::range;
 use events::Event;
+use events::Faults;
 use plain_back::Back;
 use plain_back::Streaks;
-use protection::Runs;
 use records::Read;
+use settings::Settings;
 use turn::Turned;
 
-fn is_judging(event: Event) -> bool
-    ensures { λ r. ⌜ r ≡ isJudging event ⌝ }
-{
-    match event {
-        Event::Setup(_) => false,
-        Event::Por => false,
-        Event::Boot => false,
-        Event::Scan => true,
-        Event::Temp => false,
-        Event::Count(_) => false,
-        Event::Sense(_) => true,
-        Event::Pin => false,
-        Event::Load(_) => false,
-        Event::Xready => false,
-        Event::OnBus(_) => false,
-        Event::Level(_) => false,
-        Event::Ticks(_, _) => true,
-        Event::Soak(_, _) => true,
-        Event::Wires(_) => false,
-    }
-}
-
-// Whether the rest begins with a scan or a tick.
-fn judges(rest: &[u8], part: u8) -> bool
-    ensures { λ r. ⌜ r ≡ asks (readOf part (now (rest .entry))) ⌝ }
-{
-    match records::read_rest(rest, part) {
-        Read::Record { event, next: _ } => is_judging(event),
-        Read::Refused { number: _, next: _ } => false,
-        Read::Cut => false,
-    }
-}
-
-// A streak as a run, which stops at the longest delay.
-fn cut(longest: u16, streak: u64) -> u16
-    ensures { λ r. ⌜ r ≡ min longest streak ⌝ }
-{
-    if streak < longest as u64 {
-        streak as u16
-    } else {
-        longest
-    }
-}
-
-fn runs_of(said: Streaks) -> Runs
-    ensures { λ r. ⌜ r ≡ runsFrom said ⌝ }
-{
-    let ov = cut(range::OV_LONGEST, said.ov);
-    let uv = cut(range::UV_LONGEST, said.uv);
-    let scd = cut(range::SCD_LONGEST, said.scd);
-    let ocd = cut(range::OCD_LONGEST, said.ocd);
-    Runs { ov, uv, scd, ocd }
-}
-
-// At a scan or tick the chip is lent what the records before it say.
-fn lend(mut chip: Chip, before: &[u8], rest: &[u8]) -> Chip
+// The look back: for each fault, how many of the newest scans (ticks) before this record say yes, up to the first that does not. Each said it by the
+// settings that stood at it, and none from before SHIP is among them.
+fn look_back(before: &[u8]) -> Streaks
     requires { ⌜ length (now before) ≤ 65536 ⌝ }
-    ensures { λ r. ⌜ r ≡ lent (asks (readOf (chip .setup .part) (now (rest .entry)))) (now (before .entry)) chip ⌝ }
+    ensures { λ r. ⌜ r ≡ streaksIn (now (before .entry)) ⌝ }
 {
-    let setup = chip.setup;
-    if !judges(rest, setup.part) {
-        return chip;
-    }
     let answer = plain_back::look(before);
-    let Back::Is(said) = answer else {
-        return chip;
-    };
-    let runs = runs_of(said);
-    chip.runs = runs;
-    chip
+    match answer {
+        Back::Is(said) => said,
+        Back::TooLong => Streaks {
+            ov: 0,
+            uv: 0,
+            scd: 0,
+            ocd: 0,
+        },
+    }
 }
 
-// .. and keeps none of it.
-fn forget(mut chip: Chip) -> Chip
-    ensures { λ r. ⌜ r ≡ withRuns noRuns chip ⌝ }
+// The decision: these scans or ticks say yes, and they alone, or with those in a row before them, are as many as the delay asks for.
+fn due(says_yes: bool, these: u32, in_a_row_before: u64, asked_for: u16) -> bool
+    ensures { λ r. ⌜ r ≡ dueSpec «says_yes» these «in_a_row_before» «asked_for» ⌝ }
 {
-    let runs = protection::no_runs();
-    chip.runs = runs;
+    let asked_for = asked_for as u32;
+    if asked_for <= these {
+        return says_yes;
+    }
+    says_yes & ((asked_for - these) as u64 <= in_a_row_before)
+}
+
+// A scan says yes to OV where it is stored and some count is over, to UV where it is stored and some count is under (CHIP J1 to J4).
+fn due_at_scan(s: Settings, looked: Looked, in_a_row: Streaks) -> Faults
+    ensures { λ r. ⌜ r ≡ scanDue s (looked .over) (looked .under) «in_a_row» ⌝ }
+{
+    let says_over = s.adc_en & looked.over;
+    let says_under = s.adc_en & looked.under;
+    let ov = due(says_over, 1, in_a_row.ov, protection::ov_scans(s));
+    let uv = due(says_under, 1, in_a_row.uv, protection::uv_scans(s));
+    Faults {
+        ov,
+        uv,
+        scd: false,
+        ocd: false,
+    }
+}
+
+// Ticks of one value say yes to SCD, and to OCD, where minus the value is above the threshold set (CHIP J5); each of them counts (CHIP R8).
+fn due_at_ticks(s: Settings, value: i32, these: u32, in_a_row: Streaks) -> Faults
+    ensures { λ r. ⌜ r ≡ ticksDue s value these «in_a_row» ⌝ }
+{
+    let says_scd = protection::beyond_scd(s, value);
+    let says_ocd = protection::beyond_ocd(s, value);
+    let scd = due(says_scd, these, in_a_row.scd, protection::scd_ticks(s));
+    let ocd = due(says_ocd, these, in_a_row.ocd, protection::ocd_ticks(s));
+    Faults {
+        ov: false,
+        uv: false,
+        scd,
+        ocd,
+    }
+}
+
+// What is due is shown and puts off its drive; then the outside level is looked at (CHIP J13, L2).
+fn show(mut chip: Chip, risen: Faults) -> Chip
+    ensures { λ r. ⌜ r ≡ shows risen chip ⌝ }
+{
+    let registers = chip.registers;
+    let raised = registers.raised(risen);
+    chip.registers = raised.pulled_by_level();
     chip
 }
 
-// A record, with the records before it at hand.
+// A SCAN.
+fn scan(mut chip: Chip, before: &[u8], counts: [u16; 15]) -> Stepped
+    requires { ⌜ length (now before) ≤ 65536 ⌝ }
+    ensures { λ r. ⌜ r ≡ scanDone (streaksIn (now (before .entry))) (take (inputs (chip .setup)) counts) chip ⌝ }
+{
+    if !chip.normal {
+        return turn::numbered(number::ASLEEP, chip);
+    }
+    let setup = chip.setup;
+    let registers = chip.registers;
+    let s = registers.settings;
+    let over = protection::over_line(s);
+    let under = protection::under_line(s);
+    let looked = cell_counts::look(counts, setup.inputs(), over, setup.floor, under);
+    let risen = due_at_scan(s, looked, look_back(before));
+    let cells = looked.cells;
+    chip.registers = registers.scanned(cells, looked.sum);
+    turn::numbered(number::DONE, show(chip, risen))
+}
+
+// A SENSE, or the ticks that a TICKS or SOAK stands for. What is due at one of them is due at the last; and since the outside level was looked at after
+// the record before, once after the last is enough (CHIP L5).
+fn ticks(chip: Chip, before: &[u8], value: i32, these: u32) -> Stepped
+    requires { ⌜ length (now before) ≤ 65536 ⌝ }
+    ensures { λ r. ⌜ r ≡ ticksDone (streaksIn (now (before .entry))) value these chip ⌝ }
+{
+    if !chip.normal {
+        return turn::numbered(number::ASLEEP, chip);
+    }
+    let registers = chip.registers;
+    let risen = due_at_ticks(registers.settings, value, these, look_back(before));
+    turn::numbered(number::DONE, show(chip, risen))
+}
+
+// A scan or ticks as a turn: a wiring record may follow where it might before, and this one was refused (CHIP W1).
+fn decided(fresh: bool, step: Stepped, next: usize) -> Turned
+    ensures { λ r. ⌜ asTurn r ≡ decidedSpec fresh step next ⌝ }
+{
+    turn::told(step, fresh & (step.number != 0), next, false)
+}
+
+// A record, with the records before it at hand: scans and ticks are decided here, all else is done as the base engine does it.
 fn take_turn(chip: Chip, fresh: bool, before: &[u8], rest: &[u8]) -> Turned
     requires { ⌜ length (now before) ≤ 65536 ⌝ }
     ensures { λ r. ⌜ asTurn r ≡ plainTurn (now (before .entry)) fresh chip (now (rest .entry)) ⌝ }
 {
-    let turned = turn::turn(lend(chip, before, rest), fresh, rest);
-    let chip = forget(turned.chip);
-    Turned { chip, ..turned }
+    let setup = chip.setup;
+    let read = records::read_rest(rest, setup.part);
+    let Read::Record { event, next } = read else {
+        return turn::turn(chip, fresh, rest);
+    };
+    match event {
+        Event::Scan => {
+            let counts = records::counts_in(event, &rest[4..next]);
+            let of = counts.of;
+            decided(fresh, scan(chip, before, of), next)
+        }
+        Event::Sense(value) => decided(fresh, ticks(chip, before, value, 1), next),
+        Event::Ticks(value, n) => decided(fresh, ticks(chip, before, value, n as u32), next),
+        Event::Soak(value, n) => decided(fresh, ticks(chip, before, value, n), next),
+        Event::Setup(_)
+        | Event::Por
+        | Event::Boot
+        | Event::Temp
+        | Event::Count(_)
+        | Event::Pin
+        | Event::Load(_)
+        | Event::Xready
+        | Event::OnBus(_)
+        | Event::Level(_)
+        | Event::Wires(_) => turn::turn(chip, fresh, rest),
+    }
 }
 
-// The entries are written where all of them fit.
+// The records one after the other, on a chip that never has a run. The entries are written where all of them fit.
 fn run(s: &[u8], out: &mut [u8])
     requires { ⌜ length (now s) ≤ 65536 ⌝ }
     ensures { λ _. ⌜ Noted (now (s .entry)) (now (out .entry)) (now (out .exit)) ⌝ }

@@ -308,7 +308,7 @@ module _ (u : SetupValues) where
   meant-is true m h = (refl, h)
   meant-is false m h = absurd (true≢false (sym h))
 
-  meant-of : (e : Coded) (k : Counts) → Meaning u e k → (meantOf u e k ≡ eventOf u e (k .of)) × (inRange (eventOf u e (k .of)) ≡ true)
+  pub meant-of : (e : Coded) (k : Counts) → Meaning u e k → (meantOf u e k ≡ eventOf u e (k .of)) × (inRange (eventOf u e (k .of)) ≡ true)
   unfolding meantOf
   meant-of e k m = meant-is (countsFit (countsWanted u e) k) (eventOf u e (k .of)) m
 

@@ -1,5 +1,6 @@
 // CHIP P11: what the records lent so far say of the four faults, found by walking them from the first on. Nothing is kept between two
-// calls.
+// calls. Each scan or tick says yes or no by the settings that stand when it comes; what moves these, and the mode, is any other record, which
+// is done as the base engine does it, by `chip`.
 ghost use mathlib.Core.Path.{_≡_};
 ghost use Prim.Native.Nat.{_≤_, _^_};
 ghost use lib.ListN.{length, take};

@@ -117,7 +117,8 @@ fn act(chip: Chip, fresh: bool, event: Event, counts: Counts) -> Stepped
     }
 }
 
-fn told(step: Stepped, fresh: bool, next: usize, last: bool) -> Turned
+// A record that was done or refused, with its entry.
+pub fn told(step: Stepped, fresh: bool, next: usize, last: bool) -> Turned
     ensures { λ r. ⌜ asTurn r ≡ turnSpec step fresh next last ⌝ }
 {
     let chip = step.chip;
