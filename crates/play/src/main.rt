@@ -1,4 +1,6 @@
 // Plays a stream of records from standard input, and prints a line for each.
+mod lines;
+
 use libc::STDIN_FILENO;
 use libc::STDOUT_FILENO;
 
@@ -8,6 +10,6 @@ fn main() {
     let n = io::read_full(STDIN_FILENO, &mut input);
     // Room for the longest text, so that it is never refused.
     let mut out = [0u8; 442368];
-    let k = play_lines::text(&input[..n], &mut out) as usize;
+    let k = lines::text(&input[..n], &mut out) as usize;
     io::write_all(STDOUT_FILENO, &out[..k]);
 }

@@ -12,9 +12,10 @@ use mir.Syntax.{w64}
 use mir.Val.{toZ, ofZ, Fits}
 use mir.Facts.{toZ-pos}
 use borrow.Author.Needs.{needs}
-use Rattle.play_lines.specs.Text.{mostText, textOf, Written}
-use Rattle.play_lines.specs.FewLaws.{text-few}
-use Rattle.play_lines.specs.WholeLaws.{never-short}
+use Rattle.play_line.specs.Put.{Written}
+use Rattle.play.specs.Text.{mostText, textOf}
+use Rattle.play.specs.FewLaws.{text-few}
+use Rattle.play.specs.WholeLaws.{never-short}
 use Rattle.play.proofs.main.Statement.{statement}
 use Rattle.play.proofs.main.Tie as tie
 

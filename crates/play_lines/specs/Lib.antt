@@ -1,5 +1,0 @@
-pub mod Line
-pub mod Text
-pub mod Decimal
-pub mod FewLaws
-pub mod WholeLaws
