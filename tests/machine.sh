@@ -88,24 +88,107 @@ want_compiler() {
 # `program`.
 want_program() {
     program=$root/target/bin/$1
-    want_built "$1" "$program" check
+    if newest 'bin/%' "$1"; then
+        return
+    fi
+    proved check "$1"
+    touch "$program.built"
 }
 
-# want_library NAME: the same of target/staticlib/libNAME.a.
-want_library() {
-    want_built "lib$1" "$root/target/staticlib/lib$1.a" staticlib
+# want_libraries NAME..: the same of target/staticlib/libNAME.a. What the crates stand on is proved first; then they are built side by side.
+want_libraries() {
+    local name old=() below
+    if newest 'staticlib/lib%.a' "$@"; then
+        return
+    fi
+    for name in "$@"; do
+        newest 'staticlib/lib%.a' "$name" || old+=("$name")
+    done
+    mapfile -t below < <(for name in "${old[@]}"; do standing_on "$name" | grep -vx "$name"; done | sort -u)
+    [[ ${#below[@]} -eq 0 ]] || proved check "${below[@]}"
+    printf '%s: builds and proves %s\n' "$me" "${old[*]/#/lib}" >&2
+    side_by_side "$root/target/log/libraries" built_library "${old[@]}"
+    [[ ${#fell[@]} -eq 0 ]] || give_up 1 "rt staticlib ${fell[0]} does not pass: target/log/libraries/${fell[0]}.log has what it said"
+    for name in "${old[@]}"; do
+        touch "$root/target/staticlib/lib$name.a.built"
+    done
 }
 
-# The crates whose calls include/toralinge.h declares.
-calls=(stream values_c i2c_lists services_stream season_stream season_scans plain chip_c feed record_c season_c)
+# built_library NAME: one of them. rt notes what it finds of a crate in target/log, where two at once would meet, so each lane has a folder
+# that has all of target/ but this.
+built_library() {
+    local room=$root/target/lanes/$lane part
+    mkdir -p "$room/target/log" "$root/target/staticlib"
+    ln -sfn "$root/crates" "$room/crates"
+    ln -sfn "$root/crates.txt" "$room/crates.txt"
+    for part in rlib stamp staticlib; do
+        ln -sfn "$root/target/$part" "$room/target/$part"
+    done
+    (cd "$room" && rt staticlib "$1")
+}
+
+# side_by_side FOLDER WORK NAME..: runs `WORK NAME` for each name, as many at once as there are processors and four at most, each in a lane
+# with the number `lane`. What one says goes to FOLDER/NAME.log, its status and seconds to FOLDER/NAME.end. As they end, in the order of the names, `told`
+# is called with the name, where there is such a function. Sets `fell` to those that did not end with 0. Not to be called after `if` or
+# before `||`, where bash would pass over what goes wrong in them.
+side_by_side() {
+    local folder=$1 work=$2 name status
+    shift 2
+    rm -rf "$folder"
+    mkdir -p "$folder"
+    for ((lane = 0; lane < 4 && lane < $(nproc); lane++)); do
+        in_lane "$folder" "$work" "$@" &
+    done
+    fell=()
+    for name in "$@"; do
+        until [[ -e $folder/$name.end || -z $(jobs -pr) ]]; do
+            sleep 0.1
+        done
+        status=1
+        [[ ! -e $folder/$name.end ]] || read -r status _ <"$folder/$name.end"
+        [[ $status = 0 ]] || fell+=("$name")
+        if declare -F told >/dev/null; then
+            told "$folder" "$name"
+        fi
+    done
+    wait
+}
+
+# in_lane FOLDER WORK NAME..: those of the names that no other lane has taken.
+in_lane() {
+    local folder=$1 work=$2 name began status
+    shift 2
+    for name in "$@"; do
+        mkdir "$folder/$name" 2>/dev/null || continue
+        began=$SECONDS status=0
+        ("$work" "$name") >"$folder/$name.log" 2>&1 </dev/null &
+        wait $! || status=$?
+        echo "$status $((SECONDS - began))" >"$folder/$name/end"
+        mv "$folder/$name/end" "$folder/$name.end"
+    done
+}
+
+# How many checks rt is to start together. It waits for the slowest of them before it starts the next ones, so three for each
+# processor keep all processors busy; each takes up to 2 GB.
+at_a_time() {
+    local room jobs
+    room=$(awk '/^MemAvailable:/ { print int($2 / 2000000) }' /proc/meminfo)
+    jobs=$((3 * $(nproc)))
+    ((jobs <= room)) || jobs=$room
+    ((jobs >= 1)) || jobs=1
+    echo "$jobs"
+}
+
+# The crates whose calls include/toralinge.h declares, those first that take longest.
+calls=(stream record_c season_c season_stream plain feed chip_c i2c_lists services_stream season_scans values_c)
 
 # want_calls: all of them in one library, with those of c/ that are text; sets `library`.
 want_calls() {
     local name room archiver=ar parts=()
     native || archiver=x86_64-linux-gnu-ar
     want "$archiver" "$(native && echo binutils || echo binutils-x86-64-linux-gnu)"
+    want_libraries "${calls[@]}"
     for name in "${calls[@]}"; do
-        want_library "$name"
         parts+=("$root/target/staticlib/lib$name.a")
     done
     library=$root/target/libtoralinge.a
@@ -145,23 +228,27 @@ want_bus() {
     fi
 }
 
-# want_built NAME FILE VERB: has rt make FILE unless it is newer than every source.
-want_built() {
-    local built=$root/target/$1.built since name=${1#lib}
-    for since in "$2" "$built"; do
-        if [[ -e $2 && -e $since ]] &&
-            [[ -z $(find "$root/crates" "$root/crates.txt" -type f \( -name '*.rt' -o -name '*.antt' -o -name crates.txt \) -newer "$since" -print -quit) ]]; then
-            return
-        fi
+# newest FILE NAME..: every FILE, a pattern with % for each of the names, or what was noted when it was made last, is newer than every source.
+newest() {
+    local pattern=$1 name file oldest=''
+    shift
+    for name in "$@"; do
+        file=$root/target/${pattern//%/$name}
+        [[ -e $file ]] || break
+        [[ $file -nt $file.built ]] || file=$file.built
+        [[ -n $oldest && ! $file -ot $oldest ]] || oldest=$file
     done
-    command -v rt >/dev/null || give_up 1 "${2#"$root"/} is to be built, and there is no rt to prove and build it"
-    proved "$3" "$name" || give_up 1 "rt $3 $name does not pass: target/log/$name.log has what it said"
-    touch "$built"
+    if [[ -n $oldest && -e $root/target/${pattern//%/$name} ]] &&
+        [[ -z $(find "$root/crates" "$root/crates.txt" -type f \( -name '*.rt' -o -name '*.antt' -o -name crates.txt \) -newer "$oldest" -print -quit) ]]; then
+        return
+    fi
+    command -v rt >/dev/null || give_up 1 "target/${pattern//%/$1} is to be built, and there is no rt to prove and build it"
+    return 1
 }
 
-# standing_on NAME: the crates of the repository that NAME stands on, and NAME itself.
+# standing_on NAME..: the crates of the repository that these stand on, and themselves.
 standing_on() {
-    awk -v name="$1" '
+    awk -v names="$*" '
         /^[^#]*:/ { sub(/#.*/, ""); crate = $1; sub(/:.*/, "", crate); sub(/^[^:]*:/, ""); below[crate] = $0 }
         function take(crate,    words, n, i) {
             if (!(crate in below) || crate in taken) return
@@ -169,24 +256,25 @@ standing_on() {
             n = split(below[crate], words, " ")
             for (i = 1; i <= n; i++) take(words[i])
         }
-        END { take(name); for (crate in taken) print crate }
+        END { n = split(names, top, " "); for (i = 1; i <= n; i++) take(top[i]); for (crate in taken) print crate }
     ' "$root/crates.txt"
 }
 
-# proved VERB NAME: rt VERB NAME, with a line for each crate that is proved anew and how many are left; all else that rt says goes to a log.
+# proved VERB NAME..: rt VERB NAME.., with a line for each crate that is proved anew and how many are left; all else that rt says goes to a log.
 proved() {
-    local log=$root/target/log/$2.log left
+    local verb=$1 log left
+    shift
+    log=target/log/${!#}.log
     mkdir -p "$root/target/log"
-    left=$(standing_on "$2" | wc -l)
-    printf '%s: rt %s %s proves %d crates where they changed; target/log/%s.log has what it says\n' "$me" "$1" "$2" "$left" "$2" >&2
-    (cd "$root" && rt "$1" "$2" 2>&1) | tee "$log" | awk -v me="$me" -v left="$left" '
+    left=$(standing_on "$@" | wc -l)
+    printf '%s: rt %s proves %d crates where they changed; %s has what it says\n' "$me" "$verb" "$left" "$log" >&2
+    (cd "$root" && RT_JOBS=${RT_JOBS:-$(at_a_time)} rt "$verb" "$@" 2>&1) | tee "$root/$log" | awk -v me="$me" -v left="$left" '
         /^rt: [a-z0-9_]+ proved/ {
             left--
             if ($0 !~ /unchanged/) { printf "%s: %s is proved %s, %d left\n", me, $2, $4 " " $5, left; fflush() }
         }
         /NOT PROVED/ { printf "%s: %s\n", me, $0; fflush() }
-    ' >&2
-    return "${PIPESTATUS[0]}"
+    ' >&2 || give_up 1 "rt $verb ${!#} does not pass: $log has what it said"
 }
 
 # want_input WORD..: one file at most, which can be read, or standard input that is no terminal; `usage` says what is asked for.

@@ -62,8 +62,8 @@ want_linked() {
         linked=("$library")
     else
         linked=("$root/c/toralinge.c")
+        want_libraries "$@"
         for name in "$@"; do
-            want_library "$name"
             linked+=("$root/target/staticlib/lib$name.a")
         done
     fi
