@@ -251,6 +251,13 @@ keptAt b =
     cond (within 0 b) (keeps none false)
     (cond (formed b && couldStand (chipAt b) (switchAt b 23)) (keeps (chipAt b) (switchAt b 23)) noChip)
 
+-- the same in steps: whether bytes are good, and then their chip
+unfoldable pub goodAt : List ℕ → Bool
+goodAt b = within 0 b || (formed b && couldStand (chipAt b) (switchAt b 23))
+
+unfoldable pub chipIn : List ℕ → Chip
+chipIn b = cond (eqb (getD b 1 0) 0) none (chipAt b)
+
 -- part 0: no chip yet
 unfoldable pub keptBytes : Chip → Bool → List ℕ
 keptBytes c fresh = cond (eqb (c .setup .part) 0) (replicate 96 0) (chipBytes c fresh)
@@ -258,6 +265,15 @@ keptBytes c fresh = cond (eqb (c .setup .part) 0) (replicate 96 0) (chipBytes c 
 -- the first 96 bytes of a buffer, which has room for them or stays as it was
 abbrev pub keptOf : List ℕ → Kept
 keptOf b = cond (ltb (length b) 96) noChip (keptAt (take 96 b))
+
+abbrev pub goodOf : List ℕ → Bool
+goodOf b = cond (ltb (length b) 96) false (goodAt (take 96 b))
+
+abbrev pub chipOf : List ℕ → Chip
+chipOf b = cond (ltb (length b) 96) none (chipIn (take 96 b))
+
+abbrev pub freshOf : List ℕ → Bool
+freshOf b = cond (ltb (length b) 96) false (switchAt (take 96 b) 23)
 
 abbrev pub keptIn : Chip → Bool → List ℕ → List ℕ
 keptIn c fresh old = cond (ltb (length old) 96) old (keptBytes c fresh ++ drop 96 old)

@@ -3,7 +3,8 @@ ghost use mathlib.Core.Path.{_≡_};
 ghost use Prim.Native.Nat.{_<_};
 ghost use lib.ListN.{length};
 ghost use Rattle.events.specs.Event.{within};
-ghost use Rattle.chip_bytes.specs.Layout.{phaseOf, phaseGood, listed, wordIn, setupAt, busAt, settingsAt, statusAt, shownAt, cellbalAt, measuredAt, runsAt, registersAt, chipAt, formed as formedSpec, setupStands, couldStand, keptAt, keptOf, noChip, none};
+ghost use Rattle.writer.specs.BytesLaws.{Bytes};
+ghost use Rattle.chip_bytes.specs.Layout.{phaseOf, phaseGood, listed, wordIn, setupAt, busAt, settingsAt, statusAt, shownAt, cellbalAt, measuredAt, runsAt, registersAt, chipAt, formed as formedSpec, setupStands, couldStand, switchAt, goodAt, chipIn, goodOf, chipOf, freshOf, keptOf, noChip, none};
 use crate::Kept;
 use bus::Bus;
 use bus::Line;
@@ -106,7 +107,7 @@ fn bus_at(b: &[u8]) -> Bus
     Bus { line, owed }
 }
 
-fn settings_at(b: &[u8]) -> Settings
+pub fn settings_at(b: &[u8]) -> Settings
     requires { ⌜ length (now b) ≡ 96 ⌝ }
     ensures { λ r. ⌜ r ≡ settingsAt (now (b .entry)) ⌝ }
 {
@@ -140,7 +141,7 @@ fn status_at(b: &[u8]) -> Status
     }
 }
 
-fn shown_at(b: &[u8]) -> Shown
+pub fn shown_at(b: &[u8]) -> Shown
     requires { ⌜ length (now b) ≡ 96 ⌝ }
     ensures { λ r. ⌜ r ≡ shownAt (now (b .entry)) ⌝ }
 {
@@ -191,7 +192,7 @@ fn measured_at(b: &[u8]) -> Measured
     Measured { cells, bat, ts, cc }
 }
 
-fn runs_at(b: &[u8]) -> Runs
+pub fn runs_at(b: &[u8]) -> Runs
     requires { ⌜ length (now b) ≡ 96 ⌝ }
     ensures { λ r. ⌜ r ≡ runsAt (now (b .entry)) ⌝ }
 {
@@ -294,17 +295,16 @@ fn setup_stands(v: Setup) -> bool
         & ((v.cells == 0) | wiring::has_row(v.part, v.cells))
 }
 
-// Whether a chip could stand.
-fn could_stand(chip: Chip, fresh: bool) -> bool
-    ensures { λ r. ⌜ r ≡ couldStand chip fresh ⌝ }
+// Whether the chip that bytes have could stand.
+fn could_stand(b: &[u8]) -> bool
+    requires { ⌜ length (now b) ≡ 96 ⌝ }
+    ensures { λ r. ⌜ r ≡ couldStand (chipAt (now (b .entry))) (switchAt (now (b .entry)) 23) ⌝ }
 {
-    let setup = chip.setup;
-    let registers = chip.registers;
-    let shown = registers.shown;
-    let status = shown.status;
+    let setup = setup_at(b);
+    let status = status_at(b);
     setup_stands(setup)
-        & (status.alert() | !registers.outside_level)
-        & (!fresh | (!chip.normal & (setup.cells == 0)))
+        & (status.alert() | !(b[40] == 1))
+        & (!(b[23] == 1) | (!(b[22] == 1) & (setup.cells == 0)))
 }
 
 // Whether every byte is 0.
@@ -333,39 +333,88 @@ fn no_kept() -> Kept
     }
 }
 
-fn kept_at(b: &[u8]) -> Kept
+// Whether bytes keep a chip, or none yet.
+fn good_at(b: &[u8]) -> bool
     requires { ⌜ length (now b) ≡ 96 ⌝ }
-    ensures { λ r. ⌜ r ≡ keptAt (now (b .entry)) ⌝ }
+    ensures { λ r. ⌜ r ≡ goodAt (now (b .entry)) ⌝ }
 {
     if all_zero(b) {
-        let chip = no_chip();
-        return Kept {
-            good: true,
-            chip,
-            fresh: false,
-        };
+        return true;
     }
     if formed(b) {
-        let chip = chip_at(b);
-        let fresh = b[23] == 1;
-        if could_stand(chip, fresh) {
-            return Kept {
-                good: true,
-                chip,
-                fresh,
-            };
-        }
-        return no_kept();
+        return could_stand(b);
     }
-    no_kept()
+    false
+}
+
+// The chip that bytes have, none for part 0.
+fn chip_in(b: &[u8]) -> Chip
+    requires { ⌜ length (now b) ≡ 96 ⌝ }
+    ensures { λ r. ⌜ r ≡ chipIn (now (b .entry)) ⌝ }
+{
+    if b[1] == 0 {
+        return no_chip();
+    }
+    chip_at(b)
+}
+
+// Whether the chip that bytes have is in NORMAL.
+pub fn normal_in(b: &[u8]) -> bool
+    requires { ⌜ length (now b) ≡ 96 ⌝ }
+    ensures { λ r. ⌜ (r ≡ switchAt (now (b .entry)) 22) × Bytes (now (b .entry)) ⌝ }
+{
+    b[22] == 1
+}
+
+fn fresh_in(b: &[u8]) -> bool
+    requires { ⌜ length (now b) ≡ 96 ⌝ }
+    ensures { λ r. ⌜ r ≡ switchAt (now (b .entry)) 23 ⌝ }
+{
+    b[23] == 1
+}
+
+// Whether the first 96 bytes keep a chip, or none yet.
+pub fn good(bytes: &[u8]) -> bool
+    ensures { λ r. ⌜ r ≡ goodOf (now (bytes .entry)) ⌝ }
+{
+    if bytes.len() < 96 {
+        return false;
+    }
+    good_at(&bytes[..96])
+}
+
+// The chip that the first 96 bytes have, where they are good.
+pub fn chip_of(bytes: &[u8]) -> Chip
+    ensures { λ r. ⌜ r ≡ chipOf (now (bytes .entry)) ⌝ }
+{
+    if bytes.len() < 96 {
+        return no_chip();
+    }
+    chip_in(&bytes[..96])
+}
+
+// Whether a wiring record is still taken, where they are good.
+pub fn fresh_of(bytes: &[u8]) -> bool
+    ensures { λ r. ⌜ r ≡ freshOf (now (bytes .entry)) ⌝ }
+{
+    if bytes.len() < 96 {
+        return false;
+    }
+    fresh_in(&bytes[..96])
 }
 
 // The chip that the first 96 bytes are.
 pub fn decode(bytes: &[u8]) -> Kept
     ensures { λ r. ⌜ r ≡ keptOf (now (bytes .entry)) ⌝ }
 {
-    if bytes.len() < 96 {
-        return no_kept();
+    if good(bytes) {
+        let chip = chip_of(bytes);
+        let fresh = fresh_of(bytes);
+        return Kept {
+            good: true,
+            chip,
+            fresh,
+        };
     }
-    kept_at(&bytes[..96])
+    no_kept()
 }

@@ -42,10 +42,10 @@ module _ (k : Kept) (b s : List ℕ) (room : ℕ) (wide : ltb (length b) 96 ≡ 
   full-feeds : k .good ≡ true → allFit k s room ≡ false → feedsBy k b s room ≡ false
   full-feeds g t = simp (wide, g, t)
 
-  done-answer : k .good ≡ true → allFit k s room ≡ true → pos (length (entriesOf k s)) ≡ answerBy k b s room
+  pub done-answer : k .good ≡ true → allFit k s room ≡ true → pos (length (entriesOf k s)) ≡ answerBy k b s room
   done-answer g t = simp (wide, g, t)
 
-  done-feeds : k .good ≡ true → allFit k s room ≡ true → feedsBy k b s room ≡ true
+  pub done-feeds : k .good ≡ true → allFit k s room ≡ true → feedsBy k b s room ≡ true
   done-feeds g t = simp (wide, g, t)
 
 -- neither buffer changed

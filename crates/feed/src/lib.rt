@@ -1,9 +1,40 @@
 // Records fed to a chip that the caller keeps as bytes.
 ghost use mathlib.Core.Path.{_≡_};
+ghost use mathlib.Core.Bool.{true};
+ghost use Prim.Native.Nat.{_≤_};
+ghost use lib.ListN.{length};
+ghost use Rattle.chip_bytes.specs.Layout.{goodOf};
 ghost use Rattle.feed.specs.Fed.{Fed};
+
+mod alone;
+
+// The value of a tick, where records are one tick and nothing else.
+pub enum Tick {
+    Of(i32),
+    Not,
+}
+
+// Records played on a chip that bytes keep: read from them, and written again.
+fn played(chip: &mut [u8], records: &[u8], entries: &mut [u8]) -> i64
+    requires { ⌜ (96 ≤ length (now chip)) × (goodOf (now chip) ≡ true) ⌝ }
+    ensures { λ r. ⌜ Fed (now (chip .entry)) (now (records .entry)) (now (entries .entry)) r (now (chip .exit)) (now (entries .exit)) ⌝ }
+{
+    let stood = chip_bytes::chip_of(&chip[..]);
+    let fresh = chip_bytes::fresh_of(&chip[..]);
+    let setup = stood.setup;
+    let n = stream::count_from(setup.part, records);
+    if entries.len() / 5 < n {
+        return -5;
+    }
+    let left = stream::run_from(stood, fresh, records, entries);
+    let after = left.chip;
+    chip_bytes::encode(after, left.fresh, chip);
+    n as i64
+}
 
 // Plays records on the kept chip, zeroed bytes being no chip yet. Each record gives five bytes, as toralinge_play's. Answers how many records there are, or with neither
 // buffer changed -5 for a chip buffer below 96 bytes, -26 for bytes that are no chip, -5 where the entries do not all fit.
+// One tick that raises nothing, which is mostly what is fed by itself, is done in the bytes.
 #[no_mangle]
 pub extern "C" fn toralinge_feed(chip: &mut [u8], records: &[u8], entries: &mut [u8]) -> i64
     ensures { λ r. ⌜ Fed (now (chip .entry)) (now (records .entry)) (now (entries .entry)) r (now (chip .exit)) (now (entries .exit)) ⌝ }
@@ -11,18 +42,11 @@ pub extern "C" fn toralinge_feed(chip: &mut [u8], records: &[u8], entries: &mut 
     if chip.len() < 96 {
         return -5;
     }
-    let kept = chip_bytes::decode(&chip[..]);
-    if kept.good {
-        let stood = kept.chip;
-        let setup = stood.setup;
-        let n = stream::count_from(setup.part, records);
-        if entries.len() / 5 < n {
-            return -5;
-        }
-        let left = stream::run_from(stood, kept.fresh, records, entries);
-        let after = left.chip;
-        chip_bytes::encode(after, left.fresh, chip);
-        return n as i64;
+    if !chip_bytes::good(&chip[..]) {
+        return -26;
     }
-    -26
+    if alone::ticked(chip, records, entries) {
+        return 1;
+    }
+    played(chip, records, entries)
 }

@@ -1,6 +1,14 @@
--- Test by test: the room, the bytes, the room of the entries.
-use native.Mathlib.Omega.{arith}
-use Rattle.feed.proofs.Calls.{fed-short, kept-calm, fed-bad, fed-full, fed-done}
+-- Test by test: the room, the bytes, one tick by itself; else it is played.
+use mathlib.Core.Path.{_≡_, refl, sym, ap, _∙_, subst}
+use mir.Syntax.{w64}
+use mir.Val.{toZ, ofZ}
+use mathlib.Core.List.{List}
+use Prim.Native.Nat.{ℕ, _≤_}
+use lib.ListN.{length}
+use Rattle.chip_bytes.specs.Layout.{keptOf, goodOf}
+use Rattle.chip_bytes.specs.GoodLaws.{good-is}
+use Rattle.feed.proofs.Calls.{fed-short, fed-bad}
+use Rattle.feed.proofs.Ticks.{fed-ticked, unticked, fed-as, up, down}
 use borrow.Author.Needs.{needs}
 use Rattle.feed.proofs.toralinge_feed.Statement.{statement}
 use Rattle.feed.proofs.toralinge_feed.Tie as tie
@@ -10,34 +18,41 @@ returns c = let a = c .before .before .before .before .args in fed-short (a .chi
 
 returns-2 : tie.Need-returns-2
 returns-2 c =
-    let d = c .before .before .before .before .before in
-    let f = d .before .before in
-    let a = f .before .before .before .before .args in
-    fed-full (a .chip .now) (d .decode .result) (d .decode .ensures) (a .records .now) (a .entries .now) (f .if1 .left) (c .before .count-from .result) (c .before .before .before .before .if2 .taken) (c .before .count-from .ensures) (c .if3 .taken)
-
-run-from-requires : tie.Need-run-from-requires
-run-from-requires c κs =
-    let d = c .before .before .before .before .before .before in
-    let f = d .before .before in
-    let a = f .before .before .before .before .args in
-    kept-calm (a .chip .now) (d .decode .result) (d .decode .ensures) (c .before .before .before .before .before .if2 .taken)
-
-cast-result : tie.Need-cast-result
-cast-result c = let s = c .before .before .before .before .before .before .before .before .before .before .before .before .before .before .before .before .before .before .before .before in omega (arith, s .good, c .before .before .before .before .before .before .before .before .before .if3 .left)
+    let g = c .before in
+    let i = g .before .before in
+    let a = i .before .before .before .before .args in
+    fed-bad (a .chip .now) (keptOf (a .chip .now)) refl (a .records .now) (a .entries .now) (i .if1 .left)
+    (sym (good-is (a .chip .now)) ∙ sym (g .good2 .ensures) ∙ down (g .good2 .result) (c .if2 .taken))
 
 returns-3 : tie.Need-returns-3
 returns-3 c =
-    let d = c .before .before .before .before .before .before .before .before .before .before .before .before .before .before in
-    let f = d .before .before in
-    let a = f .before .before .before .before .args in
-    fed-done (a .chip .now) (d .decode .result) (d .decode .ensures) (a .records .now) (a .entries .now) (f .if1 .left) (c .before .before .before .before .before .before .before .before .before .before .count-from .result) (c .before .before .before .before .before .before .before .before .before .before .before .before .before .if2 .taken) (c .before .before .before .before .before .before .before .before .before .before .count-from .ensures) (c .before .before .before .before .before .before .before .before .before .if3 .left) (omega (arith, c .before .before .before .before .before .before .before .before .before .before .before .before .before .before .before .before .before .before .before .before .good)) (c .before .before .before .before .before .before .before .run-from .result) (c .before .before .before .before .before .before .before .run-from .last .1 .1 .1 .0) (c .before .before .encode .last .1 .1 .0) (c .before .before .before .before .before .before .before .run-from .ensures) (c .before .before .encode .ensures)
+    let t = c .before .before .before .before .before in
+    let i = t .before .before .before in
+    let g = i .before in
+    let a = g .before .before .before .before .before .before .args in
+    fed-ticked (a .chip .now) (a .records .now) (a .entries .now) (t .ticked .result) (t .ticked .last .0) (t .ticked .last .1 .1 .0)
+    (sym (g .good2 .ensures) ∙ up (g .good2 .result) (i .if2 .left)) (c .if3 .taken) (t .ticked .ensures)
+
+played-requires : tie.Need-played-requires
+played-requires c κs =
+    let l = c .before .before in
+    let t = l .before .before .before .before .before in
+    let i = t .before .before .before in
+    let g = i .before in
+    let w = g .before .before in
+    let a = w .before .before .before .before .args in
+    let e = unticked (a .chip .now) (a .records .now) (a .entries .now) (t .ticked .result) (t .ticked .last .0) (t .ticked .last .1 .1 .0) (l .if3 .left) (t .ticked .ensures) in
+    (subst (λ (l : List ℕ). 96 ≤ length l) (sym (e .0)) (w .if1 .left), ap goodOf (e .0) ∙ sym (g .good2 .ensures) ∙ up (g .good2 .result) (i .if2 .left))
 
 returns-4 : tie.Need-returns-4
 returns-4 c =
-    let d = c .before in
-    let f = d .before .before in
-    let a = f .before .before .before .before .args in
-    fed-bad (a .chip .now) (d .decode .result) (d .decode .ensures) (a .records .now) (a .entries .now) (f .if1 .left) (c .if2 .left)
+    let p = c .before .before .before .before in
+    let l = p .before .before .before in
+    let t = l .before .before .before .before .before in
+    let a = t .before .before .before .before .before .before .before .before .before .before .args in
+    let y : toZ w64 (ofZ w64 (p .played .result)) ≡ p .played .result = search needs in
+    fed-as (unticked (a .chip .now) (a .records .now) (a .entries .now) (t .ticked .result) (t .ticked .last .0) (t .ticked .last .1 .1 .0) (l .if3 .left) (t .ticked .ensures))
+    (sym y) (p .played .ensures)
 
 pub toralinge-feed-spec : {M : Type 1} → statement M
 toralinge-feed-spec =
@@ -45,14 +60,13 @@ toralinge-feed-spec =
     (tie.spec
     returns
     (λ c κs. search needs)
-    (λ c κs. search needs)
     (λ c. search needs)
     returns-2
-    run-from-requires
     (λ c κs. search needs)
-    cast-result
     (λ c. search needs)
     (λ c. search needs)
     returns-3
+    played-requires
+    (λ c. search needs)
     (λ c. search needs)
     returns-4)

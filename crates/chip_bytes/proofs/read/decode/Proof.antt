@@ -1,30 +1,26 @@
--- By the room.
-
-use mathlib.Core.Path.{sym}
-use lib.Seq.{length-take-le}
-use Rattle.chip_bytes.proofs.Tests.{of-short, of-whole}
+-- Whether they are good, then the chip.
+use Rattle.chip_bytes.proofs.Tests.{kept-good, kept-bad}
 use borrow.Author.Needs.{needs}
 use Rattle.chip_bytes.proofs.read.decode.Statement.{statement}
 use Rattle.chip_bytes.proofs.read.decode.Tie as tie
 
 returns : tie.Need-returns
-returns c = of-short (c .before .before .before .args .bytes .now) (c .before .if1 .taken) (c .no-kept .ensures)
-
-slice-aggregate-kept-at : tie.Need-slice-aggregate-kept-at
-slice-aggregate-kept-at c = sym (length-take-le 96 (c .before .before .before .args .bytes .now) (c .before .if1 .left))
-
-kept-at-requires : tie.Need-kept-at-requires
-kept-at-requires c κs = length-take-le 96 (c .before .before .before .args .bytes .now) (c .before .if1 .left)
+returns c =
+    let g = c .before .before .before in
+    kept-good (g .before .before .args .bytes .now) (g .good2 .ensures) (c .before .before .if1 .taken) (c .before .chip-of .ensures) (c .fresh-of .ensures)
 
 returns-2 : tie.Need-returns-2
-returns-2 c = of-whole (c .before .before .before .before .args .bytes .now) (c .before .before .if1 .left) (c .kept-at .ensures)
+returns-2 c =
+    let g = c .before .before in
+    kept-bad (g .before .before .args .bytes .now) (g .good2 .ensures) (c .before .if1 .left) (c .no-kept .ensures)
 
 pub decode-spec : {M : Type 1} → statement M
 decode-spec =
     tie.close
     (tie.spec
     (λ c κs. search needs)
+    (λ c κs. search needs)
+    (λ c κs. search needs)
     returns
-    slice-aggregate-kept-at
-    kept-at-requires
+    (λ c κs. search needs)
     returns-2)
