@@ -37,6 +37,5 @@ pub mod TableLaws
 pub mod LineLaws
 pub mod RefusalLaws
 pub mod CellLaws
-pub mod KindLaws
 pub mod BytesLaws
 pub mod WriteLaws

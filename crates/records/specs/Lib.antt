@@ -8,3 +8,5 @@ pub mod WordsLaws
 pub mod CountedLaws
 pub mod ReadingLaws
 pub mod SoundLaws
+pub mod KindLaws
+pub mod PlacesLaws

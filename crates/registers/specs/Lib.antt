@@ -8,3 +8,4 @@ pub mod ElsewhereLaws
 pub mod NamedLaws
 pub mod DrivesLaws
 pub mod LevelLaws
+pub mod PlacesLaws

@@ -1,14 +1,12 @@
 -- CHIP.md, "Events and their records", in its own numbers: a record that is read is of the kind that its header names, hexadecimal; a
 -- payload of another length than its kind has is 2. Assumes nothing.
 use mathlib.Core.Path.{_≡_, refl, sym, ap, subst, _∙_}
-use mathlib.Core.Bool.{Bool, true, false, _&&_, cond}
+use mathlib.Core.Bool.{Bool, true, false, cond}
 use mathlib.Core.List.{List}
-use mathlib.Core.Logic.{_≢_}
-use Prim.Native.Nat.{ℕ, _+_, _*_, _-_}
-use native.Mathlib.Omega.{arith}
+use Prim.Native.Nat.{ℕ, _+_, _*_, _<_}
 use lib.Dec.{eqb, leb}
 use lib.ListN.{length, getD, take, drop}
-use borrow.Author.Tests.{eqb-true, ne-eqb}
+use borrow.Author.Tests.{eqb-true, eq-eqb, lt-leb}
 use Rattle.events.specs.Event.{ticksMost, soakMost, ticksFit, senseFits, within, countMost}
 use Rattle.events.specs.Setup.{checkedOf}
 use Rattle.events.specs.declared.Checked.{Checked}
@@ -18,16 +16,18 @@ use Rattle.events.specs.declared.BusEvent.the-variants.{Start, Stop, Out, In}
 use Rattle.events.specs.declared.Event.{Event}
 use Rattle.events.specs.declared.Event.the-variants.{Setup, Por, Boot, Scan, Temp, Count, Sense, Pin, Load, Xready, OnBus, Level, Ticks}
 use Rattle.events.specs.declared.Event.the-variants.{Soak, Wires}
-use Rattle.settings.specs.Laws.{cond-by}
 use Rattle.records.specs.Numbers.{le16, le32, signed32, words}
-use Rattle.records.specs.Record.{checkedIn, setupIn, bareIn, countedIn, countIn, senseOf, senseIn, repeatOf, ticksOf, ticksIn, soakOf}
-use Rattle.records.specs.Record.{soakIn}
-use Rattle.records.specs.Record.{switchIn, loadOf, levelOf, inOf, outIn, wiresIn, groupsAt, inputsAt, laterOf, payloadOf, asRead, readOf}
+use Rattle.records.specs.Record.{checkedIn, setupIn, bareIn, countedIn, senseOf, senseIn, repeatOf, ticksOf, ticksIn, soakOf}
+use Rattle.records.specs.Record.{soakIn, switchIn, loadOf, levelOf, inOf, groupsAt, inputsAt, laterOf, payloadOf, readOf}
 use Rattle.records.specs.ReadingLaws.{WholeAt, read-whole}
 use Rattle.records.specs.declared.Payload.{Payload}
 use Rattle.records.specs.declared.Payload.the-variants.{Whole, Unfit}
-use Rattle.records.specs.declared.Read.{Read}
-use Rattle.records.specs.declared.Read.the-variants.{Record, Refused, Cut}
+use Rattle.records.specs.declared.Read.the-variants.{Record}
+
+-- what holds of each way that a test goes
+by-test : (P : Payload → Type 0) {x y : Payload} (t : Bool) → (t ≡ true → P x) → P y → P (cond t x y)
+by-test P true h k = h refl
+by-test P false h k = k
 
 -- the kind of an event, as the table has it
 abbrev pub busKind : BusEvent → ℕ
@@ -122,6 +122,21 @@ switch-of x k b h =
     sized k 1 b (cond (leb (getD b 0 0) 1) (Whole (x (eqb (getD b 0 0) 1))) (Unfit 3))
     (valued (leb (getD b 0 0) 1) (x (eqb (getD b 0 0) 1)) k (h (eqb (getD b 0 0) 1)))
 
+-- 0 and 1 are what they say, and more is 3
+pub switch-says : (x : Bool → Event) (b : List ℕ) → length b ≡ 1
+    → (getD b 0 0 ≡ 0 → switchIn x b ≡ Whole (x false)) × (getD b 0 0 ≡ 1 → switchIn x b ≡ Whole (x true))
+    × (1 < getD b 0 0 → switchIn x b ≡ Unfit 3)
+switch-says x b l = (λ z. long ∙ ap says z, λ z. long ∙ ap says z, λ z. long ∙ more z)
+  where
+    says : ℕ → Payload
+    says g = cond (leb g 1) (Whole (x (eqb g 1))) (Unfit 3)
+
+    long : switchIn x b ≡ says (getD b 0 0)
+    long = ap (λ (t : Bool). cond t (says (getD b 0 0)) (Unfit 2)) (eq-eqb (length b) 1 l)
+
+    more : 1 < getD b 0 0 → says (getD b 0 0) ≡ Unfit 3
+    more z = ap (λ (t : Bool). cond t (Whole (x (eqb (getD b 0 0) 1))) (Unfit 3)) (lt-leb (getD b 0 0) 1 z)
+
 setup-of : (b : List ℕ) → Of 0x0000 7 b (setupIn b)
 unfolding setupIn
 setup-of b =
@@ -143,24 +158,24 @@ module _ (part : ℕ) (b : List ℕ) where
   later-of : (k : ℕ) → At k (laterOf k part b)
   unfolding laterOf
   later-of k =
-      cond-by (At k) (eqb k 0x0001) (arm k 0x0001 _ (bare-of Por 0x0001 b refl))
-      (cond-by (At k) (eqb k 0x0002) (arm k 0x0002 _ (bare-of Boot 0x0002 b refl))
-      (cond-by (At k) (eqb k 0x0003) (arm k 0x0003 _ (counted-of Scan 0x0003 (inputsAt part) b refl))
-      (cond-by (At k) (eqb k 0x0004) (arm k 0x0004 _ (counted-of Temp 0x0004 (groupsAt part) b refl))
-      (cond-by (At k) (eqb k 0x0005) (arm k 0x0005 _ (sized 0x0005 2 b (Whole (Count (le16 b 0))) (whole (Count (le16 b 0)) 0x0005 refl)))
-      (cond-by (At k) (eqb k 0x0006) (arm k 0x0006 _ (sense-of b))
-      (cond-by (At k) (eqb k 0x0007) (arm k 0x0007 _ (bare-of Pin 0x0007 b refl))
-      (cond-by (At k) (eqb k 0x0008) (arm k 0x0008 _ (switch-of loadOf 0x0008 b (λ t. refl)))
-      (cond-by (At k) (eqb k 0x0009) (arm k 0x0009 _ (bare-of Xready 0x0009 b refl))
-      (cond-by (At k) (eqb k 0x0010) (arm k 0x0010 _ (bare-of (OnBus Start) 0x0010 b refl))
-      (cond-by (At k) (eqb k 0x0011)
+      by-test (At k) (eqb k 0x0001) (arm k 0x0001 _ (bare-of Por 0x0001 b refl))
+      (by-test (At k) (eqb k 0x0002) (arm k 0x0002 _ (bare-of Boot 0x0002 b refl))
+      (by-test (At k) (eqb k 0x0003) (arm k 0x0003 _ (counted-of Scan 0x0003 (inputsAt part) b refl))
+      (by-test (At k) (eqb k 0x0004) (arm k 0x0004 _ (counted-of Temp 0x0004 (groupsAt part) b refl))
+      (by-test (At k) (eqb k 0x0005) (arm k 0x0005 _ (sized 0x0005 2 b (Whole (Count (le16 b 0))) (whole (Count (le16 b 0)) 0x0005 refl)))
+      (by-test (At k) (eqb k 0x0006) (arm k 0x0006 _ (sense-of b))
+      (by-test (At k) (eqb k 0x0007) (arm k 0x0007 _ (bare-of Pin 0x0007 b refl))
+      (by-test (At k) (eqb k 0x0008) (arm k 0x0008 _ (switch-of loadOf 0x0008 b (λ t. refl)))
+      (by-test (At k) (eqb k 0x0009) (arm k 0x0009 _ (bare-of Xready 0x0009 b refl))
+      (by-test (At k) (eqb k 0x0010) (arm k 0x0010 _ (bare-of (OnBus Start) 0x0010 b refl))
+      (by-test (At k) (eqb k 0x0011)
       (arm k 0x0011 _ (sized 0x0011 1 b (Whole (OnBus (Out (getD b 0 0)))) (whole (OnBus (Out (getD b 0 0))) 0x0011 refl)))
-      (cond-by (At k) (eqb k 0x0012) (arm k 0x0012 _ (switch-of inOf 0x0012 b (λ t. refl)))
-      (cond-by (At k) (eqb k 0x0013) (arm k 0x0013 _ (bare-of (OnBus Stop) 0x0013 b refl))
-      (cond-by (At k) (eqb k 0x0015) (arm k 0x0015 _ (switch-of levelOf 0x0015 b (λ t. refl)))
-      (cond-by (At k) (eqb k 0x0014) (arm k 0x0014 _ (ticks-of b))
-      (cond-by (At k) (eqb k 0x0017) (arm k 0x0017 _ (soak-of b))
-      (cond-by (At k) (eqb k 0x0016)
+      (by-test (At k) (eqb k 0x0012) (arm k 0x0012 _ (switch-of inOf 0x0012 b (λ t. refl)))
+      (by-test (At k) (eqb k 0x0013) (arm k 0x0013 _ (bare-of (OnBus Stop) 0x0013 b refl))
+      (by-test (At k) (eqb k 0x0015) (arm k 0x0015 _ (switch-of levelOf 0x0015 b (λ t. refl)))
+      (by-test (At k) (eqb k 0x0014) (arm k 0x0014 _ (ticks-of b))
+      (by-test (At k) (eqb k 0x0017) (arm k 0x0017 _ (soak-of b))
+      (by-test (At k) (eqb k 0x0016)
       (arm k 0x0016 _ (sized 0x0016 1 b (Whole (Wires (getD b 0 0))) (whole (Wires (getD b 0 0)) 0x0016 refl)))
       (unfit-of k (size part k) b)))))))))))))))))
 
@@ -168,7 +183,7 @@ module _ (part : ℕ) (b : List ℕ) where
   pub payload-of : (k : ℕ) → At k (payloadOf k part b)
   unfolding payloadOf
   payload-of k =
-      cond-by (At k) (eqb part 0) (λ e. cond-by (At k) (eqb k 0x0000) (arm k 0x0000 _ (setup-of b)) (unfit-of k (size part k) b))
+      by-test (At k) (eqb part 0) (λ e. by-test (At k) (eqb k 0x0000) (arm k 0x0000 _ (setup-of b)) (unfit-of k (size part k) b))
       (later-of k)
 
 -- THE KINDS: what is read is of the kind that stands in bytes 2 and 3 of its header, the low byte first
