@@ -8,9 +8,14 @@ use lib.ListN.{take}
 use Rattle.events.specs.declared.BusEvent.{BusEvent}
 use Rattle.events.specs.declared.Event.{Event as Coded}
 use Rattle.events.specs.Event.{Event, Por, Scan, Temp, OnBus, within, countMost, fits, eventOf}
+use Rattle.settings.specs.Write.{ships}
+use Rattle.registers.specs.declared.Registers.{Registers}
+use Rattle.registers.specs.Write.{written}
+use Rattle.registers.specs.Judging.{pulledByLevel}
 use Rattle.chip.specs.declared.Chip.{Chip}
 use Rattle.chip.specs.declared.Stepped.{Stepped}
-use Rattle.chip.specs.Chip.{numbered, inShip, settled, normally, asleep, happened, stepped, steppedAs}
+use Rattle.chip.specs.Chip.{withRegisters, numbered, inShip, watched, settled, normally, asleep, happened, stepped, steppedAs}
+use Rattle.chip.specs.Parts.{wrote}
 
 pub in-normal : {s : Stepped} (e : Event) (c : Chip) → c .normal ≡ true → s ≡ settled (normally e c) → s ≡ happened e c
 unfolding happened
@@ -27,6 +32,25 @@ in-sleep e c a h = h ∙ sym (by (c .normal) a)
     by : (b : Bool) → b ≡ false → cond b (settled (normally e c)) (asleep e c) ≡ asleep e c
     by true q = cc
     by false q = refl
+
+-- an event that is done: with the chip, or the registers alone, as they are said elsewhere
+pub done-as : {s : Stepped} {d e : Chip} → s ≡ settled (numbered 0 d) → d ≡ e → s ≡ settled (numbered 0 e)
+done-as h e = h ∙ ap (λ (d : Chip). settled (numbered 0 d)) e
+
+pub moved-as : {s : Stepped} {r q : Registers} (c : Chip) → s ≡ settled (numbered 0 (withRegisters r c)) → r ≡ q → s ≡ settled (numbered 0 (withRegisters q c))
+moved-as c h e = h ∙ ap (λ (r : Registers). settled (numbered 0 (withRegisters r c))) e
+
+-- a write ships, or is accepted
+pub wrote-ships : {d : Chip} {t : Bool} (a v : ℕ) (c : Chip) → t ≡ ships a v (c .registers .settings) → t ≡ true → d ≡ inShip (c .setup) → d ≡ wrote a v c
+unfolding wrote
+wrote-ships a v c p e h = h ∙ ap (λ (t : Bool). cond t (inShip (c .setup)) (watched (withRegisters (written (c .setup) a v (c .registers)) c))) (sym e ∙ p)
+
+pub wrote-stays : {t : Bool} {r w : Registers} (a v : ℕ) (c : Chip) → t ≡ ships a v (c .registers .settings) → t ≡ false → w ≡ written (c .setup) a v (c .registers)
+    → r ≡ pulledByLevel w → withRegisters r c ≡ wrote a v c
+unfolding wrote
+wrote-stays a v c p e h k =
+    ap (λ (r : Registers). withRegisters r c) (k ∙ ap pulledByLevel h)
+    ∙ ap (λ (t : Bool). cond t (inShip (c .setup)) (watched (withRegisters (written (c .setup) a v (c .registers)) c))) (sym e ∙ p)
 
 -- POR does the same in both
 pub in-either : {s : Stepped} (c : Chip) → s ≡ numbered 0 (inShip (c .setup)) → s ≡ happened Por c
