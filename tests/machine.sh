@@ -104,10 +104,11 @@ want_libraries() {
     for name in "$@"; do
         newest 'staticlib/lib%.a' "$name" || old+=("$name")
     done
-    mapfile -t below < <(for name in "${old[@]}"; do standing_on "$name" | grep -vx "$name"; done | sort -u)
+    mapfile -t below < <(for name in "${old[@]}"; do standing_on "$name" | sed "/^$name\$/d"; done | sort -u)
     [[ ${#below[@]} -eq 0 ]] || proved check "${below[@]}"
-    printf '%s: builds and proves %s\n' "$me" "${old[*]/#/lib}" >&2
-    side_by_side "$root/target/log/libraries" built_library "${old[@]}"
+    to_build=${#old[@]}
+    printf '%s: rt staticlib proves and builds %d libraries; target/log/libraries has what it says\n' "$me" "$to_build" >&2
+    side_by_side "$root/target/log/libraries" built_library told_library "${old[@]}"
     [[ ${#fell[@]} -eq 0 ]] || give_up 1 "rt staticlib ${fell[0]} does not pass: target/log/libraries/${fell[0]}.log has what it said"
     for name in "${old[@]}"; do
         touch "$root/target/staticlib/lib$name.a.built"
@@ -127,13 +128,19 @@ built_library() {
     (cd "$room" && rt staticlib "$1")
 }
 
-# side_by_side FOLDER WORK NAME..: runs `WORK NAME` for each name, as many at once as there are processors and four at most, each in a lane
-# with the number `lane`. What one says goes to FOLDER/NAME.log, its status and seconds to FOLDER/NAME.end. As they end, in the order of the names, `told`
-# is called with the name, where there is such a function. Sets `fell` to those that did not end with 0. Not to be called after `if` or
-# before `||`, where bash would pass over what goes wrong in them.
+# told_library FOLDER NAME SECONDS: it is built, or not.
+told_library() {
+    to_build=$((to_build - 1))
+    printf '%s: %s is %s (%s s), %d left\n' "$me" "$2" "$([[ " ${fell[*]-} " = *" $2 "* ]] && echo 'not built' || echo 'built')" "$3" "$to_build" >&2
+}
+
+# side_by_side FOLDER WORK TOLD NAME..: runs `WORK NAME` for each name, as many at once as there are processors and four at most, each in a lane
+# with the number `lane`. What one says goes to FOLDER/NAME.log, its status and seconds to FOLDER/NAME.end. As they end, in the order of the names,
+# `TOLD FOLDER NAME SECONDS` is called. Sets `fell` to those that did not end with 0. Not to be called after `if` or before `||`, where bash
+# would pass over what goes wrong in them.
 side_by_side() {
-    local folder=$1 work=$2 name status
-    shift 2
+    local folder=$1 work=$2 told=$3 name status seconds
+    shift 3
     rm -rf "$folder"
     mkdir -p "$folder"
     for ((lane = 0; lane < 4 && lane < $(nproc); lane++)); do
@@ -144,12 +151,10 @@ side_by_side() {
         until [[ -e $folder/$name.end || -z $(jobs -pr) ]]; do
             sleep 0.1
         done
-        status=1
-        [[ ! -e $folder/$name.end ]] || read -r status _ <"$folder/$name.end"
+        status=1 seconds=0
+        [[ ! -e $folder/$name.end ]] || read -r status seconds <"$folder/$name.end"
         [[ $status = 0 ]] || fell+=("$name")
-        if declare -F told >/dev/null; then
-            told "$folder" "$name"
-        fi
+        "$told" "$folder" "$name" "$seconds"
     done
     wait
 }
@@ -168,12 +173,12 @@ in_lane() {
     done
 }
 
-# How many checks rt is to start together. It waits for the slowest of them before it starts the next ones, so three for each
-# processor keep all processors busy; each takes up to 2 GB.
+# How many checks rt is to start together. It waits for the slowest of them before it starts the next ones, so five for each
+# processor keep all processors busy (three leave one idle for a minute of the gate, one for five); each takes up to 2 GB.
 at_a_time() {
     local room jobs
     room=$(awk '/^MemAvailable:/ { print int($2 / 2000000) }' /proc/meminfo)
-    jobs=$((3 * $(nproc)))
+    jobs=$((5 * $(nproc)))
     ((jobs <= room)) || jobs=$room
     ((jobs >= 1)) || jobs=1
     echo "$jobs"
