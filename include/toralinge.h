@@ -182,7 +182,8 @@ enum { TORALINGE_CHIP_SIZE = 96 };
 /*
  * A season's report that lives between calls is kept as this many bytes, likewise: byte 0 is the layout's version, 1, then
  * whose scans they are (part, gain code, offset, cells, floor), how many, and the columns. All zero: none yet. Two reports
- * that differ have different bytes, and bytes that are no report are refused with 26.
+ * that differ have different bytes, and bytes that are no report (another version, or a part, gain code, floor or number of
+ * cells that no chip has) are refused with 26. Whether the columns agree with each other is not looked at.
  */
 enum { TORALINGE_REPORT_SIZE = 309 };
 

@@ -3,14 +3,13 @@ use chip::Chip;
 use registers::Shown;
 
 mod read;
-mod tick;
 mod write;
 
 pub use read::chip_of;
 pub use read::decode;
 pub use read::fresh_of;
 pub use read::good;
-pub use tick::ticked;
+pub use read::ticked;
 pub use write::encode;
 
 // A chip as it was kept, and whether a wiring record is still taken. Part 0: no chip yet. Not good: bytes that are no chip.

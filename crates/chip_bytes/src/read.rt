@@ -20,6 +20,10 @@ use registers::Shown;
 use registers::Status;
 use settings::Settings;
 
+mod tick;
+
+pub use tick::ticked;
+
 // No chip yet: part 0.
 fn no_chip() -> Chip
     ensures { λ r. ⌜ r ≡ none ⌝ }
@@ -107,7 +111,7 @@ fn bus_at(b: &[u8]) -> Bus
     Bus { line, owed }
 }
 
-pub fn settings_at(b: &[u8]) -> Settings
+fn settings_at(b: &[u8]) -> Settings
     requires { ⌜ length (now b) ≡ 96 ⌝ }
     ensures { λ r. ⌜ r ≡ settingsAt (now (b .entry)) ⌝ }
 {
@@ -141,7 +145,7 @@ fn status_at(b: &[u8]) -> Status
     }
 }
 
-pub fn shown_at(b: &[u8]) -> Shown
+fn shown_at(b: &[u8]) -> Shown
     requires { ⌜ length (now b) ≡ 96 ⌝ }
     ensures { λ r. ⌜ r ≡ shownAt (now (b .entry)) ⌝ }
 {
@@ -192,7 +196,7 @@ fn measured_at(b: &[u8]) -> Measured
     Measured { cells, bat, ts, cc }
 }
 
-pub fn runs_at(b: &[u8]) -> Runs
+fn runs_at(b: &[u8]) -> Runs
     requires { ⌜ length (now b) ≡ 96 ⌝ }
     ensures { λ r. ⌜ r ≡ runsAt (now (b .entry)) ⌝ }
 {
@@ -359,7 +363,7 @@ fn chip_in(b: &[u8]) -> Chip
 }
 
 // Whether the chip that bytes have is in NORMAL.
-pub fn normal_in(b: &[u8]) -> bool
+fn normal_in(b: &[u8]) -> bool
     requires { ⌜ length (now b) ≡ 96 ⌝ }
     ensures { λ r. ⌜ (r ≡ switchAt (now (b .entry)) 22) × Bytes (now (b .entry)) ⌝ }
 {

@@ -2,8 +2,8 @@
 use native.Mathlib.Omega.{arith}
 use lib.ListN.{length-set}
 use borrow.Author.Needs.{needs}
-use Rattle.chip_bytes.proofs.tick.put_runs.Statement.{statement}
-use Rattle.chip_bytes.proofs.tick.put_runs.Tie as tie
+use Rattle.chip_bytes.proofs.read.tick.put_runs.Statement.{statement}
+use Rattle.chip_bytes.proofs.read.tick.put_runs.Tie as tie
 
 slice-write-out-2 : tie.Need-slice-write-out-2
 slice-write-out-2 c = simp length-set (omega arith)

@@ -7,8 +7,8 @@ use lib.Seq.{length-take-le}
 use Rattle.protection.specs.Judged.{tickJudged}
 use Rattle.chip_bytes.proofs.Tests.{quieted}
 use borrow.Author.Needs.{needs}
-use Rattle.chip_bytes.proofs.tick.ticked.Statement.{statement}
-use Rattle.chip_bytes.proofs.tick.ticked.Tie as tie
+use Rattle.chip_bytes.proofs.read.tick.ticked.Statement.{statement}
+use Rattle.chip_bytes.proofs.read.tick.ticked.Tie as tie
 
 slice-aggregate-normal-in : tie.Need-slice-aggregate-normal-in
 slice-aggregate-normal-in c = sym (length-take-le 96 (c .before .before .before .args .bytes .now) (c .before .if1 .left))
