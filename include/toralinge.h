@@ -6,7 +6,8 @@
  * target/staticlib/libNAME.a, where NAME is i2c_lists for toralinge_list, services_stream for
  * toralinge_bleed and toralinge_reply, season_stream for toralinge_season, season_scans for toralinge_scans, plain for
  * toralinge_plain, feed for toralinge_feed, chip_c for the other calls on a kept chip, record_c for toralinge_record and
- * toralinge_values, season_c for reports that are kept, values_c for the conversions and the CRC, and stream for all other calls.
+ * toralinge_values, season_c for reports that are kept, values_c for the conversions and the CRC, why for toralinge_why
+ * and toralinge_off, and stream for all other calls.
  *
  * The rules stand in docs/CHIP.md, each with a number. Every call here answers for every value of its
  * arguments, and is proved to answer exactly as these rules say.
@@ -58,9 +59,11 @@ enum toralinge_number {
     TORALINGE_BAD_ADDRESS = 21, /* a list has an address outside 0x08 to 0x77 */
     TORALINGE_SEASON_FULL = 22, /* a season would have more than 65,535 scans */
     TORALINGE_BAD_COMMAND = 23, /* another Smart Battery command */
-    TORALINGE_TOO_LONG = 24,    /* a stream is longer than toralinge_plain takes */
+    TORALINGE_TOO_LONG = 24,    /* a stream is longer than toralinge_plain or toralinge_why takes */
     TORALINGE_OTHER_CHIP = 25,  /* reports of different chips: part, gain, offset, row or floor */
-    TORALINGE_NO_CHIP = 26      /* bytes that are no chip, or no report */
+    TORALINGE_NO_CHIP = 26,     /* bytes that are no chip, or no report */
+    TORALINGE_NO_RECORD = 27,   /* the stream has no such record */
+    TORALINGE_NOT_SO = 28       /* the bit that is asked about is not up, the drive not off */
 };
 
 /* The kinds of records. */
@@ -208,6 +211,23 @@ enum toralinge_scan_place {
     TORALINGE_SCAN_MICROVOLTS = 2,   /* the microvolts of cells 1 to 15, 0 where not connected or no such cell */
     TORALINGE_SCAN_SIZE = 17
 };
+
+/* Why a bit of SYS_STAT rose, in toralinge_why. */
+enum toralinge_cause {
+    TORALINGE_BY_SCANS = 1,  /* OV, UV: scans in a row */
+    TORALINGE_BY_TICKS = 2,  /* SCD, OCD: ticks in a row */
+    TORALINGE_BY_PIN = 3,    /* OVRD_ALERT: a record PIN */
+    TORALINGE_BY_LEVEL = 4,  /* OVRD_ALERT: the outside level */
+    TORALINGE_BY_XREADY = 5, /* XREADY: a record XREADY */
+    TORALINGE_BY_COUNT = 6   /* CC_READY: a coulomb count */
+};
+
+/* The bytes of a row of toralinge_why, and of toralinge_off. */
+#define TORALINGE_WHY_SIZE 36
+#define TORALINGE_OFF_SIZE 12
+
+/* The longest stream that toralinge_why takes, in bytes. */
+#define TORALINGE_WHY_MOST 4294967295
 
 /*
  * Plays a whole stream of records on a new chip and writes one entry of five bytes for each record.
@@ -399,6 +419,52 @@ int64_t toralinge_season(const uint8_t *stream, size_t length, int64_t *rows, si
  *   5         room is below seventeen for each scan
  */
 int64_t toralinge_scans(const uint8_t *stream, size_t length, int64_t *rows, size_t room);
+
+/*
+ * Since when and why a bit of SYS_STAT is up that is up after a record. (In libwhy.a, as the call after it.)
+ *
+ * bytes, length   the stream
+ * record          which record, from 0 as the entries of toralinge_play
+ * bit             TORALINGE_STAT_OV, .. : the weight of one of the seven bits; no other is ever up
+ * row, room       where the row goes, and how many bytes may stand there
+ *
+ * Returns 0 and writes TORALINGE_WHY_SIZE bytes from row[0] on, each number with its low byte first; every later byte keeps
+ * its value:
+ *   0 to 7     the record at which the bit rose, after which it stayed up to this record
+ *   8 to 15    the record of the first of the verdicts that made it due; the record at which it rose where it is not judged
+ *   16 to 19   why it rose: enum toralinge_cause
+ *   20 to 23   how many verdicts made it due, as many as the delay then set: the newest of that waking spell, all of them
+ *              outside the limits; ticks in one record are counted one by one. Here and below 0 where it is not judged
+ *   24 to 27   the limit at the last of them: counts for OV and UV, microvolts for SCD and OCD
+ *   28 to 31   the lowest input outside at the last scan, from 1; 0 for ticks
+ *   32 to 35   that input's count, or the value of the tick, with its sign
+ *
+ * Otherwise writes nothing and returns minus a number, looked at in this order:
+ *   24        length is above TORALINGE_WHY_MOST
+ *   27        the stream has no such record
+ *   28        the bit is not up after it
+ *   5         room is below TORALINGE_WHY_SIZE
+ */
+int64_t toralinge_why(const uint8_t *bytes, size_t length, uint64_t record, uint32_t bit, uint8_t *row, size_t room);
+
+/*
+ * Since when a drive is off that is off after a record, and which bits of SYS_STAT hold it.
+ *
+ * drive           TORALINGE_PIN_CHG or TORALINGE_PIN_DSG
+ *
+ * Returns 0 and writes TORALINGE_OFF_SIZE bytes from row[0] on, each number with its low byte first; every later byte keeps
+ * its value:
+ *   0 to 7     the record at which the drive went off, after which it stayed off up to this record; all bits 1 where it has
+ *              never been on
+ *   8 to 11    the bits of SYS_STAT that are up after this record and hold the drive: OVRD_ALERT and XREADY both drives, OV
+ *              CHG, UV, SCD and OCD DSG. 0: none, and nobody has asked for the drive since none does
+ *
+ * Otherwise writes nothing and returns minus a number, looked at in this order:
+ *   27        the stream has no such record
+ *   28        there is no such drive, or it is on after this record
+ *   5         room is below TORALINGE_OFF_SIZE
+ */
+int64_t toralinge_off(const uint8_t *bytes, size_t length, uint64_t record, uint32_t drive, uint8_t *row, size_t room);
 
 /*
  * Adds to a kept report the scans that feeding these records to this chip stores. The chip is only looked at: call this

@@ -29,7 +29,7 @@ use Rattle.demands.specs.Theorem.{rising}
 use Rattle.demands.specs.Streams.{shows, toShow, histories, entries-show}
 
 -- ── the bytes of the n-th entry ──
-noEntry : Entry
+abbrev pub noEntry : Entry
 noEntry = record { number = 0; flag = 0; byte = 0; stat = 0; pins = 0 }
 
 stat-at : (es : List Entry) (n : ℕ) → n < length es → getD (bytesOf es) (5 * n + 3) 0 ≡ shows (getD es n noEntry) .0
@@ -126,7 +126,7 @@ module _ (s : List ℕ) (u : SetupValues) (next : ℕ) (first : readOf 0 s ≡ R
   abbrev pub heardTo : ℕ → List Event
   heardTo n = getD (histories u next s) n []
 
-  entry-shows : (n : ℕ) → n < length (entries s) → shows (getD (entries s) n noEntry) ≡ toShow (chip u (heardTo n))
+  pub entry-shows : (n : ℕ) → n < length (entries s) → shows (getD (entries s) n noEntry) ≡ toShow (chip u (heardTo n))
   entry-shows n h =
       sym (map-at shows (entries s) n noEntry (0, 0) h)
       ∙ ap (λ l. getD l n (0, 0)) (entries-show s u next first)

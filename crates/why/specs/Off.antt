@@ -1,0 +1,47 @@
+-- CHIP P18: since when a drive is off, and the bits of SYS_STAT that hold it. Assumes nothing.
+use mathlib.Core.Path.{_≡_}
+use mathlib.Core.Bool.{Bool, cond, _||_}
+use mathlib.Core.List.{List, [], _∷_, _++_}
+use Prim.Native.Nat.{ℕ, suc, _+_}
+use lib.Dec.{eqb, leb, ltb}
+use lib.IntN.{ℤ, pos, negℤ}
+use lib.ListN.{length, drop}
+use Rattle.bits.specs.Bit.{bit, weighed}
+use Rattle.turn.specs.Entries.{entries}
+use Rattle.writer.specs.Write.{wordBytes}
+use Rattle.why.specs.declared.Rose.{Rose}
+use Rattle.why.specs.Rise.{risen}
+use Rattle.why.specs.Why.{words64}
+
+-- ── CHIP J13: OVRD_ALERT and XREADY hold both drives, OV CHG, and UV, SCD and OCD DSG ──
+abbrev pub heldBit : ℕ → ℕ → ℕ
+heldBit stat w = weighed (bit stat w) w
+
+abbrev pub heldBy : ℕ → ℕ → ℕ
+heldBy stat d =
+    cond (eqb d 2) (heldBit stat 16 + heldBit stat 32 + heldBit stat 4)
+    (heldBit stat 16 + heldBit stat 32 + heldBit stat 8 + heldBit stat 2 + heldBit stat 1)
+
+-- ── the row: 12 bytes, the low ones first ──
+abbrev pub offWords : ℕ → ℕ → List ℕ
+offWords since held = words64 since ++ held ∷ 0 ∷ []
+
+abbrev pub offBytes : Rose → ℕ → List ℕ
+offBytes r d = wordBytes (offWords (r .rose) (heldBy (r .last .stat) d))
+
+abbrev pub offRow : List ℕ → ℕ → ℕ → List ℕ
+offRow s n d = offBytes (risen s 0 d (suc n)) d
+
+-- ── the call: 27, 28, then 5 ──
+abbrev pub isDrive : ℕ → Bool
+isDrive d = eqb d 1 || eqb d 2
+
+abbrev pub offNumber : List ℕ → ℕ → ℕ → ℕ → ℕ
+offNumber s n d room =
+    cond (leb (length (entries s)) n) 27
+    (cond (isDrive d) (cond (bit (risen s 0 d (suc n) .last .pins) d) 28 (cond (ltb room 12) 5 0)) 28)
+
+-- 0 and the row, or minus a number and nothing written
+pub record Held (s : List ℕ) (n d : ℕ) (old : List ℕ) (r : ℤ) (new : List ℕ) : Type 0 where
+  pub answer : r ≡ negℤ (pos (offNumber s n d (length old)))
+  pub contents : new ≡ cond (eqb (offNumber s n d (length old)) 0) (offRow s n d ++ drop 12 old) old

@@ -1,0 +1,100 @@
+-- CHIP P17: why a bit of SYS_STAT is up: the record at which it rose, what raised it, and for OV, UV, SCD and OCD the newest verdicts, as
+-- many as the delay then set, that made it due. Assumes nothing.
+use mathlib.Core.Path.{_≡_}
+use mathlib.Core.Bool.{Bool, cond, _||_}
+use mathlib.Core.List.{List, [], _∷_, _++_}
+use Prim.Native.Nat.{ℕ, suc, _+_, _-_, _/_, _%_}
+use lib.Dec.{eqb, leb, ltb}
+use lib.IntN.{ℤ, pos, negℤ}
+use lib.ListN.{length, drop}
+use Rattle.bits.specs.Bit.{bit}
+use Rattle.events.specs.Fault.{Ov, Uv, Scd, Ocd}
+use Rattle.settings.specs.declared.Settings.{Settings}
+use Rattle.protection.specs.Rule.{rule}
+use Rattle.turn.specs.Entries.{entries}
+use Rattle.writer.specs.Write.{wordBytes}
+use Rattle.why_walk.specs.declared.Says.{Says}
+use Rattle.why_walk.specs.Says.{saysIn}
+use Rattle.why.specs.declared.Rose.{Rose}
+use Rattle.why.specs.declared.Why.{Why}
+use Rattle.why.specs.Rise.{risen, searched}
+
+-- ── by the bit's weight ──
+abbrev pub isJudged : ℕ → Bool
+isJudged b = eqb b 4 || eqb b 8 || eqb b 2 || eqb b 1
+
+-- scans 1, ticks 2, PIN 3, the outside level 4, XREADY 5, a count 6
+abbrev pub causeOf : ℕ → Bool → ℕ
+causeOf b pin =
+    cond (eqb b 4 || eqb b 8) 1 (cond (eqb b 2 || eqb b 1) 2 (cond (eqb b 32) 5 (cond (eqb b 128) 6 (cond pin 3 4))))
+
+abbrev pub needOf : ℕ → Settings → ℕ
+needOf b s = cond (eqb b 4) (rule Ov s .need) (cond (eqb b 8) (rule Uv s .need) (cond (eqb b 2) (rule Scd s .need) (rule Ocd s .need)))
+
+abbrev pub limitOf : ℕ → Settings → ℕ
+limitOf b s = cond (eqb b 4) (rule Ov s .limit) (cond (eqb b 8) (rule Uv s .limit) (cond (eqb b 2) (rule Scd s .limit) (rule Ocd s .limit)))
+
+-- the streak before the first of the newest verdicts, as many as are needed, where the next one is true
+abbrev pub leastOf : ℕ → ℕ → ℕ
+leastOf streak need = suc streak - need
+
+-- ── why it rose at the record that was found ──
+abbrev pub unjudged : Rose → ℕ → Why
+unjudged r cause = record { rose = r .rose; first = r .rose; cause = cause; many = 0; limit = 0; input = 0; value = 0 }
+
+abbrev pub judged : List ℕ → ℕ → Rose → Settings → Says → ℕ → Why
+judged s b r t w cause =
+    record {
+      rose = r .rose;
+      first = searched s b (leastOf (r .stood .streak) (needOf b t)) (suc (r .rose)) .first;
+      cause = cause;
+      many = needOf b t;
+      limit = limitOf b t;
+      input = w .input;
+      value = w .value;
+    }
+
+abbrev pub whyBy : List ℕ → ℕ → Rose → Says → Why
+whyBy s b r w = cond (isJudged b) (judged s b r (r .stood .chip .registers .settings) w (causeOf b (w .pin))) (unjudged r (causeOf b (w .pin)))
+
+unfoldable pub whyOf : List ℕ → ℕ → Rose → Why
+whyOf s b r = whyBy s b r (saysIn b (r .stood .chip) (drop (r .stood .at) s))
+
+-- ── the row: 36 bytes, the low ones first ──
+abbrev pub words32 : ℕ → List ℕ
+words32 n = n % 65536 ∷ n / 65536 ∷ []
+
+abbrev pub words64 : ℕ → List ℕ
+words64 n = n % 65536 ∷ n / 65536 % 65536 ∷ n / 4294967296 % 65536 ∷ n / 281474976710656 % 65536 ∷ []
+
+unfoldable pub whyWords : Why → List ℕ
+whyWords w =
+    words64 (w .rose) ++ words64 (w .first) ++ words32 (w .cause) ++ words32 (w .many) ++ words32 (w .limit) ++ words32 (w .input)
+    ++ words32 (w .value)
+
+abbrev pub whyBytes : Why → List ℕ
+whyBytes w = wordBytes (whyWords w)
+
+-- ── the call: 24, 27, 28, then 5 ──
+abbrev pub streamMost : ℕ
+streamMost = 4294967295
+
+abbrev pub isKnown : ℕ → Bool
+isKnown b = eqb b 1 || eqb b 2 || eqb b 4 || eqb b 8 || eqb b 16 || eqb b 32 || eqb b 128
+
+abbrev pub knownBit : ℕ → ℕ
+knownBit b = cond (isKnown b) b 0
+
+abbrev pub whyRow : List ℕ → ℕ → ℕ → List ℕ
+whyRow s n b = whyBytes (whyOf s (knownBit b) (risen s (knownBit b) 0 (suc n)))
+
+abbrev pub whyNumber : List ℕ → ℕ → ℕ → ℕ → ℕ
+whyNumber s n b room =
+    cond (ltb streamMost (length s)) 24
+    (cond (leb (length (entries s)) n) 27
+    (cond (bit (risen s (knownBit b) 0 (suc n) .last .stat) (knownBit b)) (cond (ltb room 36) 5 0) 28))
+
+-- 0 and the row, or minus a number and nothing written
+pub record Explained (s : List ℕ) (n b : ℕ) (old : List ℕ) (r : ℤ) (new : List ℕ) : Type 0 where
+  pub answer : r ≡ negℤ (pos (whyNumber s n b (length old)))
+  pub contents : new ≡ cond (eqb (whyNumber s n b (length old)) 0) (whyRow s n b ++ drop 36 old) old

@@ -1,0 +1,386 @@
+// CHIP P17 and P18: since when and why a bit of SYS_STAT is up, since when a drive is off and what holds it, for C.
+ghost use mathlib.Core.Path.{_≡_};
+ghost use Prim.Native.Nat.{_*_, _<_, _≤_, _^_};
+ghost use lib.ListN.{length};
+ghost use lib.Seq.{sets};
+ghost use Rattle.writer.specs.Write.{wordBytes};
+ghost use Rattle.why.specs.Rise.{isSuch, roseOn, risen, searchedOn, searched, Few};
+ghost use Rattle.why.specs.Why.{isJudged, causeOf, needOf, limitOf, leastOf, whyOf, whyWords, knownBit, Explained};
+ghost use Rattle.why.specs.Off.{heldBit, heldBy, offWords, isDrive, Held};
+use constants::weight;
+use settings::Settings;
+use why_walk::Standing;
+
+// Streams that are longer are refused by `toralinge_why`: its streaks are counted in 64 bits.
+const STREAM_MOST: usize = 4294967295;
+
+// No record.
+const NEVER: u64 = 18446744073709551615;
+
+// The record at which what is asked about came to be so, the last time; where the stream stood before it, and where it stands.
+pub struct Rose {
+    pub rose: u64,
+    pub stood: Standing,
+    pub last: Standing,
+}
+
+// The last record before which the streak was no longer than some, and where the stream stands.
+pub struct Found {
+    pub first: u64,
+    pub place: Standing,
+}
+
+// Why a bit rose: the record, that of the first of the verdicts that made it due, the cause, how many verdicts, and the limit, input and count or value (32 bits) of
+// the last of them.
+pub struct Why {
+    pub rose: u64,
+    pub first: u64,
+    pub cause: u32,
+    pub many: u32,
+    pub limit: u32,
+    pub input: u32,
+    pub value: u32,
+}
+
+// Whether a bit of SYS_STAT is up; of no bit, whether a drive is off.
+fn is_such(at: Standing, bit: u8, drive: u8) -> bool
+    ensures { λ r. ⌜ r ≡ isSuch bit drive at ⌝ }
+{
+    if bit == 0 {
+        return !bits::bit(at.pins, drive);
+    }
+    bits::bit(at.stat, bit)
+}
+
+// One record more.
+fn rose_on(from: Rose, n: u64, next: Standing, bit: u8, drive: u8) -> Rose
+    ensures { λ r. ⌜ r ≡ roseOn bit drive n next from ⌝ }
+{
+    let last = from.last;
+    let now_such = is_such(next, bit, drive);
+    let was_such = is_such(last, bit, drive);
+    if now_such & !was_such {
+        return Rose {
+            rose: n,
+            stood: last,
+            last: next,
+        };
+    }
+    let rose = from.rose;
+    let stood = from.stood;
+    Rose {
+        rose,
+        stood,
+        last: next,
+    }
+}
+
+// Over the first `many` records.
+fn rise(s: &[u8], many: u64, bit: u8, drive: u8) -> Rose
+    requires { ⌜ Few (now s) bit ⌝ }
+    ensures { λ r. ⌜ r ≡ risen (now (s .entry)) bit drive many ⌝ }
+{
+    let begun = why_walk::begun();
+    let mut found = Rose {
+        rose: NEVER,
+        stood: begun,
+        last: begun,
+    };
+    let mut n = 0u64;
+    while n < many {
+        let next = why_walk::advance(s, found.last, bit);
+        found = rose_on(found, n, next, bit, drive);
+        n = n + 1;
+    }
+    found
+}
+
+// One record more.
+fn searched_on(from: Found, n: u64, next: Standing, least: u64) -> Found
+    ensures { λ r. ⌜ r ≡ searchedOn least n next from ⌝ }
+{
+    let place = from.place;
+    if place.streak <= least {
+        return Found {
+            first: n,
+            place: next,
+        };
+    }
+    let first = from.first;
+    Found { first, place: next }
+}
+
+// Over the first `many` records.
+fn search(s: &[u8], many: u64, bit: u8, least: u64) -> Found
+    requires { ⌜ Few (now s) bit ⌝ }
+    ensures { λ r. ⌜ r ≡ searched (now (s .entry)) bit least many ⌝ }
+{
+    let begun = why_walk::begun();
+    let mut found = Found {
+        first: 0,
+        place: begun,
+    };
+    let mut n = 0u64;
+    while n < many {
+        let next = why_walk::advance(s, found.place, bit);
+        found = searched_on(found, n, next, least);
+        n = n + 1;
+    }
+    found
+}
+
+// OV, UV, SCD and OCD.
+fn is_judged(bit: u8) -> bool
+    ensures { λ r. ⌜ r ≡ isJudged bit ⌝ }
+{
+    (bit == weight::OV) | (bit == weight::UV) | (bit == weight::SCD) | (bit == weight::OCD)
+}
+
+// Scans 1, ticks 2, PIN 3, the outside level 4, XREADY 5, a count 6.
+fn cause_of(bit: u8, pin: bool) -> u32
+    ensures { λ r. ⌜ r ≡ causeOf bit pin ⌝ }
+{
+    if (bit == weight::OV) | (bit == weight::UV) {
+        return 1;
+    }
+    if (bit == weight::SCD) | (bit == weight::OCD) {
+        return 2;
+    }
+    if bit == weight::XREADY {
+        return 5;
+    }
+    if bit == weight::CC_READY {
+        return 6;
+    }
+    if pin {
+        return 3;
+    }
+    4
+}
+
+// The delay that is set, in scans or ticks.
+fn need_of(bit: u8, s: Settings) -> u16
+    ensures { λ r. ⌜ r ≡ needOf bit s ⌝ }
+{
+    if bit == weight::OV {
+        return protection::ov_scans(s);
+    }
+    if bit == weight::UV {
+        return protection::uv_scans(s);
+    }
+    if bit == weight::SCD {
+        return protection::scd_ticks(s);
+    }
+    protection::ocd_ticks(s)
+}
+
+// The limit that is set, in counts or microvolts.
+fn limit_of(bit: u8, s: Settings) -> u32
+    ensures { λ r. ⌜ r ≡ limitOf bit s ⌝ }
+{
+    if bit == weight::OV {
+        return protection::over_line(s) as u32;
+    }
+    if bit == weight::UV {
+        return protection::under_line(s) as u32;
+    }
+    if bit == weight::SCD {
+        return protection::scd_limit(s.protect1);
+    }
+    protection::ocd_limit(s.protect1, s.protect2)
+}
+
+// How long the streak was before the first of the newest `need` verdicts, the next one among them.
+fn least_of(streak: u64, need: u16) -> u64
+    requires { ⌜ streak < 2 ^ 63 ⌝ }
+    ensures { λ r. ⌜ r ≡ leastOf streak need ⌝ }
+{
+    if need as u64 <= streak {
+        return streak + 1 - need as u64;
+    }
+    0
+}
+
+// Why a bit rose that rose at a record.
+fn why_of(s: &[u8], bit: u8, found: Rose) -> Why
+    requires { ⌜ (Few (now s) bit) × (found .stood .at ≤ length (now s)) × (found .stood .streak < 2 ^ 63) × (found .rose < 18446744073709551615) ⌝ }
+    ensures { λ r. ⌜ r ≡ whyOf (now (s .entry)) bit found ⌝ }
+{
+    let rose = found.rose;
+    let stood = found.stood;
+    let chip = stood.chip;
+    let start = stood.at;
+    let said = why_walk::said_by(chip, &s[start..], bit);
+    let cause = cause_of(bit, said.pin);
+    if !is_judged(bit) {
+        return Why {
+            rose,
+            first: rose,
+            cause,
+            many: 0,
+            limit: 0,
+            input: 0,
+            value: 0,
+        };
+    }
+    let registers = chip.registers;
+    let need = need_of(bit, registers.settings);
+    let limit = limit_of(bit, registers.settings);
+    let least = least_of(stood.streak, need);
+    let place = search(s, rose + 1, bit, least);
+    let first = place.first;
+    Why {
+        rose,
+        first,
+        cause,
+        many: need as u32,
+        limit,
+        input: said.input,
+        value: said.value,
+    }
+}
+
+// A row in numbers of two bytes, the low ones first.
+fn why_words(why: Why) -> [u16; 18]
+    ensures { λ r. ⌜ r ≡ whyWords why ⌝ }
+{
+    [
+        (why.rose % 65536) as u16,
+        (why.rose / 65536 % 65536) as u16,
+        (why.rose / 4294967296 % 65536) as u16,
+        (why.rose / 281474976710656 % 65536) as u16,
+        (why.first % 65536) as u16,
+        (why.first / 65536 % 65536) as u16,
+        (why.first / 4294967296 % 65536) as u16,
+        (why.first / 281474976710656 % 65536) as u16,
+        (why.cause % 65536) as u16,
+        (why.cause / 65536) as u16,
+        (why.many % 65536) as u16,
+        (why.many / 65536) as u16,
+        (why.limit % 65536) as u16,
+        (why.limit / 65536) as u16,
+        (why.input % 65536) as u16,
+        (why.input / 65536) as u16,
+        (why.value % 65536) as u16,
+        (why.value / 65536) as u16,
+    ]
+}
+
+// Numbers of two bytes, at the start of a buffer.
+fn put_words(out: &mut [u8], words: &[u16])
+    requires { ⌜ 2 * length (now words) ≤ length (now out) ⌝ }
+    ensures { λ _. ⌜ now (out .exit) ≡ sets (now (out .entry)) 0 (wordBytes (now (words .entry))) ⌝ }
+{
+    let mut i = 0;
+    while i < words.len() {
+        let word = words[i];
+        out[2 * i] = (word % 256) as u8;
+        out[2 * i + 1] = (word / 256) as u8;
+        i += 1;
+    }
+}
+
+// The weight of one of the seven bits of SYS_STAT; 0 for another number.
+fn known_bit(bit: u32) -> u8
+    ensures { λ r. ⌜ r ≡ knownBit bit ⌝ }
+{
+    if (bit == 1)
+        | (bit == 2)
+        | (bit == 4)
+        | (bit == 8)
+        | (bit == 16)
+        | (bit == 32)
+        | (bit == 128)
+    {
+        return bit as u8;
+    }
+    0
+}
+
+// Since when and why a bit of SYS_STAT is up that is up after a record. Answers 0, or with nothing written -24 for more than 4,294,967,295 bytes, -27 no such
+// record, -28 the bit is not up, -5 for room below 36.
+#[no_mangle]
+pub extern "C" fn toralinge_why(bytes: &[u8], number: u64, bit: u32, row: &mut [u8]) -> i64
+    ensures { λ r. ⌜ Explained (now (bytes .entry)) number bit (now (row .entry)) r (now (row .exit)) ⌝ }
+{
+    if STREAM_MOST < bytes.len() {
+        return -24;
+    }
+    if stream::count(bytes) as u64 <= number {
+        return -27;
+    }
+    let weight = known_bit(bit);
+    let found = rise(bytes, number + 1, weight, 0);
+    let last = found.last;
+    if !bits::bit(last.stat, weight) {
+        return -28;
+    }
+    if row.len() < 36 {
+        return -5;
+    }
+    let words = why_words(why_of(bytes, weight, found));
+    put_words(row, &words);
+    0
+}
+
+fn held_bit(stat: u8, w: u8) -> u8
+    ensures { λ r. ⌜ (r ≡ heldBit stat w) × (r ≤ w) ⌝ }
+{
+    bits::weigh(bits::bit(stat, w), w)
+}
+
+// The bits of SYS_STAT that hold a drive off (CHIP J13).
+fn held_by(stat: u8, drive: u8) -> u8
+    ensures { λ r. ⌜ r ≡ heldBy stat drive ⌝ }
+{
+    let both = held_bit(stat, weight::OVRD_ALERT) + held_bit(stat, weight::XREADY);
+    if drive == weight::PIN_CHG {
+        return both + held_bit(stat, weight::OV);
+    }
+    both + held_bit(stat, weight::UV) + held_bit(stat, weight::SCD) + held_bit(stat, weight::OCD)
+}
+
+fn off_words(since: u64, held: u8) -> [u16; 6]
+    ensures { λ r. ⌜ r ≡ offWords since held ⌝ }
+{
+    [
+        (since % 65536) as u16,
+        (since / 65536 % 65536) as u16,
+        (since / 4294967296 % 65536) as u16,
+        (since / 281474976710656 % 65536) as u16,
+        held as u16,
+        0,
+    ]
+}
+
+fn is_drive(drive: u32) -> bool
+    ensures { λ r. ⌜ r ≡ isDrive drive ⌝ }
+{
+    (drive == 1) | (drive == 2)
+}
+
+// Since when a drive is off that is off after a record, and which bits of SYS_STAT hold it. Answers 0, or with nothing written -27 no such record, -28 the drive is
+// on or there is no such drive, -5 for room below 12.
+#[no_mangle]
+pub extern "C" fn toralinge_off(bytes: &[u8], number: u64, drive: u32, row: &mut [u8]) -> i64
+    ensures { λ r. ⌜ Held (now (bytes .entry)) number drive (now (row .entry)) r (now (row .exit)) ⌝ }
+{
+    if stream::count(bytes) as u64 <= number {
+        return -27;
+    }
+    if !is_drive(drive) {
+        return -28;
+    }
+    let pin = drive as u8;
+    let found = rise(bytes, number + 1, 0, pin);
+    let last = found.last;
+    if bits::bit(last.pins, pin) {
+        return -28;
+    }
+    if row.len() < 12 {
+        return -5;
+    }
+    let words = off_words(found.rose, held_by(last.stat, pin));
+    put_words(row, &words);
+    0
+}

@@ -1,0 +1,10 @@
+pub mod StandingLaws
+pub mod RiseLaws
+pub mod LowestLaws
+pub mod StreakLaws
+pub mod AlongLaws
+pub mod FirstLaws
+pub mod DueLaws
+pub mod InputLaws
+pub mod WhyLaws
+pub mod HeldLaws
