@@ -3,7 +3,7 @@
 
 const char *toralinge_words(int64_t number)
 {
-    switch (number < 0 && number >= -TORALINGE_NO_CHIP ? -number : number) {
+    switch (number < 0 && number >= -TORALINGE_NOT_SO ? -number : number) {
     case TORALINGE_DONE: return "done";
     case TORALINGE_BAD_SETUP: return "a value of SETUP, or a gain code, is out of range";
     case TORALINGE_BAD_KIND: return "kind unknown, SETUP not first, first not SETUP, wrong length, or a wiring record that is not straight after SETUP";
@@ -22,9 +22,11 @@ const char *toralinge_words(int64_t number)
     case TORALINGE_BAD_ADDRESS: return "a command list has an address outside 0x08 to 0x77";
     case TORALINGE_SEASON_FULL: return "a season would have more than 65,535 scans";
     case TORALINGE_BAD_COMMAND: return "not a Smart Battery command that is answered";
-    case TORALINGE_TOO_LONG: return "a stream is longer than 65,536 bytes";
+    case TORALINGE_TOO_LONG: return "a stream is longer than the call takes";
     case TORALINGE_OTHER_CHIP: return "reports of different chips: part, gain, offset, row or floor";
     case TORALINGE_NO_CHIP: return "bytes that are no chip, or no report";
+    case TORALINGE_NO_RECORD: return "the stream has no such record";
+    case TORALINGE_NOT_SO: return "the bit is not up, or the drive not off";
     default: return "unknown number";
     }
 }

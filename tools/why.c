@@ -2,7 +2,7 @@
  * What happened to a chip and why, a sentence for each change of a bit of SYS_STAT, of ALERT or of a drive, and for each refusal:
  *   why [FILE]          of every record
  *   why FILE RECORD     of one record, with what then stands and since when
- * It plays the stream over the proved library and reads the registers of the chip as each record leaves it. `./why` builds and runs it.
+ * It plays the stream over the proved library, and takes its reasons from toralinge_why and toralinge_off. `./why` builds and runs it.
  */
 #include <stdarg.h>
 #include <stdio.h>
@@ -10,35 +10,66 @@
 #include <string.h>
 #include "turns.h"
 
-enum { MOST_SCANS = 64, SENTENCE = 200, CHG = 1, DSG = 2 };
+enum { SENTENCE = 240, CHG = 1, DSG = 2, FAULTS = 4, KINDS = 0x18, STATS = 0x100 };
 
-/* What puts each drive off. */
-static const unsigned holds[PINS] = {
-    0, TORALINGE_STAT_OV | TORALINGE_STAT_OVRD_ALERT | TORALINGE_STAT_XREADY,
-    TORALINGE_STAT_UV | TORALINGE_STAT_SCD | TORALINGE_STAT_OCD | TORALINGE_STAT_OVRD_ALERT | TORALINGE_STAT_XREADY};
+/*
+ * A question plays the stream again from its beginning. So the records are kept, and over all of them a question is asked once for each rise of a
+ * judged fault; what depends on the kind of the record or on SYS_STAT alone is asked once for each. Where that would keep or play again more bytes
+ * than these, the sentence says which record to ask for by itself.
+ */
+static const unsigned long long kept_most = 64ull << 20, replayed_most = 256ull << 20;
+
+/* The four judged faults, and the bits of two registers that choose the limit of each. */
+static const struct threshold {
+    unsigned bit, address, bits, other, other_bits;
+} thresholds[FAULTS] = {
+    {TORALINGE_STAT_OV, TORALINGE_REG_OV_TRIP, 0xFF, TORALINGE_REG_OV_TRIP, 0},
+    {TORALINGE_STAT_UV, TORALINGE_REG_UV_TRIP, 0xFF, TORALINGE_REG_UV_TRIP, 0},
+    {TORALINGE_STAT_SCD, TORALINGE_REG_PROTECT1, 0x87, TORALINGE_REG_PROTECT1, 0},
+    {TORALINGE_STAT_OCD, TORALINGE_REG_PROTECT2, 0x0F, TORALINGE_REG_PROTECT1, 0x80},
+};
+
+/* A row of toralinge_why. */
+struct row {
+    unsigned long long rose, first;
+    unsigned cause, many, limit, input;
+    long long value;
+};
 
 struct why {
     struct turn turn;
-    int asked;                             /* one record is asked for: */
-    unsigned long long record;             /* this one */
-    uint8_t stat, pins;                    /* before the record at hand */
-    unsigned long long since[BITS];        /* the record at which each bit rose that is up, */
-    char rose[BITS][SENTENCE];             /* and why */
-    unsigned long long off[PINS];          /* the record at which each drive went off, */
-    char by[PINS][SENTENCE];               /* and by what; empty where it was never on */
-    unsigned long long scans[MOST_SCANS];  /* the records of the newest scans, */
-    unsigned long long scanned;            /* and how many there were */
-    unsigned floor;
-    int crc, stage;                        /* of a frame that writes: 1 address, 2 pointer, 3 data, 4 CRC is next; else 0 */
+    int asked;                              /* one record is asked for: */
+    unsigned long long record;              /* this one */
+    uint8_t *stream;                        /* the records up to the one at hand, NULL where they are too many */
+    size_t length, room;
+    unsigned long long replayed;            /* how many bytes questions have played again */
+    uint8_t cause[BITS][KINDS];             /* of a bit that is not judged, by the kind of its record; 0 where nobody has asked */
+    uint8_t held[PINS][STATS];              /* the bits that hold a drive, by SYS_STAT, */
+    uint8_t known[PINS][STATS];             /* where somebody has asked */
+    uint8_t stat, pins;                     /* before the record at hand */
+    unsigned long long since[BITS];         /* the record at which each bit rose that is up */
+    uint8_t rose_then[PINS];                /* what rose at the record at which each drive went off, */
+    const char *mover_then[PINS];           /* and who else may have moved it */
+    unsigned threshold[FAULTS];             /* what chooses the limits, */
+    unsigned long long moved[FAULTS];       /* the record at which it last changed, */
+    unsigned long long moved_then[FAULTS];  /* and that of before the fault last rose */
+    int wired;                              /* a wiring record was done: inputs are not cells */
+    int crc, stage;                         /* of a frame that writes: 1 address, 2 pointer, 3 data, 4 CRC is next; else 0 */
     uint8_t pointer, data;
-    int written;                           /* the record at hand was an accepted write of data at pointer */
+    int written;                            /* the record at hand was an accepted write of data at pointer */
 };
+
+/* Whether sentences of the record at hand are wanted. */
+static int wanted(const struct why *why)
+{
+    return !why->asked || why->record == why->turn.count - 1;
+}
 
 /* A sentence of the record at hand. */
 static void say(const struct why *why, const char *form, ...)
 {
     va_list values;
-    if (why->asked && why->record != why->turn.count - 1) {
+    if (!wanted(why)) {
         return;
     }
     printf("record %llu: ", why->turn.count - 1);
@@ -55,87 +86,159 @@ static uint8_t reg(const struct why *why, unsigned address)
     return value;
 }
 
-/* How many scans or ticks in a row raise a fault, by the settings that stand. */
-static unsigned delay(const struct why *why, unsigned bit)
+/* Keeps the record at hand behind those before it. */
+static void keep(struct why *why)
 {
-    static const unsigned ov[] = {4, 8, 16, 32}, uv[] = {4, 16, 32, 64}, scd[] = {3, 4, 7, 13};
-    unsigned code = reg(why, TORALINGE_REG_PROTECT2) >> 4 & 7;
-    if (reg(why, TORALINGE_REG_SYS_CTRL2) & TORALINGE_CTRL2_DELAY_DIS) {
-        return 1;
+    size_t wanted = why->length + why->turn.length;
+    if (why->turn.count > 1 && why->stream == NULL) {
+        return;
     }
-    switch (bit) {
-    case TORALINGE_STAT_OV: return ov[reg(why, TORALINGE_REG_PROTECT3) >> 4 & 3];
-    case TORALINGE_STAT_UV: return uv[reg(why, TORALINGE_REG_PROTECT3) >> 6];
-    case TORALINGE_STAT_SCD: return scd[reg(why, TORALINGE_REG_PROTECT1) >> 3 & 3];
-    default: return code == 0 ? 256 : 640u << (code - 1);
+    if (!why->asked && wanted > kept_most) {
+        free(why->stream);
+        why->stream = NULL;
+        return;
     }
-}
-
-/* The limit of a fault, by the settings that stand: counts, or microvolts. */
-static long limit(const struct why *why, unsigned bit)
-{
-    static const long scd[2][8] = {{18500, 29000, 39000, 49000, 59000, 69500, 79500, 91000},
-                                   {37000, 59000, 78500, 98000, 119000, 139000, 159000, 181500}};
-    static const long ocd[2][16] = {
-        {9500, 11500, 14500, 17500, 19500, 22500, 25000, 28000, 31500, 33000, 36500, 40500, 42000, 44500, 46000, 48000},
-        {18500, 22500, 28500, 34500, 38500, 44500, 49500, 56500, 62500, 65000, 72500, 80500, 83500, 88500, 90500, 94000}};
-    unsigned range = reg(why, TORALINGE_REG_PROTECT1) >> 7;
-    switch (bit) {
-    case TORALINGE_STAT_OV: return 8200 + 16 * (long)reg(why, TORALINGE_REG_OV_TRIP);
-    case TORALINGE_STAT_UV: return 4096 + 16 * (long)reg(why, TORALINGE_REG_UV_TRIP);
-    case TORALINGE_STAT_SCD: return scd[range][reg(why, TORALINGE_REG_PROTECT1) & 7];
-    default: return ocd[range][reg(why, TORALINGE_REG_PROTECT2) & 15];
-    }
-}
-
-/* Why OV or UV rose at the scan at hand; the first input that is outside is named. */
-static void scan_reason(const struct why *why, unsigned bit, char *reason)
-{
-    const uint8_t *counts = why->turn.bytes + TURN_HEADER;
-    unsigned many = delay(why, bit), input, count = 0, over = bit == TORALINGE_STAT_OV;
-    long line = limit(why, bit);
-    char row[80] = "one scan is enough";
-    for (input = 1; input <= 5 * why->turn.part; input++) {
-        count = counts[2 * input - 2] + 256u * counts[2 * input - 1];
-        if (over ? count > line : count >= why->floor && count < line) {
-            break;
+    if (wanted > why->room) {
+        why->room = 2 * wanted;
+        why->stream = realloc(why->stream, why->room);
+        if (why->stream == NULL) {
+            fprintf(stderr, "why: there is no memory for the records up to %llu\n", why->turn.count - 1);
+            exit(1);
         }
     }
-    if (many > 1) {
-        snprintf(row, sizeof row, "the last %u scans (records %llu to %llu) were each %s", many, why->scans[(why->scanned - many) % MOST_SCANS],
-                 why->turn.count - 1, over ? "over" : "under");
-    }
-    snprintf(reason, SENTENCE, "%s; input %u at %s, %s %s", row, input, grouped(count), over ? "above" : "below", grouped(line));
+    memcpy(why->stream + why->length, why->turn.bytes, why->turn.length);
+    why->length = wanted;
 }
 
-/* Why SCD or OCD rose at the ticks at hand. */
-static void tick_reason(const struct why *why, unsigned bit, char *reason)
+/* Whether there may be one question more. */
+static int may_ask(struct why *why)
 {
-    const uint8_t *bytes = why->turn.bytes + TURN_HEADER;
-    unsigned many = delay(why, bit);
-    long long value = bytes[0] + 256ll * bytes[1] + 65536ll * bytes[2] + 16777216ll * bytes[3];
-    char row[80] = "one tick is enough";
-    if (many > 1) {
-        snprintf(row, sizeof row, "the last %s ticks were each over", grouped(many));
+    if (why->stream == NULL || (!why->asked && why->replayed + why->length > replayed_most)) {
+        return 0;
     }
-    snprintf(reason, SENTENCE, "%s; %s microvolts, above %s", row, grouped(4294967296ll - value), grouped(limit(why, bit)));
+    why->replayed += why->length;
+    return 1;
 }
 
-static void rise_reason(const struct why *why, unsigned bit, char *reason)
+static unsigned long long number_at(const uint8_t *bytes, int many)
 {
-    const char *text = "XREADY was reported";
-    switch (bit) {
-    case TORALINGE_STAT_OV:
-    case TORALINGE_STAT_UV: scan_reason(why, bit, reason); return;
-    case TORALINGE_STAT_SCD:
-    case TORALINGE_STAT_OCD: tick_reason(why, bit, reason); return;
-    case TORALINGE_STAT_CC_READY: text = "a count of charge came"; break;
-    case TORALINGE_STAT_OVRD_ALERT:
-        text = turn_kind(&why->turn) == TORALINGE_KIND_PIN ? "ALERT was pulled up from outside" : "the outside level is 1";
-        break;
-    default: break;
+    unsigned long long number = 0;
+    while (many > 0) {
+        many--;
+        number = number << 8 | bytes[many];
     }
-    snprintf(reason, SENTENCE, "%s", text);
+    return number;
+}
+
+/* Asks why a bit is up that is up after the record at hand; 0 where that is too much. */
+static int ask_why(struct why *why, unsigned bit, struct row *row)
+{
+    uint8_t bytes[TORALINGE_WHY_SIZE];
+    if (!may_ask(why) || toralinge_why(why->stream, why->length, why->turn.count - 1, bit, bytes, sizeof bytes) != 0) {
+        return 0;
+    }
+    row->rose = number_at(bytes, 8);
+    row->first = number_at(bytes + 8, 8);
+    row->cause = (unsigned)number_at(bytes + 16, 4);
+    row->many = (unsigned)number_at(bytes + 20, 4);
+    row->limit = (unsigned)number_at(bytes + 24, 4);
+    row->input = (unsigned)number_at(bytes + 28, 4);
+    row->value = (long long)number_at(bytes + 32, 4);
+    row->value -= row->value > 2147483647ll ? 4294967296ll : 0;
+    return 1;
+}
+
+/* Asks which bits hold a drive that is off after the record at hand; 0 where that is too much. */
+static int ask_held(struct why *why, int drive, unsigned *held)
+{
+    uint8_t bytes[TORALINGE_OFF_SIZE], stat = why->turn.entry[TORALINGE_ENTRY_SYS_STAT];
+    if (!why->known[drive][stat]) {
+        if (!may_ask(why) ||
+            toralinge_off(why->stream, why->length, why->turn.count - 1, pins_of_entry[drive].weight, bytes, sizeof bytes) != 0) {
+            return 0;
+        }
+        why->held[drive][stat] = (uint8_t)number_at(bytes + 8, 4);
+        why->known[drive][stat] = 1;
+    }
+    *held = why->held[drive][stat];
+    return 1;
+}
+
+/* Where the verdicts stand: records 9 to 12, or record 12. */
+static void tell_records(const struct row *row, char text[64])
+{
+    if (row->first == row->rose) {
+        snprintf(text, 64, "record %llu", row->rose);
+    } else {
+        snprintf(text, 64, "records %llu to %llu", row->first, row->rose);
+    }
+}
+
+static void scan_reason(const struct why *why, const struct row *row, unsigned bit, int moved, char *reason)
+{
+    const char *some = why->wired ? "an input" : "a cell", *one = why->wired ? "input" : "cell";
+    const char *than = bit == TORALINGE_STAT_OV ? "above" : "below";
+    char records[64];
+    tell_records(row, records);
+    if (row->many == 1) {
+        snprintf(reason, SENTENCE, "one scan with %s %s %s is enough; %s %u at %s", some, than, grouped(row->limit), one, row->input,
+                 grouped(row->value));
+    } else if (moved) {
+        snprintf(reason, SENTENCE, "the last %u scans (%s) each had %s %s the limit then set; %s %u at %s, %s %s", row->many, records, some, than, one,
+                 row->input, grouped(row->value), than, grouped(row->limit));
+    } else {
+        snprintf(reason, SENTENCE, "the last %u scans (%s) each had %s %s %s; %s %u at %s", row->many, records, some, than, grouped(row->limit), one,
+                 row->input, grouped(row->value));
+    }
+}
+
+static void tick_reason(const struct row *row, int moved, char *reason)
+{
+    char records[64];
+    tell_records(row, records);
+    if (row->many == 1) {
+        snprintf(reason, SENTENCE, "one tick above %s microvolts is enough; it was at %s", grouped(row->limit), grouped(-row->value));
+    } else if (moved) {
+        snprintf(reason, SENTENCE, "the last %s ticks (%s) were each above the limit then set; the last at %s microvolts, above %s",
+                 grouped(row->many), records, grouped(-row->value), grouped(row->limit));
+    } else {
+        snprintf(reason, SENTENCE, "the last %s ticks (%s) were each above %s microvolts; the last at %s", grouped(row->many), records,
+                 grouped(row->limit), grouped(-row->value));
+    }
+}
+
+/* A cause in words. */
+static void row_reason(const struct why *why, const struct row *row, unsigned bit, char *reason)
+{
+    static const char *const causes[] = {"", "", "", "ALERT was pulled up from outside", "the outside level is 1", "XREADY was reported",
+                                         "a count of charge came"};
+    int fault, moved = 0;
+    for (fault = 0; fault < FAULTS; fault++) {
+        moved |= thresholds[fault].bit == bit && why->moved_then[fault] > row->first;
+    }
+    if (row->cause == TORALINGE_BY_SCANS) {
+        scan_reason(why, row, bit, moved, reason);
+    } else if (row->cause == TORALINGE_BY_TICKS) {
+        tick_reason(row, moved, reason);
+    } else {
+        snprintf(reason, SENTENCE, "%s", causes[row->cause]);
+    }
+}
+
+/* Why a bit rose at the record at hand. */
+static void rise_reason(struct why *why, int at, char *reason)
+{
+    unsigned kind = turn_kind(&why->turn), bit = bits_of_sys_stat[at].weight;
+    struct row row = {0, 0, 0, 0, 0, 0, 0};
+    row.cause = kind < KINDS ? why->cause[at][kind] : 0;
+    if (row.cause == 0 && !ask_why(why, bit, &row)) {
+        snprintf(reason, SENTENCE, "./why FILE %llu says why", why->turn.count - 1);
+        return;
+    }
+    if (row.many == 0 && kind < KINDS) {
+        why->cause[at][kind] = (uint8_t)row.cause;
+    }
+    row_reason(why, &row, bit, reason);
 }
 
 /* Follows the frame: whether the record at hand was an accepted write, and of what. */
@@ -170,27 +273,34 @@ static const char *mover(const struct why *why, unsigned address)
 static void tell_bits(struct why *why)
 {
     uint8_t stat = why->turn.entry[TORALINGE_ENTRY_SYS_STAT];
-    int at;
+    char reason[SENTENCE];
+    int at, fault;
     for (at = 0; at < BITS; at++) {
         const struct named *bit = &bits_of_sys_stat[at];
         if (stat & ~why->stat & bit->weight) {
             why->since[at] = why->turn.count - 1;
-            rise_reason(why, bit->weight, why->rose[at]);
-            say(why, "%s rose: %s", bit->name, why->rose[at]);
+            for (fault = 0; fault < FAULTS; fault++) {
+                why->moved_then[fault] = thresholds[fault].bit == bit->weight ? why->moved[fault] : why->moved_then[fault];
+            }
+            if (wanted(why)) {
+                rise_reason(why, at, reason);
+                say(why, "%s rose: %s", bit->name, reason);
+            }
         } else if (~stat & why->stat & bit->weight) {
             say(why, "%s fell, by %s", bit->name, mover(why, TORALINGE_REG_SYS_STAT));
         }
     }
 }
 
-/* Some of the bits by name, after other words, each with the record at which it rose where that is wanted. */
-static void list_bits(const struct why *why, unsigned bits, const char *first, int since, char *text)
+/* Some of the bits by name, each with the record at which it rose where that is wanted. */
+static void list_bits(const struct why *why, unsigned bits, int since, char *text)
 {
-    size_t length = (size_t)snprintf(text, SENTENCE, "%s", first);
+    size_t length = 0;
     int at;
+    text[0] = '\0';
     for (at = 0; at < BITS; at++) {
         if (bits & bits_of_sys_stat[at].weight) {
-            length += (size_t)snprintf(text + length, SENTENCE - length, length > strlen(first) ? ", %s" : "%s", bits_of_sys_stat[at].name);
+            length += (size_t)snprintf(text + length, SENTENCE - length, length > 0 ? ", %s" : "%s", bits_of_sys_stat[at].name);
             if (since) {
                 length += (size_t)snprintf(text + length, SENTENCE - length, " is up since record %llu", why->since[at]);
             }
@@ -198,22 +308,65 @@ static void list_bits(const struct why *why, unsigned bits, const char *first, i
     }
 }
 
+/* A drive went off at the record at hand: by the bits that rose with it and hold it, or by who else moved it. */
+static void tell_off(struct why *why, int drive)
+{
+    unsigned stat = why->turn.entry[TORALINGE_ENTRY_SYS_STAT], rose = stat & ~why->stat, held = 0;
+    char by[SENTENCE];
+    why->rose_then[drive] = (uint8_t)rose;
+    why->mover_then[drive] = mover(why, TORALINGE_REG_SYS_CTRL2);
+    if (!wanted(why)) {
+        return;
+    }
+    if (rose != 0 && !ask_held(why, drive, &held)) {
+        say(why, "%s off: ./why FILE %llu says by what", pins_of_entry[drive].name, why->turn.count - 1);
+        return;
+    }
+    list_bits(why, rose & held, 0, by);
+    say(why, "%s off, by %s", pins_of_entry[drive].name, by[0] != '\0' ? by : why->mover_then[drive]);
+}
+
+/* A drive was asked for at the record at hand, and stays off. */
+static void tell_stays(struct why *why, int drive)
+{
+    unsigned held = 0;
+    char text[SENTENCE];
+    if (!wanted(why)) {
+        return;
+    }
+    if (!ask_held(why, drive, &held)) {
+        say(why, "%s stays off: ./why FILE %llu says why", pins_of_entry[drive].name, why->turn.count - 1);
+        return;
+    }
+    list_bits(why, held, 1, text);
+    say(why, "%s stays off: %s", pins_of_entry[drive].name, text);
+}
+
 static void tell_drive(struct why *why, int drive)
 {
     const struct named *pin = &pins_of_entry[drive];
     unsigned on = why->turn.entry[TORALINGE_ENTRY_PINS] & pin->weight, was = why->pins & pin->weight;
-    unsigned stat = why->turn.entry[TORALINGE_ENTRY_SYS_STAT], rose = stat & ~why->stat & holds[drive];
-    char text[SENTENCE];
+    unsigned asking = drive == CHG ? TORALINGE_CTRL2_CHG_ON : TORALINGE_CTRL2_DSG_ON;
     if (on && !was) {
         say(why, "%s on, by %s", pin->name, mover(why, TORALINGE_REG_SYS_CTRL2));
     } else if (!on && was) {
-        why->off[drive] = why->turn.count - 1;
-        list_bits(why, rose, rose ? "" : mover(why, TORALINGE_REG_SYS_CTRL2), 0, why->by[drive]);
-        say(why, "%s off, by %s", pin->name, why->by[drive]);
-    } else if (!on && why->written && why->pointer == TORALINGE_REG_SYS_CTRL2 &&
-               why->data & (drive == CHG ? TORALINGE_CTRL2_CHG_ON : TORALINGE_CTRL2_DSG_ON)) {
-        list_bits(why, stat & holds[drive], "", 1, text);
-        say(why, "%s stays off: %s", pin->name, text);
+        tell_off(why, drive);
+    } else if (!on && why->written && why->pointer == TORALINGE_REG_SYS_CTRL2 && why->data & asking) {
+        tell_stays(why, drive);
+    }
+}
+
+/* Looks whether what chooses a limit is another after the record at hand. */
+static void watch_thresholds(struct why *why)
+{
+    int fault;
+    for (fault = 0; fault < FAULTS; fault++) {
+        const struct threshold *of = &thresholds[fault];
+        unsigned now = (reg(why, of->address) & of->bits) | (unsigned)(reg(why, of->other) & of->other_bits) << 8;
+        if (now != why->threshold[fault]) {
+            why->threshold[fault] = now;
+            why->moved[fault] = why->turn.count - 1;
+        }
     }
 }
 
@@ -221,6 +374,7 @@ static void tell_record(struct why *why)
 {
     const struct turn *turn = &why->turn;
     char reason[REASON_SIZE];
+    keep(why);
     if (turn->entry[TORALINGE_ENTRY_NUMBER] != TORALINGE_DONE) {
         turn_reason(turn, reason);
         say(why, "%s refused, %u: %s", turn_name(turn), turn->entry[TORALINGE_ENTRY_NUMBER], reason);
@@ -229,9 +383,11 @@ static void tell_record(struct why *why)
     follow(why);
     if (turn_kind(turn) == TORALINGE_KIND_SETUP) {
         why->crc = turn->bytes[TURN_HEADER + 1];
-        why->floor = turn->bytes[TURN_HEADER + 5] + 256u * turn->bytes[TURN_HEADER + 6];
-    } else if (turn_kind(turn) == TORALINGE_KIND_SCAN) {
-        why->scans[why->scanned++ % MOST_SCANS] = turn->count - 1;
+    } else if (turn_kind(turn) == TORALINGE_KIND_WIRING) {
+        why->wired = 1;
+    }
+    if (turn_kind(turn) != TORALINGE_KIND_SENSE) {
+        watch_thresholds(why);
     }
     tell_bits(why);
     if ((turn->entry[TORALINGE_ENTRY_PINS] ^ why->pins) & TORALINGE_PIN_ALERT) {
@@ -243,30 +399,47 @@ static void tell_record(struct why *why)
     why->pins = turn->entry[TORALINGE_ENTRY_PINS];
 }
 
-static void tell_standing_drive(const struct why *why, int drive)
+/* What moved a drive that is off and that nothing holds. */
+static void tell_left(struct why *why, int drive, unsigned long long since)
 {
     const char *name = pins_of_entry[drive].name;
+    uint8_t bytes[TORALINGE_OFF_SIZE];
+    char by[SENTENCE] = "";
+    if (why->rose_then[drive] != 0 &&
+        toralinge_off(why->stream, why->length, since, pins_of_entry[drive].weight, bytes, sizeof bytes) == 0) {
+        list_bits(why, why->rose_then[drive] & (unsigned)number_at(bytes + 8, 4), 0, by);
+    }
+    printf("%s is off since record %llu, by %s: nobody has asked for it since\n", name, since, by[0] != '\0' ? by : why->mover_then[drive]);
+}
+
+static void tell_standing_drive(struct why *why, int drive)
+{
+    const char *name = pins_of_entry[drive].name;
+    uint8_t bytes[TORALINGE_OFF_SIZE];
     char text[SENTENCE];
-    if (why->pins & pins_of_entry[drive].weight) {
+    if (toralinge_off(why->stream, why->length, why->record, pins_of_entry[drive].weight, bytes, sizeof bytes) != 0) {
         printf("%s is on\n", name);
-    } else if (why->stat & holds[drive]) {
-        list_bits(why, why->stat & holds[drive], "", 1, text);
+    } else if (number_at(bytes + 8, 4) != 0) {
+        list_bits(why, (unsigned)number_at(bytes + 8, 4), 1, text);
         printf("%s is off: %s\n", name, text);
-    } else if (why->by[drive][0] != '\0') {
-        printf("%s is off since record %llu, by %s: nobody has asked for it since\n", name, why->off[drive], why->by[drive]);
+    } else if (number_at(bytes, 8) < why->turn.count) {
+        tell_left(why, drive, number_at(bytes, 8));
     } else {
         printf("%s is off: nobody has asked for it\n", name);
     }
 }
 
 /* What stands after the record that was asked for. */
-static void tell_standing(const struct why *why)
+static void tell_standing(struct why *why)
 {
+    struct row row;
+    char reason[SENTENCE];
     int at;
     printf("after record %llu:\n", why->record);
     for (at = 0; at < BITS; at++) {
-        if (why->stat & bits_of_sys_stat[at].weight) {
-            printf("%s is up since record %llu: %s\n", bits_of_sys_stat[at].name, why->since[at], why->rose[at]);
+        if (ask_why(why, bits_of_sys_stat[at].weight, &row)) {
+            row_reason(why, &row, bits_of_sys_stat[at].weight, reason);
+            printf("%s is up since record %llu: %s\n", bits_of_sys_stat[at].name, row.rose, reason);
         }
     }
     tell_standing_drive(why, CHG);

@@ -12,7 +12,7 @@ import pytest
 from common import ROOT
 
 import toralinge
-from toralinge import Ctrl1, Ctrl2, Kind, Register, Stat, library, names, streams
+from toralinge import By, Ctrl1, Ctrl2, Kind, Register, Stat, library, names, streams
 
 
 def python(code: str, **environment: str) -> "subprocess.CompletedProcess[str]":
@@ -62,7 +62,7 @@ def test_the_header_is_read_as_c_reads_it():  # type: ignore[no-untyped-def]
 
 def test_names_are_the_header_s():  # type: ignore[no-untyped-def]
     numbers = library.header().numbers
-    for prefix, listed in (("KIND", Kind), ("REG", Register), ("STAT", Stat), ("CTRL1", Ctrl1), ("CTRL2", Ctrl2), ("PIN", names.Pin)):
+    for prefix, listed in (("KIND", Kind), ("REG", Register), ("STAT", Stat), ("CTRL1", Ctrl1), ("CTRL2", Ctrl2), ("PIN", names.Pin), ("BY", By)):
         named = {name.removeprefix(f"TORALINGE_{prefix}_"): value for name, value in numbers.items() if name.startswith(f"TORALINGE_{prefix}_")}
         assert named and all(listed[name] == value for name, value in named.items()), prefix
     assert Register.CC.pair and not Register.ADCGAIN1.pair and not Register.CC_CFG.pair

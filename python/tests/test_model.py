@@ -42,7 +42,21 @@ def held_to_the_model(stream: bytes) -> int:
         assert season_rows(stream) == rows == toralinge.season(stream).rows
     else:
         assert [answer(toralinge.season, stream)[0]] == rows[0]
+    run = toralinge.play(stream)
+    for what, given in [one for one in numbers if one[0] in ("why", "off")][::5]:
+        asked_why(run, what, given)
     return len(lines)
+
+
+def asked_why(run, what, numbers):  # type: ignore[no-untyped-def]
+    """Holds one line about why a bit is up, or since when a drive is off."""
+    record, of, number, *row = numbers
+    refused, given = answer(run.why if what == "why" else run.off, record, of)
+    assert refused == number, (what, numbers)
+    if not number and what == "why":
+        assert [given.rose, given.first, given.cause, given.many, given.limit, given.input, given.value] == row
+    elif not number:
+        assert [(1 << 64) - 1 if given.since is None else given.since, given.held] == row
 
 
 def asked_of_the_chip(chip, what, numbers):  # type: ignore[no-untyped-def]

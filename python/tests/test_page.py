@@ -74,7 +74,8 @@ def test_a_long_run_lists_what_is_near_a_change():  # type: ignore[no-untyped-de
 def test_sentences_say_what_the_entries_show():  # type: ignore[no-untyped-def]
     said = [change.sentence for change in toralinge.changes(OVER)]
     assert said[0] == "record 1, BOOT: the chip woke"
-    assert "record 12, SCAN: OV rose (over-voltage)" in said and "record 12, SCAN: CHG went off (charge drive)" in said
+    why = "the last 4 scans (records 9 to 12) each had a cell above 10,952; cell 5 at 10,953"
+    assert f"record 12, SCAN: OV rose (over-voltage): {why}" in said and "record 12, SCAN: CHG went off (charge drive), by OV" in said
     assert "record 22, OUT: OV fell (over-voltage)" in said
     moved = [change.sentence for change in toralinge.changes(ROOT / "examples/sleep-and-wake.hex") if change.what == "setting"]
     assert moved[0] == "record 11, OUT: OV_TRIP went from 0xAC to 0x80: a cell above 10,248 is over"
@@ -123,8 +124,8 @@ def test_clicked_through_in_chromium(browser, tmp_path):  # type: ignore[no-unty
             assert [one.get_attribute("id") for one in browser.find_elements(By.CSS_SELECTOR, "li.picked")] == [item.get_attribute("id")]
             box, row = browser.find_element(By.CSS_SELECTOR, ".records").rect, picked[0].rect
             assert box["y"] <= row["y"] and row["y"] + row["height"] <= box["y"] + box["height"] + 1
-            [line] = browser.find_elements(By.CSS_SELECTOR, "path.here")
-            assert line.is_displayed() or line.rect["height"] > 100
+            drawn = browser.find_elements(By.CSS_SELECTOR, "path.here")
+            assert len(drawn) == len(change.records) and all(line.is_displayed() or line.rect["height"] > 100 for line in drawn)
         box = browser.find_element(By.CSS_SELECTOR, f".filters input[value={what}]")
         box.click()
         assert all(item.is_displayed() != (change.what == what) for change, item in zip(changes, items))
@@ -133,20 +134,27 @@ def test_clicked_through_in_chromium(browser, tmp_path):  # type: ignore[no-unty
         assert browser.save_screenshot(str(tmp_path / "page.png")) and (tmp_path / "page.png").stat().st_size > 50_000
 
 
-def test_a_cause_that_is_told_leads_to_its_records(browser, tmp_path):  # type: ignore[no-untyped-def]
-    """Whoever knows why a bit rose tells the end of the sentence and the records, and a click marks them all."""
+def test_a_change_leads_to_the_records_that_made_it(browser, tmp_path):  # type: ignore[no-untyped-def]
+    """A click on the rise of OV, or on the drive that it put off, marks the four scans that made it due."""
     from selenium.webdriver.common.by import By
 
-    def why(entry, bit):  # type: ignore[no-untyped-def]
-        return Cause("four scans", tuple(range(entry.record - 3, entry.record + 1))) if bit == toralinge.Stat.OV else None
-
-    page(OVER, tmp_path / "why.html", why=why)
+    page(OVER, tmp_path / "why.html")
     browser.get(f"file://{tmp_path}/why.html")
-    [item] = [one for one in browser.find_elements(By.CSS_SELECTOR, "ol.changes li") if "OV rose" in one.text]
-    assert item.text.endswith("record 12, SCAN: OV rose (over-voltage): four scans")
-    item.find_element(By.TAG_NAME, "a").click()
-    assert [row.get_attribute("id") for row in browser.find_elements(By.CSS_SELECTOR, "tr.picked")] == [f"record-{at}" for at in (9, 10, 11, 12)]
-    assert len(browser.find_elements(By.CSS_SELECTOR, "path.here")) == 4
+    for said in ("OV rose (over-voltage): the last 4 scans (records 9 to 12) each had a cell above 10,952; cell 5 at 10,953", "CHG went off (charge drive), by OV"):
+        [item] = [one for one in browser.find_elements(By.CSS_SELECTOR, "ol.changes li") if said in one.text]
+        assert item.text.endswith(f"record 12, SCAN: {said}")
+        item.find_element(By.TAG_NAME, "a").click()
+        assert [row.get_attribute("id") for row in browser.find_elements(By.CSS_SELECTOR, "tr.picked")] == [f"record-{at}" for at in (9, 10, 11, 12)]
+        assert len(browser.find_elements(By.CSS_SELECTOR, "path.here")) == 4
+
+
+def test_another_may_tell_the_cause():  # type: ignore[no-untyped-def]
+    """Whoever knows better why a bit rose tells the end of the sentence and the records."""
+    def why(entry, bit):  # type: ignore[no-untyped-def]
+        return Cause("two scans", (11, entry.record)) if bit == toralinge.Stat.OV else None
+
+    text = page(OVER, why=why)
+    assert "record 12, SCAN: OV rose (over-voltage): two scans<" in text and 'class="bit" data-records="11 12"' in text
 
 
 def test_the_line_in_the_picture_is_at_its_record(browser, tmp_path):  # type: ignore[no-untyped-def]
@@ -158,8 +166,8 @@ def test_the_line_in_the_picture_is_at_its_record(browser, tmp_path):  # type: i
     browser.get(f"file://{path}")
     [item] = [one for one in browser.find_elements(By.CSS_SELECTOR, "ol.changes li") if "OV rose" in one.text]
     item.find_element(By.TAG_NAME, "a").click()
-    place = "return document.querySelector(arguments[0]).getBoundingClientRect().left"
-    block, line = (browser.execute_script(place, where) for where in ("#row-OV", "path.here"))
+    place = "return Array.from(document.querySelectorAll(arguments[0])).pop().getBoundingClientRect().left"
+    block, line = (browser.execute_script(place, where) for where in ("#row-OV", "path.here"))     # the last line: where OV rose
     step = float(browser.find_element(By.CSS_SELECTOR, ".picture").get_attribute("data-step"))
     assert abs(line - block) < 2 * step
 

@@ -10,6 +10,7 @@ from toralinge import Chip, Kind, Refused, Report
 
 modest = settings(max_examples=60, deadline=None, suppress_health_check=list(HealthCheck))
 packs = some.builds(pack, some.integers(0, 10_000), some.integers(3, 60), some.integers(0, 3))
+PACK = pack(3, 20)
 numbers = some.integers() | some.sampled_from([0, 1, -1, 31, 32, 255, 256, 16_383, 16_384, 65_535, 65_536, 2**31, 2**32, 2**63 - 1, 2**63, -(2**63)])
 
 
@@ -82,6 +83,26 @@ def test_any_bytes_are_refused_and_never_more(stream):  # type: ignore[no-untype
     _tried(stream)
 
 
+def _explained(run: toralinge.Run) -> None:
+    """Every bit that is up has a why, every drive that is off an off, and nothing else has one."""
+    for at in sorted({0, len(run) // 3, len(run) // 2, len(run) - 2, len(run) - 1, len(run)}):
+        there = 0 <= at < len(run)
+        for bit in toralinge.Stat:
+            try:
+                rise = run.why(at, bit)
+                assert there and bit in run[at].stat and rise.first <= rise.rose <= at and rise.records[0] == rise.first and rise.records[-1] == rise.rose
+                assert bit not in (run[rise.rose - 1].stat if rise.rose else 0) and all(bit in run[since].stat for since in range(rise.rose, at))
+            except Refused as error:
+                assert error.number == (28 if there else 27) and not (there and bit in run[at].stat)
+        for pin in (toralinge.Pin.CHG, toralinge.Pin.DSG):
+            try:
+                off = run.off(at, pin)
+                assert there and pin not in run[at].pins and off.held == off.held & run[at].stat
+                assert off.since is None or pin in run[off.since - 1].pins and all(pin not in run[since].pins for since in range(off.since, at + 1))
+            except Refused as error:
+                assert error.number == (28 if there else 27) and not (there and pin not in run[at].pins)
+
+
 def _tried(stream: bytes) -> None:
     run = toralinge.play(stream)
     assert len(run) == len(run.places) and all(0 <= entry.number <= 26 for entry in run)
@@ -91,6 +112,7 @@ def _tried(stream: bytes) -> None:
         except Refused as error:
             assert run[0].number == error.number if len(run) else error.number == 9
     assert len(toralinge.changes(stream)) >= len(run.refusals)
+    _explained(run)
     [table] = [toralinge.seasons([stream])]
     assert len(table) >= 1 and table["refused_number"].isna().all() == (bool(run) and not run[0].number)
 
@@ -108,12 +130,13 @@ def test_hostile_numbers_are_refused_and_never_more(one, two, three):  # type: i
         lambda: chip.count(one), lambda: chip.sense(one, two), lambda: chip.out(one), lambda: chip.voltage(one), lambda: chip.bleed(one),
         lambda: chip.smart_battery(one, two), lambda: chip.registers[one], lambda: chip.write(one, two), lambda: chip.read(one),
         lambda: toralinge.record(one, two, (three,)), lambda: toralinge.values(b"\0\0\2\0", one),
+        lambda: toralinge.why(b"", one, two), lambda: toralinge.off(PACK, one, two), lambda: toralinge.why(PACK, one, two),
     ]
     for call in calls:
         try:
             call()
         except Refused as error:
-            assert 1 <= error.number <= 26 and error.words == toralinge.words(error.number)
+            assert 1 <= error.number <= 28 and error.words == toralinge.words(error.number)
 
 
 @modest

@@ -10,8 +10,8 @@ here or by you needs to add it.
     >>> chip.voltage(1)
     2204976
 
-``play``, ``season``, ``scans`` and ``changes`` take a stream or the name of its file; ``seasons`` and ``fleet`` take many files and
-give one table. What the library refuses is raised as :class:`Refused`, with its number and its words.
+``play``, ``season``, ``scans``, ``changes``, ``why`` and ``off`` take a stream or the name of its file; ``seasons`` and ``fleet`` take many
+files and give one table. What the library refuses is raised as :class:`Refused`, with its number and its words.
 """
 from __future__ import annotations
 
@@ -23,17 +23,18 @@ from .convert import (
 )
 from .fleet import fleet
 from .library import NotThere, version
-from .names import Ctrl1, Ctrl2, Kind, Pin, Register, Stat
+from .names import By, Ctrl1, Ctrl2, Kind, Pin, Register, Stat
 from .refused import Refused, words
 from .run import Entry, Run, play
 from .season import CellSeason, Report, Scan, Scans, scans, season
 from .streams import Setup, Stream, Values, bytes_of_hex, record, setup_of, stream_of, values
 from .tables import seasons
+from .why import Off, Rise, off, why
 
 __all__ = [
-    "Bleed", "CellSeason", "Change", "Chip", "Ctrl1", "Ctrl2", "Entry", "Kind", "NotAcknowledged", "NotThere", "Pin", "Reading",
-    "Refused", "Register", "Registers", "Reply", "Report", "Run", "Scan", "Scans", "Setup", "Stat", "Stream", "Transfer", "Values",
+    "Bleed", "By", "CellSeason", "Change", "Chip", "Ctrl1", "Ctrl2", "Entry", "Kind", "NotAcknowledged", "NotThere", "Off", "Pin", "Reading",
+    "Refused", "Register", "Registers", "Reply", "Report", "Rise", "Run", "Scan", "Scans", "Setup", "Stat", "Stream", "Transfer", "Values",
     "__version__", "bytes_of_hex", "cc_hundredths", "cell_microvolts", "changes", "crc8", "die_temperature", "fleet",
-    "over_voltage_code", "play", "record", "scans", "season", "seasons", "setup_of", "stream_of", "thermistor_ohms",
-    "under_voltage_code", "values", "version", "words",
+    "off", "over_voltage_code", "play", "record", "scans", "season", "seasons", "setup_of", "stream_of", "thermistor_ohms",
+    "under_voltage_code", "values", "version", "why", "words",
 ]

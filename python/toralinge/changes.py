@@ -1,7 +1,8 @@
 """What changed in a run, record by record, as sentences.
 
 The sentences say what the entries and the registers show: that a bit rose or fell, that a drive went on or off, that a setting moved,
-that a record was refused. They do not say which earlier records made a fault due; who knows that tells it as a :data:`Why`.
+that a record was refused. Why a bit rose, and which records made it due, comes from the proved calls; who knows better tells it as a
+:data:`Why`.
 """
 from __future__ import annotations
 
@@ -11,9 +12,12 @@ from .history import History, over_count, under_count
 from .names import MEANINGS, Ctrl1, Ctrl2, Pin, Register, Stat
 from .run import Entry
 from .streams import Stream, kind_name
+from .why import held_off, rises
 
 WHAT = ("refused", "mode", "bit", "alert", "drive", "setting")
 """What can change."""
+MARKED_MOST = 100
+"""Where more records than these made a bit due, the first and the last stand for them."""
 
 
 class Cause(NamedTuple):
@@ -35,7 +39,7 @@ class Change(NamedTuple):
     :ivar name: the bit, pin or register; the number for a refusal
     :ivar now: whether it is up or on now; None where that is no question
     :ivar sentence: the change in words
-    :ivar records: the records that made it, as far as is known: its own where nobody tells more
+    :ivar records: the records that made it: of a fault those of the verdicts that made it due, and of a drive that it put off these too
     """
 
     record: int
@@ -47,13 +51,31 @@ class Change(NamedTuple):
 
 
 def changes(stream: Stream, why: Optional[Why] = None) -> list[Change]:
-    """Every change of a run, in order."""
+    """Every change of a run, in order.
+
+    :param why: tells why a bit rose, in place of the proved calls
+    """
     return list(changes_of(History(stream), why))
+
+
+def told_by_the_library(history: History) -> Why:
+    """Why each bit of a run rose, by the proved calls."""
+    found = rises(history.run)
+
+    def why(entry: Entry, bit: Stat) -> Optional[Cause]:
+        rise = found.get((entry.record, bit))
+        if rise is None:
+            return None
+        return Cause(rise.words, rise.records if len(rise.records) <= MARKED_MOST else (rise.first, rise.rose))
+
+    return why
 
 
 def changes_of(history: History, why: Optional[Why] = None) -> Iterator[Change]:
     """Every change of a run that is already played."""
     stat, pins = Stat(0), Pin(0)
+    why = told_by_the_library(history) if why is None else why
+    held = held_off(history.run)
     for entry in history.run:
         if entry.number:
             yield _change(entry, "refused", str(entry.number), None, f"refused, {entry.number}: {_words(entry)}")
@@ -63,18 +85,29 @@ def changes_of(history: History, why: Optional[Why] = None) -> Iterator[Change]:
         for bit in Stat:
             if (entry.stat ^ stat) & bit:
                 rose = bit in entry.stat
-                cause = why(entry, bit) if why is not None and rose else None
+                cause = why(entry, bit) if rose else None
                 said = f"{bit.name} {'rose' if rose else 'fell'} ({MEANINGS[bit]})"
                 yield _change(entry, "bit", str(bit.name), rose, said if cause is None else f"{said}: {cause.words}", cause)
         if (entry.pins ^ pins) & Pin.ALERT:
             yield _change(entry, "alert", "ALERT", entry.alert, f"ALERT went {'up' if entry.alert else 'down'}")
         for pin, drive in ((Pin.CHG, "charge"), (Pin.DSG, "discharge")):
-            if (entry.pins ^ pins) & pin:
-                on = pin in entry.pins
-                yield _change(entry, "drive", str(pin.name), on, f"{pin.name} went {'on' if on else 'off'} ({drive} drive)")
+            if pin in entry.pins & ~pins:
+                yield _change(entry, "drive", str(pin.name), True, f"{pin.name} went on ({drive} drive)")
+            elif pin in pins & ~entry.pins:
+                by = _put_off(history, entry, held[entry.record, pin], why)
+                yield _change(entry, "drive", str(pin.name), False, f"{pin.name} went off ({drive} drive), by {by.words}", by)
         if entry.record and history.setup is not None:
             yield from _settings(history, entry)
         stat, pins = entry.stat, entry.pins
+
+
+def _put_off(history: History, entry: Entry, bits: Stat, why: Why) -> Cause:
+    """What put a drive off: bits, and the records that made these due; or the host, or SHIP."""
+    if not bits:
+        return Cause("the host" if history.moments[entry.record].awake else "SHIP", (entry.record,))
+    causes = [why(entry, bit) for bit in Stat if bit in bits]
+    records = {entry.record, *(at for cause in causes if cause is not None for at in cause.records)}
+    return Cause(", ".join(str(bit.name) for bit in Stat if bit in bits), tuple(sorted(records)))
 
 
 def _words(entry: Entry) -> str:

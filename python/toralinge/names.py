@@ -92,6 +92,17 @@ class Pin(IntFlag):
     DSG = 1
 
 
+class By(IntEnum):
+    """Why a bit of SYS_STAT rose."""
+
+    SCANS = 1
+    TICKS = 2
+    PIN = 3
+    LEVEL = 4
+    XREADY = 5
+    COUNT = 6
+
+
 class Ctrl1(IntFlag):
     """Bits of SYS_CTRL1."""
 

@@ -106,7 +106,7 @@ def page(stream: Stream, path: Union[None, str, "os.PathLike[str]"] = None, *, t
     A click on a change leads to the records that made it. The sentences are those of :func:`toralinge.changes`.
 
     :param path: where to write it, as ``run.html``
-    :param why: tells why a bit rose, and which records made it due
+    :param why: tells why a bit rose, and which records made it due, in place of the proved calls
     :returns: the page's text
     """
     history = History(stream)

@@ -13,6 +13,8 @@ from .streams import Place, Stream, Values, describe, kind_name, places, setup_o
 if TYPE_CHECKING:
     import pandas
 
+    from .why import Off, Rise
+
 
 class Entry(NamedTuple):
     """What the chip answers to one record.
@@ -121,6 +123,18 @@ class Run(Sequence[Entry]):
         """Every refusal, in order."""
         found = (entry.refused for entry in self)
         return [one for one in found if one is not None]
+
+    def why(self, record: int, bit: Union[Stat, str, int]) -> "Rise":
+        """Since when and why a bit of SYS_STAT is up after a record, as :func:`toralinge.why` says it."""
+        from .why import why
+
+        return why(self, record, bit)
+
+    def off(self, record: int, drive: Union[Pin, str, int]) -> "Off":
+        """Since when a drive is off after a record, as :func:`toralinge.off` says it."""
+        from .why import off
+
+        return off(self, record, drive)
 
     def lines(self) -> str:
         """The lines that ``./play`` prints: record, kind, number, bus answer, SYS_STAT, then ALERT, CHG, DSG."""

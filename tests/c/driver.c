@@ -8,7 +8,7 @@
 #define MOST_SHOWN 20
 #define PLAIN_BEGINNING 16384
 
-static unsigned long streams, records, plainly, pieces, asked, rows, conversions, differences;
+static unsigned long streams, records, plainly, pieces, asked, rows, reasons, conversions, differences;
 
 static void get(void *to, size_t size)
 {
@@ -342,6 +342,74 @@ static void season_all(const struct expected *want)
     free(wanted);
 }
 
+/* A question about a bit, 'w', or a drive, 'o', after a record. */
+struct rise {
+    uint8_t call;
+    uint64_t record;
+    uint32_t of;
+    uint8_t number;
+    uint8_t row[TORALINGE_WHY_SIZE];
+};
+
+static size_t row_size(const struct rise *rise)
+{
+    return rise->call == 'w' ? TORALINGE_WHY_SIZE : TORALINGE_OFF_SIZE;
+}
+
+static void print_row(const char *whose, int64_t answer, const uint8_t *row, size_t many)
+{
+    size_t at;
+    printf("  %s: %lld", whose, (long long)answer);
+    for (at = 0; at < many; at++) {
+        printf(" %02X", row[at]);
+    }
+    printf("\n");
+}
+
+static void rise_into(const struct expected *want, const struct rise *rise, size_t room)
+{
+    size_t size = row_size(rise);
+    int64_t wanted = rise->number != 0 ? -(int64_t)rise->number : room < size ? -TORALINGE_NO_ROOM : 0;
+    size_t written = wanted == 0 ? size : 0;
+    struct guarded buffer = guarded_new(room);
+    int64_t given = rise->call == 'w' ? toralinge_why(want->stream, want->length, rise->record, rise->of, buffer.room, room)
+                                      : toralinge_off(want->stream, want->length, rise->record, rise->of, buffer.room, room);
+    reasons++;
+    if ((given != wanted || memcmp(buffer.room, rise->row, written) != 0) && differs(want, "why a bit rose, or a drive is off")) {
+        printf("  %s of %lu after record %llu, room %lu\n", rise->call == 'w' ? "why" : "off", (unsigned long)rise->of,
+               (unsigned long long)rise->record, (unsigned long)room);
+        print_row("model  ", wanted, rise->row, written);
+        print_row("library", given, buffer.room, written);
+    }
+    if (!guarded_kept(&buffer, written)) {
+        differs(want, "a byte is written that is not the row's");
+    }
+    guarded_free(&buffer);
+}
+
+/* Each question in a room that is exact or larger, and every twelfth in one that is too short. */
+static void rise_all(const struct expected *want)
+{
+    uint64_t many = get_number(8);
+    while (many > 0) {
+        struct rise rise;
+        rise.call = (uint8_t)get_number(1);
+        rise.record = get_number(8);
+        rise.of = (uint32_t)get_number(4);
+        rise.number = (uint8_t)get_number(1);
+        if (rise.number == 0) {
+            get(rise.row, row_size(&rise));
+        }
+        if (want->length < 60000 || many % 4 == 0) { /* of a long stream every fourth */
+            rise_into(want, &rise, row_size(&rise) + (size_t)(many % 2));
+        }
+        if (many % 12 == 0) {
+            rise_into(want, &rise, (size_t)(many % row_size(&rise)));
+        }
+        many--;
+    }
+}
+
 static void stream_block(void)
 {
     struct expected want;
@@ -376,6 +444,7 @@ static void stream_block(void)
     read_into(&want, (size_t)(want.number % TORALINGE_READING_SIZE));
     ask_all(&want);
     season_all(&want);
+    rise_all(&want);
     if (memcmp(lent, want.stream, want.length) != 0) {
         differs(&want, "the stream itself is changed");
     }
@@ -460,8 +529,8 @@ int main(void)
             return 2;
         }
     }
-    printf("driver: %lu streams, %lu records (%lu of them plainly), %lu pieces, %lu questions, %lu rows of seasons and %lu conversions compared, %lu "
-           "differences\n",
-           streams, records, plainly, pieces, asked, rows, conversions, differences);
+    printf("driver: %lu streams, %lu records (%lu of them plainly), %lu pieces, %lu questions, %lu rows of seasons, %lu reasons and %lu conversions "
+           "compared, %lu differences\n",
+           streams, records, plainly, pieces, asked, rows, reasons, conversions, differences);
     return differences == 0 ? 0 : 1;
 }

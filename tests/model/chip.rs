@@ -1,5 +1,5 @@
 //! The chip of docs/CHIP.md, written a second time from its rules alone: registers as one plain page of bytes, and for
-//! each fault the list of all verdicts since the chip woke, so that no run is ever counted.
+//! each fault the list of all verdicts since the chip woke, so that no run is ever counted. Beside the list stands which record gave which of them.
 
 use crate::plant::{Fault, Plant, FAULTS};
 use crate::values;
@@ -91,9 +91,63 @@ pub enum Bus {
     Read { before: Vec<u8>, low: Option<u8>, owed: Option<(u8, u8)> },
 }
 
+/// The verdicts of a fault since the chip woke.
+#[derive(Clone, Default)]
+pub struct Verdicts {
+    all: Vec<bool>,
+    /// For each record that gave some: its number, and how many verdicts there were with it.
+    records: Vec<(usize, usize)>,
+}
+
+impl Verdicts {
+    fn push(&mut self, record: usize, verdict: bool) {
+        self.all.push(verdict);
+        match self.records.last_mut() {
+            Some(last) if last.0 == record => last.1 += 1,
+            _ => self.records.push((record, self.all.len())),
+        }
+    }
+
+    fn clear(&mut self) {
+        *self = Verdicts::default();
+    }
+
+    /// Whether the newest ones, so many, are all there and true.
+    fn ends_with(&self, many: usize) -> bool {
+        self.all.len() >= many && self.all[self.all.len() - many..].iter().rev().all(|verdict| *verdict)
+    }
+
+    /// How many there were before those of a record.
+    pub fn before(&self, record: usize) -> usize {
+        let place = self.records.partition_point(|one| one.0 < record);
+        if place == 0 { 0 } else { self.records[place - 1].1 }
+    }
+
+    pub fn many(&self) -> usize {
+        self.all.len()
+    }
+
+    /// How many of the first `end` are true without a gap, looked at from the newest of them on; no more than `most`.
+    pub fn true_before(&self, end: usize, most: usize) -> usize {
+        self.all[..end].iter().rev().take(most).take_while(|verdict| **verdict).count()
+    }
+
+    /// The record that gave a verdict.
+    pub fn record_of(&self, place: usize) -> usize {
+        self.records[self.records.partition_point(|one| one.1 <= place)].0
+    }
+
+    /// The records that gave verdicts, the newest last.
+    pub fn given_by(&self) -> impl DoubleEndedIterator<Item = usize> + '_ {
+        self.records.iter().map(|one| one.0)
+    }
+}
+
 #[derive(Clone)]
 pub struct Chip {
     plant: Plant,
+    /// The number of the record at hand.
+    pub record: usize,
     pub setup: Setup,
     pub awake: bool,
     pub bus: Bus,
@@ -101,7 +155,7 @@ pub struct Chip {
     page: [u8; 256],
     load: bool,
     outside: bool,
-    verdicts: [Vec<bool>; 4],
+    verdicts: [Verdicts; 4],
     stale: Option<u8>,
     old_ov_trip: u8,
     /// Every scan that was stored, also before the chip last woke.
@@ -126,6 +180,7 @@ impl Chip {
         let page = page_after_reset(&setup, plant);
         Chip {
             plant,
+            record: 0,
             setup,
             awake: false,
             bus: Bus::Idle,
@@ -368,6 +423,26 @@ impl Chip {
         4_096 + 16 * u16::from(self.page[0x0A])
     }
 
+    /// The limit of a fault by the settings that stand now: counts, or microvolts.
+    pub fn limit(&self, fault: Fault) -> i64 {
+        match fault {
+            Fault::Ov => i64::from(self.ov_line()),
+            Fault::Uv => i64::from(self.uv_line()),
+            Fault::Scd => self.scd_limit(),
+            Fault::Ocd => self.ocd_limit(),
+        }
+    }
+
+    /// The bits of the registers that choose the limit of a fault.
+    pub fn limit_setting(&self, fault: Fault) -> (u8, u8) {
+        match fault {
+            Fault::Ov => (0, self.page[0x09]),
+            Fault::Uv => (0, self.page[0x0A]),
+            Fault::Scd => (self.rsns(), self.page[6] & 7),
+            Fault::Ocd => (self.rsns(), self.page[7] & 15),
+        }
+    }
+
     fn rsns(&self) -> u8 {
         self.page[6] >> 7
     }
@@ -418,21 +493,27 @@ impl Chip {
         }
     }
 
+    pub fn verdicts(&self, fault: Fault) -> &Verdicts {
+        &self.verdicts[fault as usize]
+    }
+
+    fn note(&mut self, fault: Fault, verdict: bool) {
+        self.verdicts[fault as usize].push(self.record, verdict);
+    }
+
     fn judge(&mut self, fault: Fault, over: bool) {
         if self.planted(Plant::SetBitStopsRun(fault)) && self.page[0] & bit_of(fault) != 0 {
             self.verdicts[fault as usize].clear();
             return;
         }
-        self.verdicts[fault as usize].push(over);
+        self.note(fault, over);
         if over {
             self.raise_where_run_is_full(fault);
         }
     }
 
     fn raise_where_run_is_full(&mut self, fault: Fault) {
-        let needed = self.needed(fault);
-        let all = &self.verdicts[fault as usize];
-        if all.len() >= needed && all[all.len() - needed..].iter().rev().all(|over| *over) {
+        if self.verdicts(fault).ends_with(self.needed(fault)) {
             self.raise(bit_of(fault));
         }
     }
@@ -488,12 +569,12 @@ impl Chip {
             self.store_scan(counts);
         }
         if !self.planted(Plant::SilentScanKeepsRuns) {
-            self.verdicts[Fault::Ov as usize].push(false);
-            self.verdicts[Fault::Uv as usize].push(false);
+            self.note(Fault::Ov, false);
+            self.note(Fault::Uv, false);
         }
         if self.planted(Plant::SilentScanEndsCurrentRuns) {
-            self.verdicts[Fault::Scd as usize].push(false);
-            self.verdicts[Fault::Ocd as usize].push(false);
+            self.note(Fault::Scd, false);
+            self.note(Fault::Ocd, false);
         }
     }
 
@@ -542,8 +623,8 @@ impl Chip {
             _ => repeat,
         };
         if self.planted(Plant::TicksEndRuns) {
-            self.verdicts[Fault::Scd as usize].push(false);
-            self.verdicts[Fault::Ocd as usize].push(false);
+            self.note(Fault::Scd, false);
+            self.note(Fault::Ocd, false);
         }
         for _ in 0..many.min(41_000) {
             self.sense(value);
@@ -559,7 +640,7 @@ impl Chip {
             _ => return,
         };
         for fault in ended {
-            self.verdicts[fault as usize].push(false);
+            self.note(fault, false);
         }
     }
 
@@ -878,7 +959,7 @@ impl Chip {
     }
 }
 
-fn bit_of(fault: Fault) -> u8 {
+pub fn bit_of(fault: Fault) -> u8 {
     match fault {
         Fault::Ov => OV,
         Fault::Uv => UV,

@@ -5,6 +5,8 @@ mod cases;
 mod chip;
 mod generate;
 mod plant;
+mod reasons;
+mod rises;
 mod season;
 mod stream;
 mod tables;
@@ -18,7 +20,7 @@ use std::process::ExitCode;
 
 const USAGE: &str =
     "usage: model cases | plants [--seed S] [--streams N] | generate [--seed S] [--streams N] [--first K]
-    | stream [--seed S] [--first K] | play [FILE] | lines [FILE] | season [FILE] | reading [FILE] | scans [FILE] | why [FILE] | tell [FILE] | values";
+    | stream [--seed S] [--first K] | play [FILE] | lines [FILE] | season [FILE] | reading [FILE] | scans [FILE] | why [FILE [RECORD]] | tell [FILE] | values";
 
 struct Options {
     seed: u64,
@@ -65,6 +67,13 @@ fn plants(options: &Options) -> Result<String, String> {
             missed.push(format!("{plant:?}"));
         }
     }
+    let rises: Vec<Vec<rises::Asked>> = streams.iter().map(|bytes| rises::all(&rises::Past::of(bytes, Plant::None))).collect();
+    for plant in plant::RISES {
+        let shown = |(bytes, wanted): (&Vec<u8>, &Vec<rises::Asked>)| rises::all(&rises::Past::of(bytes, *plant)) != *wanted;
+        if !streams.iter().zip(&rises).any(shown) {
+            missed.push(format!("{plant:?}"));
+        }
+    }
     for plant in &plants {
         let shown = |at: &usize| {
             let outcome = stream::play(&streams[*at], *plant);
@@ -79,7 +88,7 @@ fn plants(options: &Options) -> Result<String, String> {
             missed.push(format!("{plant:?}"));
         }
     }
-    let many = plants.len() + plant::ASKS.len();
+    let many = plants.len() + plant::ASKS.len() + plant::RISES.len();
     if missed.is_empty() {
         Ok(format!("model: all {many} planted errors are shown by {} streams of seed {}", streams.len(), options.seed))
     } else {
@@ -124,6 +133,15 @@ fn generate(options: &Options) -> std::io::Result<()> {
         to.write_all(&[rows.len() as u8])?;
         for number in rows.iter().flatten() {
             to.write_all(&number.to_le_bytes())?;
+        }
+        let asked = rises::all(&rises::Past::of(&bytes, Plant::None));
+        to.write_all(&(asked.len() as u64).to_le_bytes())?;
+        for one in asked {
+            to.write_all(&[one.call])?;
+            to.write_all(&one.record.to_le_bytes())?;
+            to.write_all(&one.of.to_le_bytes())?;
+            to.write_all(&[*one.answer.as_ref().err().unwrap_or(&0)])?;
+            to.write_all(&one.answer.unwrap_or_default())?;
         }
     }
     for asked in values::grid(Plant::None) {
@@ -178,7 +196,13 @@ fn run(words: &[String]) -> Result<(), String> {
         "lines" => print!("{}", stream::all_lines(&stream_of(rest)?)),
         "season" => print!("{}", tables::season(&stream_of(rest)?)),
         "reading" => print!("{}", tables::reading(&stream_of(rest)?)),
-        "why" => print!("{}", why::why(&stream_of(rest)?)),
+        "why" => match rest {
+            [file, record] => {
+                let record = record.parse().map_err(|_| format!("model: no record number: {record}"))?;
+                print!("{}", why::why_of(&stream_of(std::slice::from_ref(file))?, record));
+            }
+            _ => print!("{}", why::why(&stream_of(rest)?)),
+        },
         "scans" => print!("{}", tables::scans(&stream_of(rest)?)),
         "tell" => print!("{}", tell::tell(&stream_of(rest)?)),
         "values" => print!("{}", tell::grid()),

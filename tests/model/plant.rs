@@ -225,6 +225,28 @@ pub enum Plant {
     SeasonBelowFloorCounted,
     SeasonOfInputs,
     SeasonScansFromNought,
+    // why a bit rose, and since when a drive is off
+    WhyFirstLate,
+    WhyFirstEarly,
+    WhyWholeRun,
+    WhyTicksOnceARecord,
+    WhyFromRecordsEnd,
+    WhyHighestInput,
+    WhyFloorUnseen,
+    WhyValueDrawn,
+    WhyLimitNow,
+    WhyDelayNow,
+    WhyFirstRise,
+    WhyRefusedLeftOut,
+    WhyLastLeftOut,
+    WhyBitFirst,
+    WhyAlwaysPin,
+    OffBitsOfControl,
+    OffSinceFirst,
+    OffNeverNought,
+    OffHeldByAll,
+    OffHeldThen,
+    OffHeldByBoth,
 }
 
 use Plant::*;
@@ -236,6 +258,14 @@ pub const ASKS: &[Plant] = &[
     BleedLowestOfAll, BleedAsleepFirst, AskedBeforeChip, CurrentRoundedDown, CurrentUnsigned, WordCut,
     TemperatureDespiteSelect, ResistorForCurrentOnly, PecWithoutReadAddress, PecWithoutCommand,
     SeasonLastOfEquals, SeasonOffsetOnce, SeasonBelowFloorCounted, SeasonOfInputs, SeasonScansFromNought,
+];
+
+/// The errors of `rises.rs`, in what is said of a chip that has none.
+#[rustfmt::skip]
+pub const RISES: &[Plant] = &[
+    WhyFirstLate, WhyFirstEarly, WhyWholeRun, WhyTicksOnceARecord, WhyFromRecordsEnd, WhyHighestInput, WhyFloorUnseen, WhyValueDrawn, WhyLimitNow,
+    WhyDelayNow, WhyFirstRise, WhyRefusedLeftOut, WhyLastLeftOut, WhyBitFirst, WhyAlwaysPin, OffBitsOfControl, OffSinceFirst, OffNeverNought,
+    OffHeldByAll, OffHeldThen, OffHeldByBoth,
 ];
 
 #[rustfmt::skip]

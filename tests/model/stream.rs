@@ -12,6 +12,8 @@ pub struct Session {
     /// Only SETUP and refused records came so far.
     fresh: bool,
     pub ended: bool,
+    /// How many records were played.
+    pub records: usize,
 }
 
 /// What one record did: its kind where the header is whole, its entry, and the place after it.
@@ -25,7 +27,7 @@ fn word(bytes: &[u8], at: usize) -> u16 {
     u16::from(bytes[at]) + 256 * u16::from(bytes[at + 1])
 }
 
-fn words(payload: &[u8]) -> Vec<u16> {
+pub fn words(payload: &[u8]) -> Vec<u16> {
     payload.chunks(2).map(|two| word(two, 0)).collect()
 }
 
@@ -48,7 +50,7 @@ fn setup_of(payload: &[u8]) -> Option<Setup> {
 }
 
 /// The payload length of a kind that may follow SETUP.
-fn length_of(kind: u16, part: usize) -> Option<usize> {
+pub fn length_of(kind: u16, part: usize) -> Option<usize> {
     match kind {
         0x0001 | 0x0002 | 0x0007 | 0x0009 | 0x0010 | 0x0013 => Some(0),
         0x0003 => Some(10 * part),
@@ -101,7 +103,7 @@ fn repeat_in_range(kind: u16, repeat: u32, plant: Plant) -> bool {
     (least..=most).contains(&repeat)
 }
 
-fn sensed(payload: &[u8]) -> i32 {
+pub fn sensed(payload: &[u8]) -> i32 {
     i32::from_le_bytes([payload[0], payload[1], payload[2], payload[3]])
 }
 
@@ -169,7 +171,7 @@ fn act(chip: &mut Chip, kind: u16, payload: &[u8], plant: Plant) -> Option<u8> {
 
 impl Session {
     pub fn new(plant: Plant) -> Session {
-        Session { plant, chip: None, fresh: false, ended: false }
+        Session { plant, chip: None, fresh: false, ended: false, records: 0 }
     }
 
     fn entry(&self, number: u8, bus: Option<u8>) -> Entry {
@@ -194,6 +196,10 @@ impl Session {
     /// Plays the record at a place before the end of the bytes.
     pub fn record(&mut self, bytes: &[u8], at: usize) -> Played {
         let rest = &bytes[at..];
+        if let Some(chip) = self.chip.as_mut() {
+            chip.record = self.records;
+        }
+        self.records += 1;
         match self.header(rest) {
             Some((length, kind)) if 4 + length <= rest.len() => {
                 let entry = self.whole(kind, &rest[4..4 + length]);

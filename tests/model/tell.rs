@@ -3,6 +3,7 @@
 use crate::asks;
 use crate::chip::Chip;
 use crate::plant::Plant;
+use crate::rises::{self, Past};
 use crate::season;
 use crate::stream::{self, Session};
 use crate::values;
@@ -52,7 +53,27 @@ fn spaced(numbers: &[i64]) -> String {
     numbers.iter().map(|number| number.to_string()).collect::<Vec<_>>().join(" ")
 }
 
-/// The chip that a stream leaves, its reading, what is asked of it, its scans and its season; a line each.
+/// Why bits are up and drives off, for each of the questions of `rises`: record, bit or drive, and a row's numbers, or the number that refuses it.
+fn whys(bytes: &[u8]) -> String {
+    let past = Past::of(bytes, Plant::None);
+    let mut text = String::new();
+    for asked in rises::all(&past) {
+        let (record, of) = (asked.record, asked.of);
+        text += &match asked.call {
+            b'w' => match past.why(record, of) {
+                Ok(r) => format!("why {record} {of} 0 {} {} {} {} {} {} {}\n", r.rose, r.first, r.cause, r.many, r.limit, r.input, r.value),
+                Err(number) => format!("why {record} {of} {number}\n"),
+            },
+            _ => match past.off(record, of) {
+                Ok(off) => format!("off {record} {of} 0 {} {}\n", off.since, off.held),
+                Err(number) => format!("off {record} {of} {number}\n"),
+            },
+        };
+    }
+    text
+}
+
+/// The chip that a stream leaves, its reading, what is asked of it, its scans, its season and why its bits rose; a line each.
 pub fn tell(bytes: &[u8]) -> String {
     let outcome = stream::play(bytes, Plant::None);
     let mut text = String::new();
@@ -83,7 +104,7 @@ pub fn tell(bytes: &[u8]) -> String {
         Ok(rows) => rows.iter().for_each(|row| text += &format!("season {}\n", spaced(row))),
         Err(number) => text += &format!("season refused {number}\n"),
     }
-    text
+    text + &whys(bytes)
 }
 
 /// The conversions' grid: call, gain code, offset, count, wanted, number, value.

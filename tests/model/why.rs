@@ -1,94 +1,57 @@
-//! The sentences that ./why says of a stream: each change of a bit of SYS_STAT, of ALERT or of a drive, and each refusal (without its words).
+//! The sentences that ./why says of a stream: each change of a bit of SYS_STAT, of ALERT or of a drive, and each refusal; or those of one record, and
+//! what stands after it.
 
 use crate::chip::{Bus, Chip};
-use crate::plant::{Fault, Plant};
+use crate::plant::Plant;
+use crate::reasons::{grouped, name_of, reason};
+use crate::rises::{Past, Row, BY_COUNT, BY_LEVEL, BY_PIN, BY_SCANS, BY_TICKS};
 use crate::stream::{Entry, Session};
 
 const BITS: [(&str, u8); 7] =
     [("CC_READY", 0x80), ("XREADY", 0x20), ("OVRD_ALERT", 0x10), ("UV", 0x08), ("OV", 0x04), ("SCD", 0x02), ("OCD", 0x01)];
-/// A drive's name, its pin, its bit of SYS_CTRL2, and the bits of SYS_STAT that hold it off.
-const DRIVES: [(&str, u8, u8, u8); 2] = [("CHG", 2, 1, 0x34), ("DSG", 1, 2, 0x3B)];
-const KINDS: [&str; 24] = [
-    "SETUP", "POR", "BOOT", "SCAN", "TEMP", "COUNT", "SENSE", "PIN", "LOAD", "XREADY", "", "", "", "", "", "", "START", "OUT", "IN", "STOP", "TICKS",
-    "LEVEL", "WIRING", "SOAK",
-];
+/// A drive's name, its pin, and its bit of SYS_CTRL2.
+const DRIVES: [(&str, u8, u8); 2] = [("CHG", 2, 1), ("DSG", 1, 2)];
 
-/// A number with commas between its thousands.
-fn grouped(number: i64) -> String {
-    let digits = number.abs().to_string();
-    let mut text = String::new();
-    for (place, digit) in digits.chars().enumerate() {
-        if place > 0 && (digits.len() - place) % 3 == 0 {
-            text.push(',');
-        }
-        text.push(digit);
-    }
-    if number < 0 { format!("-{text}") } else { text }
-}
-
-fn name_of(kind: Option<u16>) -> String {
-    match kind {
-        None => "cut".to_string(),
-        Some(kind) => match KINDS.get(usize::from(kind)) {
-            Some(name) if !name.is_empty() => name.to_string(),
-            _ => format!("0x{kind:04X}"),
-        },
-    }
-}
-
-/// What is kept from record to record.
+/// What is said of a stream, and what it did.
 struct Told {
     text: String,
-    since: [usize; 7],
-    /// The records of all scans that were done.
-    scans: Vec<usize>,
+    past: Past,
 }
 
 /// A record that was done: the chip's SYS_STAT and pins before it, and what it wrote at which address, if anything.
-struct Step<'a> {
+struct Step {
     record: usize,
-    kind: u16,
-    payload: &'a [u8],
     stat: u8,
     pins: u8,
     wrote: Option<(u8, u8)>,
 }
 
-fn scan_reason(step: &Step, chip: &Chip, fault: Fault, scans: &[usize]) -> String {
-    let counts: Vec<u16> = step.payload.chunks(2).map(|two| u16::from_le_bytes([two[0], two[1]])).collect();
-    let (line, over) = if fault == Fault::Ov { (chip.ov_line(), true) } else { (chip.uv_line(), false) };
-    let is_out = |count: &u16| if over { *count > line } else { *count < line && *count >= chip.setup.floor };
-    let input = counts.iter().position(is_out).unwrap_or(99);
-    let needed = chip.needed(fault);
-    let (side, than) = if over { ("over", "above") } else { ("under", "below") };
-    let row = if needed == 1 {
-        "one scan is enough".to_string()
-    } else {
-        format!("the last {needed} scans (records {} to {}) were each {side}", scans[scans.len() - needed], step.record)
-    };
-    format!("{row}; input {} at {}, {than} {}", input + 1, grouped(i64::from(counts[input])), grouped(i64::from(line)))
+/// Where cells and inputs are not the same, in a pack with a wiring record, inputs are named.
+fn by_scans(row: &Row, over: bool, moved: bool, wired: bool) -> String {
+    let (some, one) = if wired { ("an input", "input") } else { ("a cell", "cell") };
+    let than = if over { "above" } else { "below" };
+    let (limit, at) = (grouped(row.limit.into()), format!("{one} {} at {}", row.input, grouped(row.value.into())));
+    match (row.many, moved) {
+        (1, _) => format!("one scan with {some} {than} {limit} is enough; {at}"),
+        (many, false) => format!("the last {many} scans (records {} to {}) each had {some} {than} {limit}; {at}", row.first, row.rose),
+        (many, true) => format!(
+            "the last {many} scans (records {} to {}) each had {some} {than} the limit then set; {at}, {than} {limit}",
+            row.first, row.rose
+        ),
+    }
 }
 
-fn tick_reason(step: &Step, chip: &Chip, fault: Fault) -> String {
-    let value = i32::from_le_bytes([step.payload[0], step.payload[1], step.payload[2], step.payload[3]]);
-    let limit = if fault == Fault::Scd { chip.scd_limit() } else { chip.ocd_limit() };
-    let row = match chip.needed(fault) {
-        1 => "one tick is enough".to_string(),
-        needed => format!("the last {} ticks were each over", grouped(needed as i64)),
+fn by_ticks(row: &Row, moved: bool) -> String {
+    let (limit, at) = (grouped(row.limit.into()), grouped(-i64::from(row.value)));
+    let records = match row.first == row.rose {
+        true => format!("record {}", row.rose),
+        false => format!("records {} to {}", row.first, row.rose),
     };
-    format!("{row}; {} microvolts, above {}", grouped(-i64::from(value)), grouped(limit))
-}
-
-fn reason(bit: u8, step: &Step, chip: &Chip, scans: &[usize]) -> String {
-    match bit {
-        0x80 => "a count of charge came".to_string(),
-        0x20 => "XREADY was reported".to_string(),
-        0x10 if step.kind == 7 => "ALERT was pulled up from outside".to_string(),
-        0x10 => "the outside level is 1".to_string(),
-        0x08 => scan_reason(step, chip, Fault::Uv, scans),
-        0x04 => scan_reason(step, chip, Fault::Ov, scans),
-        0x02 => tick_reason(step, chip, Fault::Scd),
-        _ => tick_reason(step, chip, Fault::Ocd),
+    let many = grouped(row.many.into());
+    match (row.many, moved) {
+        (1, _) => format!("one tick above {limit} microvolts is enough; it was at {at}"),
+        (_, false) => format!("the last {many} ticks ({records}) were each above {limit} microvolts; the last at {at}"),
+        _ => format!("the last {many} ticks ({records}) were each above the limit then set; the last at {at} microvolts, above {limit}"),
     }
 }
 
@@ -97,17 +60,33 @@ impl Told {
         self.text += &format!("record {record}: {sentence}\n");
     }
 
+    fn row(&self, record: usize, bit: u8) -> Row {
+        self.past.why(record as u64, bit.into()).expect("the bit is up after the record")
+    }
+
+    fn reason(&self, record: usize, bit: u8, chip: &Chip) -> String {
+        let row = self.row(record, bit);
+        let moved = self.past.moved(bit, &row);
+        match row.cause {
+            BY_SCANS => by_scans(&row, bit == 4, moved, chip.setup.cells.is_some()),
+            BY_TICKS => by_ticks(&row, moved),
+            BY_PIN => "ALERT was pulled up from outside".to_string(),
+            BY_LEVEL => "the outside level is 1".to_string(),
+            BY_COUNT => "a count of charge came".to_string(),
+            _ => "XREADY was reported".to_string(),
+        }
+    }
+
     /// Who moved what no fault moved.
     fn mover(step: &Step, address: u8) -> &'static str {
         if matches!(step.wrote, Some((at, _)) if at == address) { "the host" } else { "SHIP" }
     }
 
     fn bits(&mut self, step: &Step, chip: &Chip) {
-        for (place, (name, bit)) in BITS.iter().enumerate() {
+        for (name, bit) in BITS {
             let (was, is) = (step.stat & bit != 0, chip.stat() & bit != 0);
             if is && !was {
-                self.since[place] = step.record;
-                let why = reason(*bit, step, chip, &self.scans);
+                let why = self.reason(step.record, bit, chip);
                 self.say(step.record, &format!("{name} rose: {why}"));
             } else if was && !is {
                 self.say(step.record, &format!("{name} fell, by {}", Self::mover(step, 0)));
@@ -115,30 +94,34 @@ impl Told {
         }
     }
 
+    /// The bits that hold a drive after a record.
+    fn holding(&self, record: usize, pin: u8) -> Vec<(&'static str, u8)> {
+        let held = self.past.off(record as u64, pin.into()).expect("the drive is off after the record").held;
+        BITS.into_iter().filter(|(_, bit)| held & u32::from(*bit) != 0).collect()
+    }
+
     fn drives(&mut self, step: &Step, chip: &Chip) {
-        for (name, pin, bit, held) in DRIVES {
+        for (name, pin, bit) in DRIVES {
             let (was, is) = (step.pins & pin != 0, chip.pins() & pin != 0);
             let asked = matches!(step.wrote, Some((5, value)) if value & bit != 0);
-            let among = |bits: u8| BITS.iter().enumerate().filter(move |(_, (_, bit))| bits & held & bit != 0);
-            let by: Vec<&str> = among(chip.stat() & !step.stat).map(|(_, (name, _))| *name).collect();
             if is && !was {
                 self.say(step.record, &format!("{name} on, by the host"));
-            } else if was && !is && by.is_empty() {
-                self.say(step.record, &format!("{name} off, by {}", Self::mover(step, 5)));
             } else if was && !is {
+                let rose = self.holding(step.record, pin).into_iter().filter(|(_, bit)| step.stat & bit == 0);
+                let mut by: Vec<&str> = rose.map(|(name, _)| name).collect();
+                if by.is_empty() {
+                    by.push(Self::mover(step, 5));
+                }
                 self.say(step.record, &format!("{name} off, by {}", by.join(", ")));
             } else if !is && asked {
-                let holding: Vec<String> =
-                    among(chip.stat()).map(|(place, (name, _))| format!("{name} is up since record {}", self.since[place])).collect();
+                let since = |(name, bit)| format!("{name} is up since record {}", self.row(step.record, bit).rose);
+                let holding: Vec<String> = self.holding(step.record, pin).into_iter().map(since).collect();
                 self.say(step.record, &format!("{name} stays off: {}", holding.join(", ")));
             }
         }
     }
 
     fn record(&mut self, step: &Step, chip: &Chip) {
-        if step.kind == 3 {
-            self.scans.push(step.record);
-        }
         self.bits(step, chip);
         if (step.pins ^ chip.pins()) & 4 != 0 {
             self.say(step.record, if chip.pins() & 4 != 0 { "ALERT up" } else { "ALERT down" });
@@ -157,24 +140,72 @@ fn wrote(bus: &Bus, pointer: u8, crc: bool, kind: u16, payload: &[u8], entry: &E
     }
 }
 
+impl Told {
+    /// What the sentence of a drive that went off at a record ends with.
+    fn put_off(&self, since: u64, name: &str) -> &str {
+        let begins = format!("record {since}: {name} off, by ");
+        self.text.lines().find_map(|line| line.strip_prefix(&begins)).unwrap_or("?")
+    }
+
+    fn drive_stands(&self, record: u64, name: &str, pin: u8) -> String {
+        let Ok(off) = self.past.off(record, pin.into()) else { return format!("{name} is on") };
+        let held: Vec<String> = BITS
+            .into_iter()
+            .filter(|(_, bit)| off.held & u32::from(*bit) != 0)
+            .map(|(name, bit)| format!("{name} is up since record {}", self.row(record as usize, bit).rose))
+            .collect();
+        match off.since {
+            _ if !held.is_empty() => format!("{name} is off: {}", held.join(", ")),
+            u64::MAX => format!("{name} is off: nobody has asked for it"),
+            since => format!("{name} is off since record {since}, by {}: nobody has asked for it since", self.put_off(since, name)),
+        }
+    }
+}
+
+/// The sentences of one record, and what then stands; nothing where the stream has no such record.
+pub fn why_of(bytes: &[u8], record: usize) -> String {
+    let (told, chip) = tell(bytes);
+    let Some(entry) = told.past.entries.get(record) else { return String::new() };
+    let begins = format!("record {record}: ");
+    let mut text: String = told.text.lines().filter(|line| line.starts_with(&begins)).map(|line| format!("{line}\n")).collect();
+    text += &format!("after record {record}:\n");
+    if let Some(chip) = chip {
+        for (name, bit) in BITS.into_iter().filter(|(_, bit)| entry[3] & bit != 0) {
+            text += &format!("{name} is up since record {}: {}\n", told.row(record, bit).rose, told.reason(record, bit, &chip));
+        }
+    }
+    for (name, pin, _) in DRIVES {
+        text += &format!("{}\n", told.drive_stands(record as u64, name, pin));
+    }
+    text
+}
+
 pub fn why(bytes: &[u8]) -> String {
+    tell(bytes).0.text
+}
+
+/// All that is said of a stream, and the chip that it leaves.
+fn tell(bytes: &[u8]) -> (Told, Option<Chip>) {
     let mut session = Session::new(Plant::None);
-    let mut told = Told { text: String::new(), since: [0; 7], scans: Vec::new() };
-    let (mut at, mut record) = (0, 0);
+    let mut told = Told { text: String::new(), past: Past::of(bytes, Plant::None) };
+    let mut at = 0;
     while at < bytes.len() && !session.ended {
+        let record = session.records;
+        let setup = session.chip.as_ref().map(|chip| chip.setup.clone());
         let before = session.chip.as_ref().map(|chip| (chip.stat(), chip.pins(), chip.bus.clone(), chip.pointer));
         let (stat, pins, bus, pointer) = before.unwrap_or((0, 0, Bus::Idle, 0));
         let played = session.record(bytes, at);
         match (&session.chip, played.kind, played.entry[0]) {
             (Some(chip), Some(kind), 0) => {
-                let payload = &bytes[at + 4..played.next];
-                let wrote = wrote(&bus, pointer, chip.setup.crc, kind, payload, &played.entry);
-                told.record(&Step { record, kind, payload, stat, pins, wrote }, chip);
+                let wrote = wrote(&bus, pointer, chip.setup.crc, kind, &bytes[at + 4..played.next], &played.entry);
+                told.record(&Step { record, stat, pins, wrote }, chip);
             }
-            (_, kind, number) => told.say(record, &format!("{} refused, {number}", name_of(kind))),
+            (_, kind, number) => {
+                let why = reason(number, setup.as_ref(), &bytes[at..played.next]);
+                told.say(record, &format!("{} refused, {number}: {why}", name_of(kind)));
+            }
         }
         at = played.next;
-        record += 1;
     }
-    told.text
+    (told, session.chip)
 }

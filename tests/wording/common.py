@@ -1,5 +1,6 @@
 """What the tests of the commands share: the scenes, the model's lines, and a command run."""
 import pathlib
+import re
 import subprocess
 import sys
 
@@ -33,6 +34,12 @@ class Line:
 def lines(path):
     """The model's lines of a stream of any length."""
     return [Line(text) for text in subprocess.run([MODEL, "lines", path], stdout=subprocess.PIPE, check=True, text=True).stdout.splitlines()]
+
+
+def refusals(path):
+    """Why each record that is refused is, by the model: `SCAN refused, 3: count 1 is 16,384, above 16,383` by the record's number."""
+    said = subprocess.run([MODEL, "why", path], stdout=subprocess.PIPE, check=True, text=True).stdout
+    return {int(record): rest for record, rest in re.findall(r"^record (\d+): (\S+ refused, .*)$", said, re.M)}
 
 
 def payloads(path):

@@ -42,14 +42,16 @@ def hold_table(path, lines, payloads):
 
 
 def hold_words(path, lines, payloads):
-    """./play --words against the model: each line says all that the model's line says."""
+    """./play --words against the model: each line says all that the model's line says, and why a record is refused in the model's words."""
     status, text, _ = common.run("play", "--words", path)
     said = text.splitlines()
+    refused = common.refusals(path)
     hold(len(said) == len(lines), f"{path}: {len(said)} lines, not {len(lines)}")
     for got, line, payload in zip(said, lines, payloads):
         match = WORDS.fullmatch(got)
         hold(match, f"{path}: {got}")
-        record, kind, byte, answer, number, _, up, *pins = match.groups()
+        record, kind, byte, answer, number, reason, up, *pins = match.groups()
+        hold(refused.get(int(record)) == (reason and f"{kind} refused, {number}: {reason}"), f"{path}: {got}")
         stat = sum(1 << BITS[name] for name in up.split(", ")) if up != "no bit" else 0
         same = (int(record), kind, int(number or 0), answer, stat, byte and int(byte, 16))
         hold(same == (line.record, line.kind, line.number, line.answer(), line.stat, wanted_byte(line, payload)), f"{path}: {got}")
@@ -90,13 +92,15 @@ def hold_full(path):
 
 
 def hold_reasons():
-    """Why each record of tests/play is refused, in words, as it is stored."""
-    text = ""
+    """Why each record of tests/play is refused, in words, as it is stored: as the model says it, and as ./play --words does."""
+    told = text = ""
     for path in sorted(ROOT.glob("tests/play/*.hex")):
         refused = [line for line in common.run("play", "--words", path)[1].splitlines() if ", refused, " in line]
         text += "".join(f"{path.stem} {line.split(';')[0]}\n" for line in refused)
+        told += "".join(f"{path.stem} record {record}: {said.replace(' refused', ', refused', 1)}\n" for record, said in common.refusals(path).items())
     stored = ROOT / "tests/wording/reasons.expected"
-    hold(text == stored.read_text(), f"the reasons are not those of {stored.name}:\n{text}")
+    hold(told == stored.read_text(), f"the reasons of {stored.name} are not the model's:\n{told}")
+    hold(text == told, f"./play --words gives other reasons than the model:\n{text}")
 
 
 def most_memory(records):
