@@ -183,3 +183,17 @@ in-is u here low nack (Writing s) a o = refl
 in-is u here low nack (Checking v s) a o = refl
 in-is u here low nack (Reading s k) a o = refl
 in-is u here low nack (Summing k) a o = refl
+
+-- ── ASLEEP (CHIP M6): START and STOP do nothing, no OUT is acknowledged, every IN gives 0xFF, and the chip stays as it is ──
+pub asleep-bus : (c : Chip) → c .normal ≡ false
+    → (stepped (OnBus Start) c ≡ record { chip = c; number = 0; flag = false; byte = 0 })
+    × (stepped (OnBus Stop) c ≡ record { chip = c; number = 0; flag = false; byte = 0 })
+    × ((b : ℕ) → stepped (OnBus (Out b)) c ≡ record { chip = c; number = 0; flag = true; byte = 1 })
+    × ((nack : Bool) → stepped (OnBus (In nack)) c ≡ record { chip = c; number = 0; flag = true; byte = 0xFF })
+unfolding stepped happened fits
+asleep-bus c h = (
+  ap (λ (w : Bool). cond w (settled (normally (OnBus Start) c)) (asleep (OnBus Start) c)) h,
+  ap (λ (w : Bool). cond w (settled (normally (OnBus Stop) c)) (asleep (OnBus Stop) c)) h,
+  λ b. ap (λ (w : Bool). cond w (settled (normally (OnBus (Out b)) c)) (asleep (OnBus (Out b)) c)) h,
+  λ nack. ap (λ (w : Bool). cond w (settled (normally (OnBus (In nack)) c)) (asleep (OnBus (In nack)) c)) h,
+)

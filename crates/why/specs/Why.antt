@@ -55,7 +55,8 @@ judged s b r t w cause =
     }
 
 abbrev pub whyBy : List ℕ → ℕ → Rose → Says → Why
-whyBy s b r w = cond (isJudged b) (judged s b r (r .stood .chip .registers .settings) w (causeOf b (w .pin))) (unjudged r (causeOf b (w .pin)))
+whyBy s b r w =
+    cond (isJudged b) (judged s b r (r .stood .chip .registers .settings) w (causeOf b (w .pin))) (unjudged r (causeOf b (w .pin)))
 
 unfoldable pub whyOf : List ℕ → ℕ → Rose → Why
 whyOf s b r = whyBy s b r (saysIn b (r .stood .chip) (drop (r .stood .at) s))

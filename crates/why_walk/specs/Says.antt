@@ -1,5 +1,5 @@
--- CHIP P17: what a record says of a bit of SYS_STAT, by the chip that stands when it comes: one verdict of a scan on OV or UV, as many as its
--- ticks on SCD or OCD. Assumes nothing.
+-- CHIP P17: what a record says of a bit of SYS_STAT, by the chip that stands when it comes: one verdict of a scan on OV or UV, as many as
+-- its ticks on SCD or OCD. Assumes nothing.
 use mathlib.Core.Bool.{Bool, true, false, cond, _&&_}
 use mathlib.Core.List.{List, [], _∷_}
 use Prim.Native.Nat.{ℕ, suc, _+_, _-_}
@@ -49,7 +49,8 @@ saysTicks verdict v n = record { many = n; verdict = verdict; input = 0; value =
 -- of the bit with weight 4 or 8, OV or UV
 unfoldable pub scanSays : ℕ → Chip → List ℕ → Says
 scanSays b c xs =
-    cond (eqb b 4) (saysScan (c .registers .settings .«adc_en») (isOutside true (c .setup .floor) (rule Ov (c .registers .settings) .limit)) xs)
+    cond (eqb b 4)
+    (saysScan (c .registers .settings .«adc_en») (isOutside true (c .setup .floor) (rule Ov (c .registers .settings) .limit)) xs)
     (cond (eqb b 8)
     (saysScan (c .registers .settings .«adc_en») (isOutside false (c .setup .floor) (rule Uv (c .registers .settings) .limit)) xs) saysNone)
 
