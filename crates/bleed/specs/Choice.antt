@@ -1,6 +1,6 @@
 -- CHIP E3 and E4: choices of inputs as the three CELLBAL bytes, what is allowed, and which is best. An input's
 -- excess is how far it stands above the lowest connected cell; 0 says that it may not be bled. Assumes nothing.
-use mathlib.Core.Bool.{Bool, true, false, not, _&&_, _||_, cond}
+use mathlib.Core.Bool.{Bool, not, _&&_, _||_, cond}
 use mathlib.Core.List.{List}
 use Prim.Native.Nat.{ℕ, zero, suc, _+_, _*_}
 use lib.Dec.{eqb, ltb}

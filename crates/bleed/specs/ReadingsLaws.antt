@@ -1,19 +1,19 @@
 -- CHIP E2 and E4 in their words: the lowest connected cell is the lowest, only what may be bled has an excess, and where nothing may be
 -- bled the proposal is three zero bytes. Assumes nothing.
 use mathlib.Core.Path.{_≡_, refl, sym, ap, subst, _∙_}
-use mathlib.Core.Bool.{Bool, true, false, not, _&&_, cond}
+use mathlib.Core.Bool.{Bool, true, false, _&&_, cond}
 use mathlib.Core.Logic.{_⊎_, inl, inr}
-use mathlib.Core.List.{List, [], _∷_}
-use Prim.Native.Nat.{ℕ, zero, suc, _+_, _-_, _*_, _<_, _≤_}
+use mathlib.Core.List.{List}
+use Prim.Native.Nat.{ℕ, zero, suc, _+_, _-_, _<_, _≤_}
 use native.Mathlib.Omega.{arith}
-use lib.Dec.{T, leb, ltb, eqb}
+use lib.Dec.{leb, ltb}
 use lib.ListN.{getD}
-use borrow.Author.Tests.{ltb-true, ltb-false, leb-true, eqb-true, ne-eqb}
+use borrow.Author.Tests.{ltb-true, ltb-false, leb-true}
 use Rattle.bits.specs.Bit.{bit, weighed}
 use Rattle.bleed.specs.declared.Choice.{Choice}
 use Rattle.bleed.specs.Choice.{excessIn, mayIn, chosen, number, allowed, total}
-use Rattle.bleed.specs.BestLaws.{Best, chosen-best, made, left-of, right-of}
-use Rattle.bleed.specs.Excess.{linkedAt, lowerAt, lowestBelow, lowest, mayBleed, excessAt, excessesOver, excesses, proposed}
+use Rattle.bleed.specs.BestLaws.{chosen-best, made, right-of}
+use Rattle.bleed.specs.Excess.{linkedAt, lowerAt, lowestBelow, lowest, mayBleed, excessAt}
 
 -- ── the lowest connected cell ──
 module _ (cells : List ℕ) (linked : ℕ) where

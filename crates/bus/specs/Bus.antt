@@ -1,7 +1,7 @@
 -- CHIP B1 to B20. It knows no register: OUT gives the acknowledgement and at most one accepted store, IN asks for a register and is
 -- told it. `Line` moves by the host's bytes alone. What depends on what a register held stands apart, in `Owed`. Assumes nothing.
-use mathlib.Core.Bool.{Bool, true, false, not, _&&_, cond}
-use Prim.Native.Nat.{ℕ, _+_, _*_, _/_, _%_}
+use mathlib.Core.Bool.{Bool, true, false, _&&_, cond}
+use Prim.Native.Nat.{ℕ, _+_, _*_, _%_}
 use lib.Dec.{eqb, leb}
 use Rattle.constants.specs.Address.{VC1, CC}
 use Rattle.crc8.specs.Crc.{byteOn}
@@ -11,7 +11,6 @@ use Rattle.bus.specs.declared.Phase.the-variants.{Idle, Address, Pointin
 use Rattle.bus.specs.declared.Line.{Line}
 use Rattle.bus.specs.declared.Owed.{Owed}
 use Rattle.bus.specs.declared.Bus.{Bus}
-use Rattle.bus.specs.declared.Store.{Store}
 use Rattle.bus.specs.declared.Store.the-variants.{Nothing, At}
 use Rattle.bus.specs.declared.Outed.{Outed}
 use Rattle.bus.specs.declared.Want.{Want}

@@ -1,13 +1,13 @@
 -- What the bus owes its users, of the definitions of Bus: with CRC on a store comes only with its CRC; a pair's two bytes are of one value;
 -- with CRC on every data byte given is followed by its CRC. Assumes nothing.
 use mathlib.Core.Path.{_≡_, refl, sym, ap, _∙_}
-use mathlib.Core.Bool.{Bool, true, false, cond, _&&_}
+use mathlib.Core.Bool.{Bool, true, false, cond}
 use mathlib.Core.List.{List, [], _∷_}
 use Prim.Native.Nat.{ℕ, _+_, _*_, _<_}
 use native.Mathlib.Omega.{arith}
 use lib.Dec.{eqb}
 use borrow.Author.Tests.{eq-eqb, ne-eqb, eqb-true}
-use Rattle.crc8.specs.Crc.{crc, byteOn, crcOn}
+use Rattle.crc8.specs.Crc.{crc, byteOn}
 use Rattle.crc8.specs.DivisionLaws.{crc-is}
 use Rattle.events.specs.declared.Setup.{Setup}
 use Rattle.bus.specs.declared.Phase.{Phase}
@@ -18,10 +18,9 @@ use Rattle.bus.specs.declared.Bus.{Bus}
 use Rattle.bus.specs.declared.Store.{Store}
 use Rattle.bus.specs.declared.Store.the-variants.{Nothing, At}
 use Rattle.bus.specs.declared.Outed.{Outed}
-use Rattle.bus.specs.declared.Want.{Want}
 use Rattle.bus.specs.declared.Want.the-variants.{Register, Nothing as NoRegister}
 use Rattle.bus.specs.Bus.{lineOf, grown, started, goes, refuses, stores, addressed, fed, checked, outIn, outed, isHigh, afterData}
-use Rattle.bus.specs.Bus.{afterSum, nextByte, inLine, taken, inByte, byteGiven, keeps, inOwed, owing, wantedIn, wanted, takes}
+use Rattle.bus.specs.Bus.{afterSum, taken, byteGiven, keeps, owing, wantedIn, wanted, takes}
 
 -- ── the stores of bytes that the host sends one after the other ──
 abbrev pub sends : Setup → Line → List ℕ → List Store

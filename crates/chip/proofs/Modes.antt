@@ -5,9 +5,8 @@ use mathlib.Core.Bool.{Bool, true, false, cond}
 use mathlib.Core.List.{List}
 use Prim.Native.Nat.{ℕ}
 use lib.ListN.{take}
-use Rattle.events.specs.declared.BusEvent.{BusEvent}
 use Rattle.events.specs.declared.Event.{Event as Coded}
-use Rattle.events.specs.Event.{Event, Por, Scan, Temp, OnBus, within, countMost, fits, eventOf}
+use Rattle.events.specs.Event.{Event, Por, Scan, Temp, within, countMost, fits, eventOf}
 use Rattle.settings.specs.Write.{ships}
 use Rattle.registers.specs.declared.Registers.{Registers}
 use Rattle.registers.specs.Write.{written}
@@ -80,8 +79,5 @@ unfolding fits
 temp-fits xs h q k = ap (λ (n : ℕ). within countMost (take n xs)) (sym q) ∙ sym h ∙ k
 
 -- what follows for an event from what follows for the one it was found to be
-pub as-bus : {s : Stepped} {b b′ : BusEvent} (c : Chip) → b ≡ b′ → s ≡ happened (OnBus b′) c → s ≡ happened (OnBus b) c
-as-bus c q h = h ∙ ap (λ (b : BusEvent). happened (OnBus b) c) (sym q)
-
 pub as-event : {s : Stepped} {e e′ : Coded} (xs : List ℕ) (c : Chip) → e ≡ e′ → s ≡ steppedAs (eventOf (c .setup) e′ xs) c → s ≡ steppedAs (eventOf (c .setup) e xs) c
 as-event xs c q h = h ∙ ap (λ (e : Coded). steppedAs (eventOf (c .setup) e xs) c) (sym q)

@@ -15,7 +15,7 @@ use Rattle.bus.specs.declared.Want.the-variants.{Register, Nothing as NoRegiste
 use Rattle.bus.specs.Bus.{isHigh, grown, keeps, inOwed, owing, taken, byteGiven as givenOf, gives, wanted, takes}
 use Rattle.bus.specs.Laws.{wants-nothing, wants-at}
 use Rattle.registers.specs.declared.Pair.{Pair}
-use Rattle.registers.specs.Read.{readAt, pairAt}
+use Rattle.registers.specs.Read.{pairAt}
 use Rattle.registers.specs.Laws.{pair-low}
 use Rattle.chip.specs.declared.Chip.{Chip}
 use Rattle.chip.specs.Chip.{reads, takenBy}

@@ -1,7 +1,7 @@
 -- The chip (CHIP S7): setup, mode, bus, registers and runs, and what each event does and answers: CHIP M1 to M10,
 -- and the rules of the bus, the registers and judging put together over the rooms below. Assumes nothing.
 use mathlib.Core.Bool.{Bool, true, false, cond}
-use mathlib.Core.List.{List, [], _∷_}
+use mathlib.Core.List.{List}
 use Prim.Native.Nat.{ℕ, zero, suc}
 use lib.IntN.{ℤ}
 use Rattle.constants.specs.Number.{DONE, «BAD_KIND», «BAD_VALUE», ASLEEP}
@@ -12,7 +12,6 @@ use Rattle.events.specs.declared.BusEvent.the-variants.{Start, Stop, Out, In}
 use Rattle.events.specs.declared.Event.{Event as Coded}
 use Rattle.events.specs.Event.{Event, Por, Boot, Pin, Xready, Scan, Temp, Count, Sense, Load, OnBus, Level, fits, ticksFit, Meant}
 use Rattle.events.specs.Event.{means, ticks, unfit, eventOf, meantOf}
-use Rattle.events.specs.Fault.{Fault}
 use Rattle.bus.specs.declared.Line.{Line}
 use Rattle.bus.specs.declared.Bus.{Bus}
 use Rattle.bus.specs.declared.Store.{Store}
@@ -20,7 +19,6 @@ use Rattle.bus.specs.declared.Outed.{Outed}
 use Rattle.bus.specs.declared.Taken.{Taken}
 use Rattle.bus.specs.declared.Store.the-variants.{Nothing, At}
 use Rattle.bus.specs.Bus.{withLine, idleBus, grown, started, stopped, outed, takes}
-use Rattle.settings.specs.declared.Settings.{Settings}
 use Rattle.settings.specs.Write.{ships}
 use Rattle.registers.specs.declared.Registers.{Registers}
 use Rattle.registers.specs.State.{reset, withShown, withLoadLevel, withOutsideLevel}

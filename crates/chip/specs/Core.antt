@@ -4,14 +4,12 @@ use mathlib.Core.Bool.{Bool}
 use Rattle.events.specs.declared.Setup.{Setup}
 use Rattle.events.specs.Event.{Event}
 use Rattle.bus.specs.declared.Line.{Line}
-use Rattle.bus.specs.declared.Bus.{Bus}
 use Rattle.bus.specs.Bus.{withLine, idleBus}
 use Rattle.settings.specs.declared.Settings.{Settings}
-use Rattle.registers.specs.declared.Registers.{Registers}
 use Rattle.registers.specs.State.{reset, withSettings}
 use Rattle.protection.specs.Fault.{noRuns}
 use Rattle.chip.specs.declared.Chip.{Chip}
-use Rattle.chip.specs.Chip.{inShip, next}
+use Rattle.chip.specs.Chip.{next}
 
 pub record Core : Type 0 where
   pub normal : Bool

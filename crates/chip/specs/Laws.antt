@@ -9,11 +9,9 @@ use lib.Dec.{eqb}
 use lib.IntN.{ℤ, pos, _+ℤ_}
 use lib.ListN.{length, getD, take}
 use lib.Seq.{take-suc, take-length}
-use borrow.Author.Tests.{lt-ltb}
 use Rattle.events.specs.declared.Setup.{Setup}
 use Rattle.events.specs.declared.BusEvent.the-variants.{Out}
 use Rattle.events.specs.Event.{Por, OnBus, fits}
-use Rattle.events.specs.Setup.{inputs}
 use Rattle.wiring.specs.Rows.{wiredInputs, packCells, inputOf, connected}
 use Rattle.wiring.specs.Kept.{picked}
 use Rattle.wiring.specs.Linked.{those, linked-those}
@@ -31,7 +29,6 @@ use Rattle.values.specs.declared.Reading.{Reading as ReadingValues}
 use Rattle.values.specs.Double.{IsDouble}
 use Rattle.values.specs.Forecast.{fold, totalOf}
 use Rattle.chip.specs.declared.Chip.{Chip}
-use Rattle.chip.specs.declared.Stepped.{Stepped}
 use Rattle.chip.specs.declared.outward.ForecastAnswer.the-variants.{Is}
 use Rattle.chip.specs.Chip.{numbered, answered, inShip, accepted, storedAt, stored, settled, normally, asleep, happened, stepped}
 use Rattle.chip.specs.MovesLaws.{normal-is}

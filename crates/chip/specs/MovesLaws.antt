@@ -1,8 +1,7 @@
 -- What one event does to the parts of the chip, whatever the others hold. Assumes nothing.
-use mathlib.Core.Path.{_≡_, refl, sym, ap, _∙_}
+use mathlib.Core.Path.{_≡_, refl}
 use mathlib.Core.Bool.{Bool, true, false, cond}
 use Prim.Native.Nat.{ℕ}
-use Rattle.events.specs.declared.Setup.{Setup}
 use Rattle.events.specs.declared.BusEvent.{BusEvent}
 use Rattle.events.specs.declared.BusEvent.the-variants.{Start, Stop, Out, In}
 use Rattle.events.specs.Event.{Event, Por, Boot, Pin, Xready, Scan, Temp, Count, Sense, Load, OnBus, Level, fits}
@@ -12,10 +11,9 @@ use Rattle.bus.specs.declared.Store.the-variants.{Nothing, At}
 use Rattle.bus.specs.Bus.{outed}
 use Rattle.settings.specs.Write.{ships}
 use Rattle.chip.specs.declared.Chip.{Chip}
-use Rattle.chip.specs.declared.Stepped.{Stepped}
-use Rattle.chip.specs.Chip.{numbered, withNormal, inShip, lineMoved, accepted, storedAt, stored, sent, onBus, watched, settled}
-use Rattle.chip.specs.Chip.{normally, asleep, busAsleep, happened, stepped, next}
-use Rattle.chip.specs.Core.{Core, coreOf, bare, coreNext}
+use Rattle.chip.specs.Chip.{numbered, withNormal, inShip, lineMoved, accepted, storedAt, stored, onBus, watched, settled}
+use Rattle.chip.specs.Chip.{normally, asleep, happened, stepped, next}
+use Rattle.chip.specs.Core.{coreOf, bare, coreNext}
 
 -- ── an accepted event in NORMAL; in SHIP; a value out of range ──
 pub normal-is : (e : Event) (c : Chip) → fits e ≡ true → c .normal ≡ true → stepped e c ≡ settled (normally e c)

@@ -1,7 +1,7 @@
 -- What leaves the chip: the pins (CHIP G20), a cell's voltage (CHIP V9) and forecasting's reading (CHIP V10). By
 -- CHIP V3 registers hold bare counts, and the offset enters here and nowhere else. Assumes nothing.
 use mathlib.Core.Path.{_≡_}
-use mathlib.Core.Bool.{Bool, true, false, _&&_, cond}
+use mathlib.Core.Bool.{_&&_, cond}
 use Prim.Native.Nat.{ℕ, _+_, _-_}
 use lib.Dec.{eqb, leb}
 use lib.IntN.{ℤ}

@@ -1,7 +1,7 @@
 -- CHIP R8: what ticks of one value leave, said once over their number: m and then n are m + n, they are as many SENSE,
 -- and the chip after them has the runs by their number and shows what is due at the last; the outside level is looked at after each, and
 -- finds nothing to raise after the first. Assumes nothing.
-use mathlib.Core.Path.{_≡_, refl, sym, ap, subst, _∙_}
+use mathlib.Core.Path.{_≡_, refl, sym, ap, _∙_}
 use mathlib.Core.Bool.{Bool, true, false, cond, _&&_, true≢false}
 use Prim.Native.Nat.{ℕ, zero, suc, _+_}
 use native.Mathlib.Omega.{arith}
@@ -15,7 +15,6 @@ use Rattle.registers.specs.declared.Shown.{Shown}
 use Rattle.registers.specs.State.{withShown}
 use Rattle.registers.specs.Fault.{raised}
 use Rattle.registers.specs.LevelLaws.{level-calm, raised-calm}
-use Rattle.protection.specs.declared.Runs.{Runs}
 use Rattle.protection.specs.declared.Judged.{Judged}
 use Rattle.protection.specs.Judged.{tickJudged}
 use Rattle.protection.specs.Repeat.{ticksJudged, scd-stays, ocd-stays}

@@ -8,8 +8,7 @@ use lib.Dec.{eqb, leb, ltb}
 use lib.ListN.{length, getD, take}
 use borrow.Author.Tests.{leb-true, ne-eqb}
 use Rattle.events.specs.Event.{within}
-use Rattle.records.specs.SoundLaws.{and-left, and-right}
-use Rattle.chip.specs.declared.Chip.{Chip}
+use Rattle.bits.specs.BoolLaws.{and-left, and-right}
 use Rattle.chip_bytes.specs.declared.Kept.{Kept}
 use Rattle.chip_bytes.specs.Layout.{switchAt, chipAt, formed, couldStand, none, keeps, noChip, keptAt, goodAt, chipIn}
 use Rattle.chip_bytes.specs.Layout.{keptOf, goodOf, chipOf, freshOf}

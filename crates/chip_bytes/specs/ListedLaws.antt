@@ -1,6 +1,6 @@
 -- Laws of numbers listed one by one: a whole list, switches that are bytes, zeros, and numbers of two bytes. Assumes nothing.
 use mathlib.Core.Path.{_≡_, refl, sym, ap, ap₂, _∙_}
-use mathlib.Core.Bool.{Bool, true, false, cond, _&&_, and-true, and-assoc}
+use mathlib.Core.Bool.{Bool, true, false, _&&_, and-true, and-assoc}
 use mathlib.Core.List.{List, [], _∷_}
 use Prim.Native.Nat.{ℕ, zero, suc, _+_, _-_, _*_, _<_, _≤_}
 use native.Mathlib.Omega.{arith}
@@ -10,7 +10,7 @@ use lib.Seq.{drop-cons, take-all, getD-drop}
 use borrow.Author.Tests.{leb-true, eqb-true, eqb-false}
 use Rattle.events.specs.Event.{within}
 use Rattle.records.specs.Numbers.{bitOf, le16, words}
-use Rattle.records.specs.SoundLaws.{and-left, and-right}
+use Rattle.bits.specs.BoolLaws.{and-left, and-right}
 use Rattle.chip_bytes.specs.Layout.{listed, wordIn}
 
 pub listed-is : (b : List ℕ) (i n : ℕ) → i + n ≤ length b → listed b i n ≡ take n (drop i b)

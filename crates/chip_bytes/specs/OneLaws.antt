@@ -12,7 +12,7 @@ use borrow.Author.Tests.{leb-true, ne-eqb}
 use Rattle.events.specs.Event.{within}
 use Rattle.events.specs.Setup.{setupFits}
 use Rattle.records.specs.Numbers.{bitOf}
-use Rattle.records.specs.SoundLaws.{and-left, and-right}
+use Rattle.bits.specs.BoolLaws.{and-left, and-right}
 use Rattle.writer.specs.BytesLaws.{Bytes}
 use Rattle.chip.specs.declared.Chip.{Chip}
 use Rattle.chip_bytes.specs.declared.Kept.{Kept}

@@ -1,24 +1,22 @@
 -- A TICK DONE IN THE BYTES: where they keep a chip in NORMAL and the tick raises nothing, they then keep the chip with its runs moved, and
 -- no wiring record is taken. Assumes nothing.
-use mathlib.Core.Path.{_≡_, refl, sym, ap, ap₂, _∙_}
+use mathlib.Core.Path.{_≡_, refl, sym, ap, _∙_}
 use mathlib.Core.Bool.{Bool, true, false, cond, _&&_, _||_, true≢false}
 use mathlib.Core.List.{List, [], _∷_, _++_}
-use Prim.Native.Nat.{ℕ, _≤_}
-use native.Mathlib.Omega.{arith}
+use Prim.Native.Nat.{ℕ}
 use lib.Dec.{eqb, ltb}
 use lib.IntN.{ℤ}
 use lib.ListN.{length, getD, take, drop, replicate, take-append-drop}
 use lib.Seq.{length-take-le}
 use borrow.Author.Tests.{le-ltb, ne-eqb}
 use Rattle.events.specs.Event.{within}
-use Rattle.records.specs.SoundLaws.{and-left, and-right}
+use Rattle.bits.specs.BoolLaws.{and-left, and-right}
 use Rattle.protection.specs.declared.Runs.{Runs}
 use Rattle.protection.specs.Judged.{tickJudged}
 use Rattle.registers.specs.declared.Shown.{Shown}
 use Rattle.chip.specs.declared.Chip.{Chip}
 use Rattle.chip.specs.Chip.{withRuns}
-use Rattle.chip_bytes.specs.declared.Kept.{Kept}
-use Rattle.chip_bytes.specs.Layout.{plainOf, switchesOf, wordsOf, chipBytes, switchAt, settingsAt, runsAt, shownAt, chipAt}
+use Rattle.chip_bytes.specs.Layout.{plainOf, switchesOf, wordsOf, chipBytes, switchAt, chipAt}
 use Rattle.chip_bytes.specs.Layout.{formed, couldStand, none, keeps, keptBytes, goodAt, chipIn, goodOf, chipOf, freshOf, keptIn, keptOf}
 use Rattle.chip_bytes.specs.OneLaws.{part-not}
 use Rattle.chip_bytes.specs.TripLaws.{forth}

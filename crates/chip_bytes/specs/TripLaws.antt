@@ -1,19 +1,18 @@
 -- THE ROUND TRIP: a chip's bytes are read as that chip, and bytes that have the form of a chip are its own. Assumes nothing.
-use mathlib.Core.Path.{_≡_, refl, sym, ap, ap₂, _∙_}
-use mathlib.Core.Bool.{Bool, true, false, cond, _&&_}
-use mathlib.Core.List.{List, [], _∷_, _++_}
-use Prim.Native.Nat.{ℕ, _-_, _*_}
+use mathlib.Core.Path.{_≡_, refl, ap, ap₂, _∙_}
+use mathlib.Core.Bool.{Bool, true, _&&_}
+use mathlib.Core.List.{List, _++_}
+use Prim.Native.Nat.{ℕ, _*_}
 use native.Mathlib.Omega.{arith}
 use lib.Dec.{eqb}
-use lib.ListN.{length, getD, take, drop, replicate, length-drop, take-append-drop}
+use lib.ListN.{length, getD, drop, replicate, length-drop, take-append-drop}
 use borrow.Author.Tests.{eqb-true}
 use Rattle.events.specs.Event.{within}
-use Rattle.records.specs.Numbers.{bitOf, words}
+use Rattle.records.specs.Numbers.{words}
 use Rattle.records.specs.CountedLaws.{words-count}
-use Rattle.records.specs.SoundLaws.{and-left, and-right}
+use Rattle.bits.specs.BoolLaws.{and-left, and-right}
 use Rattle.writer.specs.Write.{wordBytes}
 use Rattle.writer.specs.BytesLaws.{Bytes, bytes-drop, words-back, words-forth, bit-same}
-use Rattle.bus.specs.declared.Phase.{Phase}
 use Rattle.registers.specs.declared.Measured.{Measured}
 use Rattle.chip.specs.declared.Chip.{Chip}
 use Rattle.chip_bytes.specs.Layout.{phaseOf, phaseGood, listed, plainOf, switchesOf, wordsOf, chipBytes}

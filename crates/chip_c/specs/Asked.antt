@@ -1,7 +1,7 @@
 -- What is asked of a chip that is kept as bytes: 26 for bytes that are no chip, 9 for no chip yet, before anything that is asked. Assumes
 -- nothing.
 use mathlib.Core.Path.{_≡_}
-use mathlib.Core.Bool.{Bool, true, false, not, _&&_, cond}
+use mathlib.Core.Bool.{Bool, not, _&&_, cond}
 use mathlib.Core.List.{List}
 use Prim.Native.Nat.{ℕ}
 use lib.Dec.{eqb, ltb}

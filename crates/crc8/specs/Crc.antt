@@ -1,9 +1,9 @@
 -- CHIP B11, the CRC.
 -- A polynomial over GF(2) is a number whose bit k is the coefficient of x^k, so that 263 is x^8 + x^2 + x + 1.
 -- Assumes nothing: these are definitions.
-use Prim.Native.Nat.{ℕ, suc, zero, _+_, _*_, _/_, _%_}
+use Prim.Native.Nat.{ℕ, _+_, _*_, _/_, _%_}
 use mathlib.Core.List.{List, [], _∷_, _++_}
-use mathlib.Core.Bool.{Bool, true, false, cond}
+use mathlib.Core.Bool.{cond}
 use lib.Dec.{ltb}
 use lib.Bits.{bitXor}
 use lib.ListN.{replicate}

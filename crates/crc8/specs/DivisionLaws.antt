@@ -2,15 +2,15 @@
 use mathlib.Core.Path.{_≡_, refl, ap, ap₂, sym, _∙_}
 use Prim.Native.Nat.{ℕ, suc, zero, _+_, _-_, _*_, _/_, _%_, _<_, _≤_, _^_}
 use mathlib.Core.List.{List, [], _∷_, _++_}
-use mathlib.Core.Bool.{Bool, true, false, cond}
+use mathlib.Core.Bool.{Bool, true, false}
 use lib.Dec.{ltb}
 use native.Mathlib.Omega.{arith}
-use native.Mathlib.Nat.{zero-add, add-zero, mod-lt, not-suc-le-zero, le-of-suc-le-suc}
+use native.Mathlib.Nat.{zero-add, add-zero, not-suc-le-zero, le-of-suc-le-suc}
 use lib.Arith.{bin-ind}
 use lib.Bits.{bitXor, differ, xor-block, xor-step, xor-comm, xor-shr, xor-zero-r, xor-lt}
 use lib.ListN.{replicate}
 use borrow.Author.Tests.{lt-ltb, le-ltb, ltb-true, ltb-false}
-use Rattle.crc8.specs.Crc.{divisor, reduced, remainder, bits, crc, turn, turns, byteOn, crcOn}
+use Rattle.crc8.specs.Crc.{reduced, remainder, bits, crc, turn, turns, byteOn, crcOn}
 use Rattle.crc8.specs.Laws.{crcOn-append}
 
 -- a bit is 0 or 1

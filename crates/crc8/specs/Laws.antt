@@ -1,26 +1,12 @@
 -- Laws of the CRC's definitions.
 -- Assumes nothing.
-use mathlib.Core.Path.{_≡_, refl, ap, sym, _∙_}
-use Prim.Native.Nat.{ℕ, suc, zero, _+_, _-_, _*_, _<_, _≤_, _^_}
+use mathlib.Core.Path.{_≡_, refl}
+use Prim.Native.Nat.{ℕ, _+_, _<_}
 use mathlib.Core.List.{List, [], _∷_, _++_}
-use mathlib.Core.Bool.{Bool, true, false, cond}
-use native.Mathlib.Omega.{arith}
-use native.Mathlib.Nat.{zero-add}
-use lib.Bits.{bitXor, xor-block}
 use native.Mathlib.Numerals.{add-one}
 use lib.ListN.{length, drop, getD}
 use lib.Seq.{drop-cons, drop-length}
-use borrow.Author.Tests.{lt-ltb, le-ltb}
-use Rattle.crc8.specs.Crc.{reduced, turn, turns, byteOn, crcOn}
-
-pub turn-low : (c : ℕ) → c < 128 → c * 2 ≡ turn c
-turn-low c h = simp (lt-ltb (2 * c) 256 (omega arith)) (omega arith)
-
-pub turn-high : (c : ℕ) → 128 ≤ c → c < 256 → bitXor ((c - 128) * 2) 7 ≡ turn c
-turn-high c h k =
-    let e : 2 * c ≡ 1 * 2 ^ 8 + (c - 128) * 2 = omega arith in
-    simp (le-ltb (2 * c) 256 (omega arith))
-    (sym (ap (λ (n : ℕ). bitXor n 263) e ∙ xor-block 8 1 1 ((c - 128) * 2) 7 (omega arith) (omega arith) ∙ zero-add _))
+use Rattle.crc8.specs.Crc.{byteOn, crcOn}
 
 pub crcOn-append : (c : ℕ) (a b : List ℕ) → crcOn c (a ++ b) ≡ crcOn (crcOn c a) b
 crcOn-append c [] b = refl

@@ -17,7 +17,7 @@ use Rattle.chip.specs.declared.Chip.{Chip}
 use Rattle.chip.specs.declared.Stepped.{Stepped}
 use Rattle.chip.specs.Chip.{numbered, inShip}
 use Rattle.turn.specs.declared.Entry.{Entry}
-use Rattle.turn.specs.Turn.{Turn, entryOf, turned, turnOf}
+use Rattle.turn.specs.Turn.{Turn, entryOf, turned}
 use Rattle.turn.specs.Entries.{runs, entries}
 use Rattle.turn.specs.StandingLaws.{first-entries}
 use Rattle.demands.specs.Demand.{chip}

@@ -15,9 +15,8 @@ use Rattle.events.specs.Event.{Event, Sense, fits, ticksFit, Meant, means, tick
 use Rattle.events.specs.Fault.{Fault}
 use Rattle.protection.specs.Rule.{rule, opinion}
 use Rattle.chip.specs.declared.Chip.{Chip}
-use Rattle.chip.specs.declared.Stepped.{Stepped}
 use Rattle.chip.specs.Chip.{numbered, inShip, stepped, next, ticked, steppedAs, steppedBy}
-use Rattle.chip.specs.Core.{Core, coreOf, coreNext}
+use Rattle.chip.specs.Core.{coreOf, coreNext}
 use Rattle.chip.specs.MovesLaws.{normal-is}
 use Rattle.chip.specs.RepeatLaws.{senses, record-senses}
 use Rattle.demands.specs.Demand.{chip, core, verdicts}

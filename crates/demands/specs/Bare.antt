@@ -13,17 +13,14 @@ use Rattle.events.specs.Event.{Event, Por, Boot, Pin, Xready, Scan, Temp, Count
 use Rattle.bus.specs.declared.Phase.{Phase}
 use Rattle.bus.specs.declared.Phase.the-variants.{Idle, Address, Pointing, Writing, Checking, Reading, Summing}
 use Rattle.bus.specs.declared.Line.{Line}
-use Rattle.bus.specs.declared.Bus.{Bus}
 use Rattle.bus.specs.declared.Store.{Store}
 use Rattle.bus.specs.declared.Store.the-variants.{Nothing, At}
-use Rattle.bus.specs.declared.Outed.{Outed}
 use Rattle.bus.specs.Bus.{withLine, idleBus, outIn, outed, addressed, fed, inLine, taken}
 use Rattle.settings.specs.Write.{ships}
 use Rattle.registers.specs.declared.Registers.{Registers}
 use Rattle.registers.specs.Write.{cellbalWith}
 use Rattle.registers.specs.Read.{cellbalByte, controlByte, wordAt, fixedByte, readAt}
 use Rattle.chip.specs.declared.Chip.{Chip}
-use Rattle.chip.specs.declared.Stepped.{Stepped}
 use Rattle.chip.specs.Chip.{numbered, inShip, accepted, storedAt, stored, reads, onBus, watched, settled, normally, asleep, happened}
 use Rattle.chip.specs.Chip.{stepped, next}
 use Rattle.demands.specs.Demand.{chip}

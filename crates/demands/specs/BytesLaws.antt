@@ -1,8 +1,8 @@
 -- DEMAND 3 of the bytes: for every stream and every record number, bit by bit, what bytes 3 and 4 of its entry show, by the events that its
 -- records mean up to there. Assumes nothing.
 use mathlib.Core.Path.{_≡_, refl, sym, ap, subst, _∙_}
-use mathlib.Core.Bool.{Bool, true, false, cond}
-use mathlib.Core.List.{List, [], _∷_, _++_, map}
+use mathlib.Core.Bool.{Bool, true, false}
+use mathlib.Core.List.{List, [], _∷_, map}
 use mathlib.Core.Logic.{_↔_, _∨₁_}
 use Prim.Native.Nat.{ℕ, zero, suc, _+_, _*_, _/_, _%_, _≤_, _<_}
 use native.Mathlib.Omega.{arith}
@@ -13,17 +13,13 @@ use Rattle.events.specs.declared.Event.the-variants.{Setup}
 use Rattle.events.specs.Event.{Event}
 use Rattle.events.specs.Fault.{Fault, Ov, Uv, Scd, Ocd}
 use Rattle.bits.specs.Bit.{bit, weighed}
-use Rattle.records.specs.declared.Read.{Read}
 use Rattle.records.specs.declared.Read.the-variants.{Record}
 use Rattle.records.specs.Record.{readOf}
 use Rattle.registers.specs.declared.Status.{Status}
-use Rattle.registers.specs.declared.Shown.{Shown}
 use Rattle.registers.specs.Fault.{bitOf}
 use Rattle.registers.specs.Read.{statusByte}
-use Rattle.chip.specs.declared.Chip.{Chip}
-use Rattle.chip.specs.Outward.{pinsOf}
 use Rattle.turn.specs.declared.Entry.{Entry}
-use Rattle.turn.specs.Entries.{entries, entryBytes, bytesOf}
+use Rattle.turn.specs.Entries.{entries, bytesOf}
 use Rattle.demands.specs.Demand.{judges, chip, shown, up, alerted, Accepted, Due}
 use Rattle.demands.specs.Theorem.{rising}
 use Rattle.demands.specs.Streams.{shows, toShow, histories, entries-show}

@@ -1,9 +1,9 @@
 -- CHIP.md, "Judging": 'some count' is some input of the part, by its place, whichever it is; where each count is stored; and BAT.
 -- Assumes nothing.
 use mathlib.Core.Path.{_≡_, refl, sym, ap, _∙_}
-use mathlib.Core.Bool.{Bool, true, false, _&&_, _||_, true≢false}
+use mathlib.Core.Bool.{Bool, true, false, _&&_, _||_, true≢false, or-true}
 use mathlib.Core.List.{List, [], _∷_}
-use Prim.Native.Nat.{ℕ, zero, suc, _+_, _*_, _/_, _%_, _≤_, _<_}
+use Prim.Native.Nat.{ℕ, zero, suc, _+_, _*_, _/_, _≤_, _<_}
 use native.Mathlib.Omega.{arith}
 use lib.Dec.{leb, ltb}
 use lib.ListN.{getD, length}
@@ -29,10 +29,6 @@ some-holds p (x ∷ xs) h = by (p x) refl h (some-holds p xs)
     by : (t : Bool) → p x ≡ t → (t || some p xs) ≡ true → (some p xs ≡ true → Holds p xs) → Holds p (x ∷ xs)
     by true e h i = record { place = 0; there = omega arith; such = e }
     by false e h i = further p x xs (i h)
-
-or-true : (b : Bool) → (b || true) ≡ true
-or-true true = refl
-or-true false = refl
 
 pub holds-some : (p : ℕ → Bool) (xs : List ℕ) (k : ℕ) → k < length xs → p (getD xs k 0) ≡ true → some p xs ≡ true
 holds-some p [] k h e = absurd (omega arith)

@@ -20,9 +20,7 @@ use Rattle.bus.specs.declared.Phase.the-variants.{Idle, Address, Pointing, Writ
 use Rattle.bus.specs.declared.Store.the-variants.{Nothing, At}
 use Rattle.bus.specs.Bus.{addressed, fed, checked, lineOf, outed, grown, goes, refuses, stores}
 use Rattle.bus.specs.Laws.{store-only, wrong-crc}
-use Rattle.registers.specs.declared.Registers.{Registers}
 use Rattle.chip.specs.declared.Chip.{Chip}
-use Rattle.chip.specs.declared.Stepped.{Stepped}
 use Rattle.chip.specs.Chip.{answered, lineMoved, storedAt, stored, sent, watched, settled, stepped, next}
 use Rattle.chip.specs.Calm.{Calmed, calm-watched, settles}
 use Rattle.chip.specs.MovesLaws.{normal-is}

@@ -1,27 +1,23 @@
 -- CHIP H7: clearing twice. With the outside level at 0, bus traffic whose accepted writes are all of SYS_STAT lowers every bit that one of
 -- them has, and does nothing else to the registers, the mode and the runs. So order and repetition do not matter. Assumes nothing.
 use mathlib.Core.Path.{_≡_, refl, sym, ap, subst, _∙_}
-use mathlib.Core.Bool.{Bool, true, false, not, _&&_, _||_, or-comm}
+use mathlib.Core.Bool.{Bool, true, false, not, _&&_, _||_, or-comm, and-true}
 use mathlib.Core.List.{List, [], _∷_}
 use lib.Dec.{eqb}
 use borrow.Author.Tests.{eqb-true}
-use Rattle.events.specs.declared.Setup.{Setup}
 use Rattle.events.specs.declared.BusEvent.{BusEvent}
 use Rattle.events.specs.declared.BusEvent.the-variants.{Start, Stop, Out, In}
 use Rattle.events.specs.Event.{OnBus, fits}
 use Rattle.settings.specs.Write.{settingsWith}
 use Rattle.bus.specs.declared.Line.{Line}
 use Rattle.bus.specs.declared.Store.{Store}
-use Rattle.bus.specs.declared.Outed.{Outed}
 use Rattle.bus.specs.declared.Store.the-variants.{Nothing, At}
 use Rattle.bus.specs.Bus.{outed}
 use Rattle.registers.specs.declared.Status.{Status}
-use Rattle.registers.specs.declared.Shown.{Shown}
 use Rattle.registers.specs.declared.Registers.{Registers}
 use Rattle.registers.specs.State.{noStatus, withStatus, withShown}
 use Rattle.registers.specs.Write.{statusOf, without, shownWith, cellbalWith}
 use Rattle.chip.specs.declared.Chip.{Chip}
-use Rattle.chip.specs.declared.Stepped.{Stepped}
 use Rattle.registers.specs.LevelLaws.{let-go}
 use Rattle.chip.specs.Chip.{withRegisters, storedAt, stored, onBus, watched, next}
 use Rattle.chip.specs.MovesLaws.{normal-is}
@@ -71,10 +67,6 @@ abbrev pub lowered : Status → Registers → Registers
 lowered s r = withShown (withStatus (without s (r .shown .status)) (r .shown)) r
 
 -- ── Bools, bit by bit ──
-and-true : (a : Bool) → a && true ≡ a
-and-true true = refl
-and-true false = refl
-
 and-not-or : (t a b : Bool) → (t && not a) && not b ≡ t && not (a || b)
 and-not-or true true b = refl
 and-not-or true false b = refl

@@ -24,7 +24,6 @@ use Rattle.registers.specs.Write.{statusOf}
 use Rattle.registers.specs.Fault.{bitOf, driveOf}
 use Rattle.protection.specs.Rule.{rule, opinion}
 use Rattle.chip.specs.declared.Chip.{Chip}
-use Rattle.chip.specs.declared.Stepped.{Stepped}
 use Rattle.chip.specs.Chip.{inShip, stepped, next}
 use Rattle.chip.specs.Core.{Core, coreOf, coreNext}
 

@@ -9,9 +9,6 @@ use Rattle.events.specs.declared.Setup.{Setup}
 use Rattle.events.specs.Event.{Event}
 use Rattle.events.specs.Fault.{Fault}
 use Rattle.registers.specs.Fault.{bitOf}
-use Rattle.chip.specs.declared.Chip.{Chip}
-use Rattle.chip.specs.declared.Stepped.{Stepped}
-use Rattle.chip.specs.Core.{Core}
 use Rattle.demands.specs.Demand.{judges, wrote, clears, chip, up, Accepted, core, Due}
 use Rattle.demands.specs.Aside.{isDone, refuses}
 use Rattle.demands.specs.Refused.{refused}

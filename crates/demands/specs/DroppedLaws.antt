@@ -1,7 +1,7 @@
 -- CHIP H8 of records, the proof: the records that stay, played by themselves, give the entries that they gave in the full stream, and leave
 -- the same chip after each, but for the bus's phase. Assumes nothing.
 use mathlib.Core.Path.{_≡_, refl, sym, ap, subst, subst₂, _∙_}
-use mathlib.Core.Bool.{Bool, true, false, not, _&&_, cond, true≢false}
+use mathlib.Core.Bool.{Bool, true, false, not, _&&_, cond, true≢false, and-false}
 use mathlib.Core.List.{List, [], _∷_}
 use Prim.Native.Nat.{ℕ, zero, suc}
 use lib.Dec.{eqb}
@@ -29,7 +29,7 @@ use Rattle.wiring.specs.declared.Wiring.the-variants.{With, NoRow}
 use Rattle.records.specs.declared.Read.{Read}
 use Rattle.records.specs.declared.Read.the-variants.{Record, Refused, Cut}
 use Rattle.records.specs.Record.{readOf, noCounts, countsIn, countsBeside}
-use Rattle.records.specs.SoundLaws.{and-left, and-right}
+use Rattle.bits.specs.BoolLaws.{and-left, and-right}
 use Rattle.chip.specs.declared.Chip.{Chip}
 use Rattle.chip.specs.declared.Stepped.{Stepped}
 use Rattle.chip.specs.Chip.{numbered, answered, inShip, sent, onBus, settled, normally, asleep, happened, stepped, next, ticking, steppedAs}
@@ -42,7 +42,7 @@ use Rattle.demands.specs.Refused.{refused-as}
 use Rattle.demands.specs.Spoiled.{Sort, Chips, Resets, Frames, Sends, Takes, sortOf, isSends, waiting, Mode, Whole, Open, Lost}
 use Rattle.demands.specs.Spoiled.{drops, then, phased}
 use Rattle.demands.specs.NoTrace.{denied}
-use Rattle.demands.specs.Opened.{mapped, apart, bus-is, bus-still, reset-is, and-false, opens}
+use Rattle.demands.specs.Opened.{mapped, apart, bus-is, bus-still, reset-is, opens}
 use Rattle.demands.specs.Dropped.{busSort, codeSort, sortIn, answerIn, freshIn, sortAt, answerAt, freshAt, spoiledAt, stay}
 use Rattle.demands.specs.Dropped.{picked, seenBy, playedAt}
 

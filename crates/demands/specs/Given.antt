@@ -9,13 +9,9 @@ use Rattle.crc8.specs.Crc.{crc, byteOn}
 use Rattle.crc8.specs.DivisionLaws.{crc-is}
 use Rattle.events.specs.declared.BusEvent.the-variants.{Start, Out, In}
 use Rattle.events.specs.Event.{OnBus, fits}
-use Rattle.bus.specs.declared.Line.{Line}
-use Rattle.bus.specs.declared.Bus.{Bus}
-use Rattle.bus.specs.declared.Outed.{Outed}
 use Rattle.bus.specs.declared.Phase.the-variants.{Address, Reading}
 use Rattle.bus.specs.Bus.{lineOf, outed, addressed, taken, byteGiven, owing, afterData, keeps, goes}
 use Rattle.chip.specs.declared.Chip.{Chip}
-use Rattle.chip.specs.declared.Stepped.{Stepped}
 use Rattle.chip.specs.Chip.{lineMoved, reads, onBus, watched, stepped, next}
 use Rattle.chip.specs.Calm.{Calmed}
 use Rattle.chip.specs.MovesLaws.{normal-is}

@@ -11,9 +11,7 @@ use Rattle.events.specs.Fault.{Fault}
 use Rattle.protection.specs.Streak.{lastAll, streak}
 use Rattle.protection.specs.Fault.{runOf}
 use Rattle.protection.specs.Rule.{cap, rule, opinion}
-use Rattle.chip.specs.declared.Chip.{Chip}
-use Rattle.chip.specs.declared.Stepped.{Stepped}
-use Rattle.chip.specs.Core.{Core, coreOf, coreNext}
+use Rattle.chip.specs.Core.{coreOf, coreNext}
 use Rattle.chip.specs.MovesLaws.{normal-is, setup-next, core-next}
 use Rattle.chip.specs.Calm.{Calmed, ship-calm, calm-next}
 use Rattle.demands.specs.Demand.{judges, chip, up, core, Awake, Accepted, said, verdicts, delay}

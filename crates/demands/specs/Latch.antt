@@ -1,6 +1,6 @@
 -- CHIP H5 and H6, the latch: what any one event does to the bit of a fault and to its drive, by what it writes. Assumes nothing.
 use mathlib.Core.Path.{_≡_, refl, sym, ap, subst, _∙_}
-use mathlib.Core.Bool.{Bool, true, false, not, _&&_, _||_, cond, true≢false}
+use mathlib.Core.Bool.{Bool, true, false, not, _&&_, _||_, cond, true≢false, and-false}
 use Prim.Native.Nat.{ℕ}
 use lib.Dec.{eqb}
 use borrow.Author.Tests.{eqb-true}
@@ -21,7 +21,6 @@ use Rattle.registers.specs.Write.{statusOf, without, holdsChg, holdsDsg, driven
 use Rattle.registers.specs.Judging.{pulledAt}
 use Rattle.protection.specs.Rule.{rule, risen}
 use Rattle.chip.specs.declared.Chip.{Chip}
-use Rattle.chip.specs.declared.Stepped.{Stepped}
 use Rattle.chip.specs.Chip.{stored, onBus, normally, next}
 use Rattle.chip.specs.Core.{Core, coreOf}
 use Rattle.chip.specs.MovesLaws.{next-by, stored-by, asleep-by}
@@ -29,10 +28,6 @@ use Rattle.demands.specs.Demand.{judges, wrote, clears, enables}
 use Rattle.demands.specs.Told.{says-one}
 
 -- ── Bools ──
-pub and-false : (a : Bool) → a && false ≡ false
-and-false true = refl
-and-false false = refl
-
 pub or-left : (a b : Bool) → a ≡ true → a || b ≡ true
 or-left a b h = rw h
 

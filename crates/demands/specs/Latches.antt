@@ -2,7 +2,7 @@
 -- OVRD_ALERT and XREADY put off both. A write of a one lowers a bit, but OVRD_ALERT only where the outside level is 0 (CHIP L3). Assumes
 -- nothing.
 use mathlib.Core.Path.{_≡_, refl, sym, ap, subst, _∙_}
-use mathlib.Core.Bool.{Bool, true, false, not, _&&_, _||_, cond, true≢false}
+use mathlib.Core.Bool.{Bool, true, false, not, _&&_, _||_, cond, true≢false, and-false}
 use mathlib.Core.List.{List, [], _∷_, _++_}
 use Prim.Native.Nat.{ℕ}
 use lib.Dec.{eqb}
@@ -32,7 +32,7 @@ use Rattle.demands.specs.Demand.{wrote, clears, chip, shown, outside, dr
 use Rattle.demands.specs.Ship.{in-ship-is}
 use Rattle.demands.specs.History.{setup-is, core-is, awake-is}
 use Rattle.demands.specs.Theorem.{asked-since}
-use Rattle.demands.specs.Latch.{Keeps, next-keeps, alert-up, and-false, or-left, or-right, cut, by-cond, when-true, wrote-asleep}
+use Rattle.demands.specs.Latch.{Keeps, next-keeps, alert-up, or-left, or-right, cut, by-cond, when-true, wrote-asleep}
 use Rattle.demands.specs.Latch.{wrote-unfit}
 
 -- ── the seven bits ──

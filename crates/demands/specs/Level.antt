@@ -1,18 +1,18 @@
 -- CHIP L1 to L4 over any events from power-up: what the outside level is, when OVRD_ALERT is up by it, and how a clearing write is read
 -- that finds it up again. Assumes nothing.
-use mathlib.Core.Path.{_≡_, refl, sym, ap, subst, _∙_}
+use mathlib.Core.Path.{_≡_, refl, sym, ap, _∙_}
 use mathlib.Core.Bool.{Bool, true, false, not, _&&_, _||_, cond, true≢false}
 use mathlib.Core.List.{List, [], _∷_, _++_}
 use mathlib.Core.Logic.{_⊎_, inl, inr}
 use Prim.Native.Nat.{ℕ}
 use lib.Dec.{eqb}
+use Rattle.bits.specs.BoolLaws.{and-left}
 use Rattle.events.specs.declared.Setup.{Setup}
 use Rattle.events.specs.declared.BusEvent.{BusEvent}
 use Rattle.events.specs.declared.BusEvent.the-variants.{Start, Stop, Out, In}
 use Rattle.events.specs.Event.{Event, Por, Boot, Pin, Xready, Scan, Temp, Count, Sense, Load, OnBus, Level, fits}
 use Rattle.bus.specs.declared.Store.{Store}
 use Rattle.bus.specs.declared.Store.the-variants.{Nothing, At}
-use Rattle.bus.specs.declared.Outed.{Outed}
 use Rattle.bus.specs.Bus.{outed}
 use Rattle.registers.specs.declared.Status.{Status}
 use Rattle.registers.specs.declared.Shown.{Shown}
@@ -24,7 +24,7 @@ use Rattle.registers.specs.Judging.{pulledAt}
 use Rattle.chip.specs.declared.Chip.{Chip}
 use Rattle.chip.specs.declared.Stepped.{Stepped}
 use Rattle.chip.specs.Chip.{withNormal, storedAt, stored, onBus, watched, normally, next}
-use Rattle.chip.specs.Core.{Core, coreOf}
+use Rattle.chip.specs.Core.{coreOf}
 use Rattle.chip.specs.MovesLaws.{normal-is, next-by, stored-by, asleep-by}
 use Rattle.demands.specs.Demand.{wrote, chip, shown, outside, alerted, core, Awake, StaysAwake}
 use Rattle.demands.specs.History.{setup-is, core-is, awake-is, calm-is}
@@ -146,10 +146,6 @@ written-pins e a v s p =
     (cond (eqb a 0x05) (driven v s) s)
     (λ h q. clash (ovrdOf s) p (and-left (ovrdOf s) (not (bit v 16)) q))
     (λ h. by-cond (λ t. ovrdOf t ≡ true → e ≡ Pin) (eqb a 0x05) (driven v s) s (λ i q. clash (ovrdOf s) p q) (λ i q. clash (ovrdOf s) p q))
-  where
-    and-left : (x y : Bool) → x && y ≡ true → x ≡ true
-    and-left true y h = refl
-    and-left false y h = h
 
 bus-pins : (b : BusEvent) (c : Chip) → Pinned (OnBus b) c (onBus b c .chip)
 bus-pins Start c p q = clash (ovrdOf (c .registers .shown)) p q

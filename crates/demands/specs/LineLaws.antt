@@ -1,8 +1,8 @@
 -- CHIP.md, "Bus": which byte of the host is acknowledged, when the bus goes idle, where the pointer goes, and what a read takes, in
 -- every phase. Assumes nothing.
-use mathlib.Core.Path.{_≡_, refl, sym, ap, _∙_}
-use mathlib.Core.Bool.{Bool, true, false, not, _&&_, _||_, cond}
-use Prim.Native.Nat.{ℕ, _+_, _*_, _%_, _<_, _≤_}
+use mathlib.Core.Path.{_≡_, refl, ap}
+use mathlib.Core.Bool.{Bool, true, false, _&&_, _||_, cond}
+use Prim.Native.Nat.{ℕ, _+_, _*_, _%_}
 use native.Mathlib.Omega.{arith}
 use lib.Dec.{eqb, leb}
 use Rattle.crc8.specs.Crc.{byteOn}
@@ -13,17 +13,13 @@ use Rattle.bus.specs.declared.Phase.{Phase}
 use Rattle.bus.specs.declared.Phase.the-variants.{Idle, Address, Pointing, Writing, Checking, Reading, Summing}
 use Rattle.bus.specs.declared.Line.{Line}
 use Rattle.bus.specs.declared.Owed.{Owed}
-use Rattle.bus.specs.declared.Bus.{Bus}
 use Rattle.bus.specs.declared.Store.{Store}
 use Rattle.bus.specs.declared.Store.the-variants.{Nothing, At}
 use Rattle.bus.specs.declared.Outed.{Outed}
-use Rattle.bus.specs.declared.Taken.{Taken}
-use Rattle.bus.specs.Bus.{lineOf, grown, started, stopped, goes, refuses, stores, addressed, fed, checked, outIn, outed, isHigh}
-use Rattle.bus.specs.Bus.{afterData, afterSum, inLine, taken, inByte, byteGiven, keeps, owing, takes}
+use Rattle.bus.specs.Bus.{started, stopped, goes, refuses, stores, addressed, fed, checked, outIn, outed}
+use Rattle.bus.specs.Bus.{afterData, afterSum, taken, byteGiven, keeps, owing, takes}
 use Rattle.chip.specs.declared.Chip.{Chip}
-use Rattle.chip.specs.declared.Stepped.{Stepped}
 use Rattle.chip.specs.Chip.{stepped, happened, settled, normally, asleep}
-use Rattle.chip.specs.MovesLaws.{normal-is}
 
 -- ── OUT ──
 -- it is acknowledged: the address byte of this chip, the pointer, a data byte, and a CRC that is right; in no other phase

@@ -1,8 +1,8 @@
 -- WHAT MOVES WHAT, as it is read: each part of the registers after an event, by the event, by the accepted write that it makes and by what
 -- stood before; and over any events from power-up. Addresses, kinds and bits are the paper's numbers here. Assumes nothing.
-use mathlib.Core.Bool.{Bool, true, false, not, _&&_, _||_, cond}
+use mathlib.Core.Bool.{Bool, false, not, _&&_, _||_, cond}
 use mathlib.Core.List.{List, [], _∷_}
-use Prim.Native.Nat.{ℕ, _+_, _*_, _-_, _/_, _%_}
+use Prim.Native.Nat.{ℕ, _+_, _*_, _/_, _%_}
 use lib.Dec.{eqb, leb}
 use lib.ListN.{getD}
 use Rattle.events.specs.declared.Setup.{Setup}
@@ -22,10 +22,7 @@ use Rattle.registers.specs.declared.Measured.{Measured}
 use Rattle.registers.specs.declared.Registers.{Registers}
 use Rattle.registers.specs.State.{dark, reset, alert}
 use Rattle.registers.specs.Fault.{overridden}
-use Rattle.protection.specs.declared.Runs.{Runs}
 use Rattle.protection.specs.Rule.{risen}
-use Rattle.chip.specs.declared.Chip.{Chip}
-use Rattle.chip.specs.Core.{Core}
 use Rattle.demands.specs.Demand.{wrote, chip, core, shown, standing}
 
 -- ── an event by the number of its kind, and what it carries ──

@@ -1,9 +1,9 @@
 -- WHAT MOVES WHAT, proved: all of the registers but SYS_STAT and the drives are what Moves says, after one event and over any events from
 -- power-up. Assumes nothing.
 use mathlib.Core.Path.{_≡_, refl, sym, ap, ap₂, subst, _∙_}
-use mathlib.Core.Bool.{Bool, true, false, _&&_, _||_, cond}
+use mathlib.Core.Bool.{Bool, true, false, _&&_, _||_, cond, and-false}
 use mathlib.Core.List.{List, [], _∷_}
-use Prim.Native.Nat.{ℕ, _+_, _/_, _%_}
+use Prim.Native.Nat.{ℕ, _/_, _%_}
 use native.Mathlib.Omega.{arith}
 use lib.Dec.{eqb, leb}
 use borrow.Author.Tests.{eqb-true, ne-eqb}
@@ -26,15 +26,14 @@ use Rattle.registers.specs.State.{dark, reset, withShown, withMeasured}
 use Rattle.registers.specs.Judging.{cellsOf, tsOf, ccOf}
 use Rattle.registers.specs.Write.{cellbalWith, written}
 use Rattle.chip.specs.declared.Chip.{Chip}
-use Rattle.chip.specs.declared.Stepped.{Stepped}
-use Rattle.chip.specs.Chip.{inShip, onBus, normally, next}
-use Rattle.chip.specs.Core.{Core, coreOf}
+use Rattle.chip.specs.Chip.{onBus, normally, next}
+use Rattle.chip.specs.Core.{coreOf}
 use Rattle.chip.specs.MovesLaws.{next-by, stored-by, asleep-by}
-use Rattle.demands.specs.Demand.{wrote, chip, core, shown}
+use Rattle.demands.specs.Demand.{wrote, chip, shown}
 use Rattle.demands.specs.History.{setup-is, core-is}
 use Rattle.demands.specs.Ship.{in-ship-is}
-use Rattle.demands.specs.Latch.{and-false, when-true, wrote-asleep, wrote-unfit}
-use Rattle.demands.specs.Moves.{kindOf, is, at, value, put, five, fives, words, moved, rest}
+use Rattle.demands.specs.Latch.{when-true, wrote-unfit}
+use Rattle.demands.specs.Moves.{is, put, fives, moved, rest}
 
 -- a write of CELLBAL, group by group
 pub apart : (a k j : ℕ) → (k ≡ j → ⊥) → eqb a k ≡ true → eqb a j ≡ false

@@ -1,6 +1,6 @@
 -- CHIP H8, the proof: what remains of a stream, played by itself, shows what the full stream showed. Assumes nothing.
 use mathlib.Core.Path.{_≡_, refl, sym, ap, subst, subst₂, _∙_}
-use mathlib.Core.Bool.{Bool, true, false, not, cond, true≢false}
+use mathlib.Core.Bool.{Bool, true, false, not, cond, true≢false, and-false}
 use mathlib.Core.List.{List, [], _∷_}
 use Prim.Native.Nat.{ℕ}
 use lib.Dec.{eqb}
@@ -20,7 +20,7 @@ use Rattle.demands.specs.Demand.{chip}
 use Rattle.demands.specs.History.{calm-is}
 use Rattle.demands.specs.Spoiled.{Sort, Chips, Resets, Frames, Sends, Takes, sortOf, waiting, spoiled, Mode, Whole, Open, Lost}
 use Rattle.demands.specs.Spoiled.{then, phased, seenOf, seen, played, remains, remained}
-use Rattle.demands.specs.Opened.{mapped, apart, bus-is, bus-still, reset-is, and-false, spoiled-waits, spoiled-on, spoiled-out, opens}
+use Rattle.demands.specs.Opened.{mapped, apart, bus-is, bus-still, reset-is, spoiled-waits, spoiled-on, spoiled-out, opens}
 
 -- ── the three ways through a stream ──
 -- `base` is the chip but for its phase: the full stream's chip has the one phase, the remaining stream's chip the other

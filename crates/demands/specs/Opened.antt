@@ -4,6 +4,7 @@ use mathlib.Core.Bool.{Bool, true, false, _&&_, cond, true≢false}
 use mathlib.Core.List.{List, [], _∷_}
 use Prim.Native.Nat.{ℕ, _+_, _*_}
 use lib.Dec.{eqb}
+use Rattle.bits.specs.BoolLaws.{and-left, and-right}
 use Rattle.crc8.specs.Crc.{byteOn}
 use Rattle.events.specs.declared.Setup.{Setup}
 use Rattle.events.specs.declared.BusEvent.{BusEvent}
@@ -81,18 +82,6 @@ asleep-out b c a = by (c .normal) a
     by w h = rw h
 
 -- ── Bools ──
-and-left : (a b : Bool) → a && b ≡ true → a ≡ true
-and-left true b h = refl
-and-left false b h = h
-
-and-right : (a b : Bool) → a && b ≡ true → b ≡ true
-and-right true b h = h
-and-right false b h = cc
-
-pub and-false : (a : Bool) → a && false ≡ false
-and-false true = refl
-and-false false = refl
-
 -- ── nothing is spoiled where no byte waits ──
 pub spoiled-waits : (c : Chip) (es : List Event) → spoiled c es ≡ true → waiting c ≡ true
 unfolding spoiled

@@ -11,7 +11,6 @@ use lib.Signed.{ltZ}
 use Rattle.events.specs.declared.Setup.{Setup}
 use Rattle.events.specs.Event.{Event, Scan, Sense, fits, within, senseFits}
 use Rattle.events.specs.Fault.{Ov, Uv, Scd, Ocd}
-use Rattle.settings.specs.declared.Settings.{Settings}
 use Rattle.bits.specs.Bit.{bit}
 use Rattle.cell_counts.specs.Scan.{someAbove, someBetween}
 use Rattle.protection.specs.Rule.{rule, over, under, beyond, scdLimit, ocdLimit}

@@ -1,7 +1,7 @@
 -- CHIP.md, "Numbers given back", of a chip that stands: which number each kind of event gives, asleep and awake, and just which values
 -- are out of range. Assumes nothing.
-use mathlib.Core.Path.{_≡_, refl, sym, ap, _∙_}
-use mathlib.Core.Bool.{Bool, true, false, not, _&&_, _||_, cond}
+use mathlib.Core.Path.{_≡_, refl, sym, _∙_}
+use mathlib.Core.Bool.{Bool, true, false, not, _&&_, _||_, cond, and-true}
 use mathlib.Core.List.{List, [], _∷_}
 use mathlib.Core.Logic.{_↔_}
 use Prim.Native.Nat.{ℕ, zero, suc, _*_, _≤_, _<_}
@@ -14,10 +14,9 @@ use Rattle.events.specs.declared.Setup.{Setup}
 use Rattle.events.specs.declared.Event.the-variants.{Ticks, Soak}
 use Rattle.events.specs.declared.BusEvent.the-variants.{Start, Stop, Out, In}
 use Rattle.events.specs.Setup.{groups, inputs, setupFits}
-use Rattle.events.specs.Event.{Event, Por, Boot, Pin, Xready, Scan, Temp, Count, Sense, Load, OnBus, Level, fits, within, senseFits}
+use Rattle.events.specs.Event.{Event, Por, Boot, Pin, Xready, Scan, Temp, Count, Sense, Load, OnBus, Level, fits, within}
 use Rattle.events.specs.Event.{ticksFit, ticks, eventOf}
 use Rattle.chip.specs.declared.Chip.{Chip}
-use Rattle.chip.specs.declared.Stepped.{Stepped}
 use Rattle.chip.specs.Chip.{numbered, settled, normally, asleep, happened, stepped, ticking, steppedAs}
 use Rattle.demands.specs.Refused.{normal-done}
 use Rattle.demands.specs.Moves.{kindOf}
@@ -111,10 +110,6 @@ not-past n k = by (ltb k (suc n)) refl
     by : (t : Bool) → ltb k (suc n) ≡ t → not t ≡ ltb n k
     by true e = let p : k < suc n = ltb-true k (suc n) e in sym (le-ltb n k (omega arith))
     by false e = let p : suc n ≤ k = ltb-false k (suc n) e in sym (lt-ltb n k (omega arith))
-
-and-true : (b : Bool) → (b && true) ≡ b
-and-true true = refl
-and-true false = refl
 
 -- SENSE: −500,000 to 500,000; `negsuc n` is minus one more than n
 pub sense-up : (n : ℕ) → fits (Sense (pos n)) ≡ leb n 500000

@@ -8,7 +8,6 @@ use Rattle.events.specs.declared.Event.{Event as Coded}
 use Rattle.events.specs.Event.{Event, Por, Boot, Pin, Xready, Scan, Temp, Count, Sense, Load, OnBus, Level, fits, ticksFit, Meant}
 use Rattle.events.specs.Event.{means, ticks, unfit, meantOf}
 use Rattle.chip.specs.declared.Chip.{Chip}
-use Rattle.chip.specs.declared.Stepped.{Stepped}
 use Rattle.chip.specs.Chip.{numbered, settled, normally, asleep, happened, stepped, next, ticking, steppedAs, steppedBy}
 
 -- in NORMAL nothing in range is refused

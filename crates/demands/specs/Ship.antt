@@ -7,10 +7,8 @@ use Rattle.events.specs.declared.Setup.{Setup}
 use Rattle.events.specs.declared.BusEvent.{BusEvent}
 use Rattle.events.specs.declared.BusEvent.the-variants.{Start, Stop, Out, In}
 use Rattle.events.specs.Event.{Event, Por, Boot, Pin, Xready, Scan, Temp, Count, Sense, Load, OnBus, Level}
-use Rattle.bus.specs.declared.Outed.{Outed}
 use Rattle.bus.specs.Bus.{outed}
 use Rattle.chip.specs.declared.Chip.{Chip}
-use Rattle.chip.specs.declared.Stepped.{Stepped}
 use Rattle.chip.specs.Chip.{inShip, onBus, watched, normally, next}
 use Rattle.chip.specs.MovesLaws.{next-by, stored-by, asleep-by}
 use Rattle.demands.specs.Demand.{chip}

@@ -1,7 +1,7 @@
 -- WHAT MOVES SYS_STAT AND THE DRIVES, proved: they are what Moves says of one event, over any events from power-up. Assumes nothing.
 use mathlib.Core.Path.{_≡_, refl, sym, ap, subst, _∙_}
-use mathlib.Core.Bool.{Bool, true, false, not, _&&_, _||_, cond, true≢false}
-use mathlib.Core.List.{List, [], _∷_}
+use mathlib.Core.Bool.{Bool, true, false, not, _&&_, _||_, cond, true≢false, and-false, and-true}
+use mathlib.Core.List.{List, _∷_}
 use Prim.Native.Nat.{ℕ}
 use native.Mathlib.Omega.{arith}
 use lib.Dec.{eqb}
@@ -9,41 +9,29 @@ use Rattle.events.specs.declared.Setup.{Setup}
 use Rattle.events.specs.declared.BusEvent.{BusEvent}
 use Rattle.events.specs.declared.BusEvent.the-variants.{Start, Stop, Out, In}
 use Rattle.events.specs.Event.{Event, Por, Boot, Pin, Xready, Scan, Temp, Count, Sense, Load, OnBus, Level, fits}
-use Rattle.events.specs.Fault.{Fault, Ov, Uv, Scd, Ocd}
-use Rattle.bits.specs.Bit.{bit}
+use Rattle.events.specs.Fault.{Fault}
 use Rattle.bus.specs.declared.Store.{Store}
 use Rattle.bus.specs.declared.Store.the-variants.{Nothing, At}
 use Rattle.bus.specs.declared.Outed.{Outed}
 use Rattle.bus.specs.Bus.{outed}
-use Rattle.registers.specs.declared.Status.{Status}
 use Rattle.registers.specs.declared.Shown.{Shown}
 use Rattle.registers.specs.declared.Registers.{Registers}
 use Rattle.registers.specs.State.{dark, reset, alert}
 use Rattle.registers.specs.Fault.{raised, overridden, readied, counting}
 use Rattle.registers.specs.Write.{shownWith}
 use Rattle.registers.specs.Judging.{pulledAt}
-use Rattle.protection.specs.declared.Runs.{Runs}
 use Rattle.protection.specs.Rule.{risen}
 use Rattle.chip.specs.declared.Chip.{Chip}
-use Rattle.chip.specs.declared.Stepped.{Stepped}
-use Rattle.chip.specs.Chip.{inShip, onBus, normally, next}
+use Rattle.chip.specs.Chip.{onBus, normally, next}
 use Rattle.chip.specs.Calm.{Calmed}
-use Rattle.chip.specs.Core.{Core, coreOf}
+use Rattle.chip.specs.Core.{coreOf}
 use Rattle.chip.specs.MovesLaws.{next-by, stored-by, asleep-by}
 use Rattle.demands.specs.Demand.{wrote, chip, core, shown, standing, outside}
 use Rattle.demands.specs.History.{setup-is, core-is, calm-is}
 use Rattle.demands.specs.Ship.{in-ship-is}
-use Rattle.demands.specs.Latch.{and-false, when-true, wrote-asleep, wrote-unfit}
-use Rattle.demands.specs.Moves.{kindOf, is, at, value, clear, moved, heard, leveled, rose}
+use Rattle.demands.specs.Latch.{when-true, wrote-unfit}
+use Rattle.demands.specs.Moves.{is, moved, heard, leveled, rose}
 use Rattle.demands.specs.MovesLaws.{apart, normal-by}
-
-and-true : (b : Bool) → (b && true) ≡ b
-and-true true = refl
-and-true false = refl
-
-or-false : (b : Bool) → (b || false) ≡ b
-or-false true = refl
-or-false false = refl
 
 -- no event and no write that shows: what was shown
 nothing-heard : (e : Event) (en : Bool) (s : Shown) → is 0x05 e ≡ false → is 0x07 e ≡ false → is 0x09 e ≡ false

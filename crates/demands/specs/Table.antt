@@ -1,7 +1,6 @@
 -- THE REGISTERS OF DOCUMENT 01 in its own numbers: the byte at each of the 256 addresses, by what the chip shows and by the rest of what
 -- its registers hold; and when an event enters or leaves SHIP. Assumes nothing.
 use mathlib.Core.Bool.{Bool, not, _&&_, _||_, cond}
-use mathlib.Core.List.{List, _∷_}
 use Prim.Native.Nat.{ℕ, _+_, _*_, _-_, _/_, _%_}
 use lib.Dec.{eqb, leb, ltb}
 use lib.ListN.{getD}

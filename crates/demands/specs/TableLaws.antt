@@ -1,44 +1,38 @@
 -- THE REGISTERS OF DOCUMENT 01 over any events: the byte that IN gives is Table's, by what Moves says of the events; and the mode.
 -- Assumes nothing.
 use mathlib.Core.Path.{_≡_, refl, sym, ap, subst, _∙_}
-use mathlib.Core.Bool.{Bool, true, false, not, _&&_, _||_, cond, true≢false}
-use mathlib.Core.List.{List, [], _∷_}
-use Prim.Native.Nat.{ℕ, zero, suc, _+_, _*_, _-_, _/_, _%_, _<_, _≤_}
+use mathlib.Core.Bool.{Bool, true, false, _||_, cond, and-false}
+use mathlib.Core.List.{List, _∷_}
+use Prim.Native.Nat.{ℕ, suc, _+_, _*_, _-_, _/_, _<_, _≤_}
 use native.Mathlib.Omega.{arith}
-use lib.Dec.{eqb, leb, ltb}
-use lib.ListN.{getD}
-use borrow.Author.Tests.{eqb-true, ne-eqb, ltb-true, ltb-false, lt-ltb, le-ltb}
+use lib.Dec.{ltb}
+use borrow.Author.Tests.{ltb-true, ltb-false, lt-ltb, le-ltb}
 use Rattle.events.specs.declared.Setup.{Setup}
 use Rattle.events.specs.declared.BusEvent.{BusEvent}
 use Rattle.events.specs.declared.BusEvent.the-variants.{Start, Stop, Out, In}
-use Rattle.events.specs.Setup.{groups, inputs}
 use Rattle.events.specs.Event.{Event, Por, Boot, Pin, Xready, Scan, Temp, Count, Sense, Load, OnBus, Level, fits}
-use Rattle.bus.specs.declared.Line.{Line}
-use Rattle.bus.specs.declared.Bus.{Bus}
 use Rattle.bus.specs.declared.Phase.the-variants.{Reading}
 use Rattle.bus.specs.declared.Store.{Store}
-use Rattle.bus.specs.declared.Store.the-variants.{Nothing, At}
+use Rattle.bus.specs.declared.Store.the-variants.{Nothing}
 use Rattle.bus.specs.declared.Outed.{Outed}
 use Rattle.bus.specs.Bus.{outed, inByte, byteGiven}
-use Rattle.settings.specs.declared.Settings.{Settings}
 use Rattle.settings.specs.State.{resetSettings}
 use Rattle.settings.specs.Read.{settingsByte}
-use Rattle.registers.specs.declared.Shown.{Shown}
 use Rattle.registers.specs.declared.Measured.{Measured}
 use Rattle.registers.specs.declared.Registers.{Registers}
 use Rattle.registers.specs.State.{reset}
-use Rattle.registers.specs.Read.{statusByte, ctrl1Byte, ctrl2Byte, cellbalByte, controlByte, half, wordAt, fixedByte, readAt}
+use Rattle.registers.specs.Read.{cellbalByte, controlByte, half, wordAt, fixedByte, readAt}
 use Rattle.chip.specs.declared.Chip.{Chip}
 use Rattle.chip.specs.declared.Stepped.{Stepped}
 use Rattle.chip.specs.Chip.{reads, onBus, normally, asleep, stepped, next}
 use Rattle.chip.specs.Core.{Core, coreOf}
-use Rattle.chip.specs.MovesLaws.{normal-is, next-by, stored-by, asleep-by}
+use Rattle.chip.specs.MovesLaws.{normal-is, next-by, stored-by}
 use Rattle.demands.specs.Demand.{wrote, chip, core, shown, standing}
 use Rattle.demands.specs.History.{setup-is, core-is, awake-is}
-use Rattle.demands.specs.Latch.{and-false, when-true, wrote-asleep, wrote-unfit}
-use Rattle.demands.specs.Moves.{is, at, value, put, moved, rest}
+use Rattle.demands.specs.Latch.{when-true, wrote-asleep, wrote-unfit}
+use Rattle.demands.specs.Moves.{put, moved, rest}
 use Rattle.demands.specs.MovesLaws.{rest-is}
-use Rattle.demands.specs.Table.{shipsBy, modeBy, one, sysStat, sysCtrl1, sysCtrl2, cellbalAt, settingAt, wordBy, setupAt, byteAt}
+use Rattle.demands.specs.Table.{modeBy, wordBy, byteAt}
 
 -- ── the words ──
 halved : (a k : ℕ) → 0x0C ≤ a → ltb a (0x0C + 2 * k) ≡ ltb ((a - 0x0C) / 2) k

@@ -7,15 +7,13 @@ use Rattle.events.specs.declared.Setup.{Setup}
 use Rattle.events.specs.declared.BusEvent.{BusEvent}
 use Rattle.events.specs.Event.{Event, OnBus, fits}
 use Rattle.events.specs.Fault.{Fault, Ov, Uv, Scd, Ocd}
-use Rattle.registers.specs.declared.Shown.{Shown}
 use Rattle.registers.specs.State.{dark}
 use Rattle.registers.specs.Fault.{bitOf}
 use Rattle.protection.specs.Streak.{lastAll-is}
 use Rattle.protection.specs.Rule.{Rule, rule, opinion, someOpinion}
 use Rattle.chip.specs.declared.Chip.{Chip}
-use Rattle.chip.specs.declared.Stepped.{Stepped}
 use Rattle.chip.specs.Chip.{next}
-use Rattle.chip.specs.Core.{Core, bare}
+use Rattle.chip.specs.Core.{bare}
 use Rattle.chip.specs.MovesLaws.{normal-is, next-by, asleep-by}
 use Rattle.demands.specs.Demand.{judges, wrote, clears, enables, traffic, chip, shown, up, drive, Accepted, core, standing, Awake}
 use Rattle.demands.specs.Demand.{said, verdicts, delay, StaysAwake, Unjudged, Uncleared, Asked, Rises, NothingElseRaises}

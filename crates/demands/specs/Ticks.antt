@@ -1,7 +1,7 @@
 -- CHIP H2 of repeated ticks (CHIP R8): every tick of a record is a verdict, by the settings that stand, and after the
 -- record a current bit is up exactly when it was up before or is due by these verdicts. Assumes nothing.
 use mathlib.Core.Path.{_≡_, refl, sym, ap, ap₂, _∙_}
-use mathlib.Core.Bool.{Bool, true, false, _&&_, _||_}
+use mathlib.Core.Bool.{Bool, true, false, _||_}
 use mathlib.Core.List.{List, [], _∷_, _++_}
 use Prim.Native.Nat.{ℕ, zero, suc, _≤_}
 use native.Mathlib.Omega.{arith}
@@ -17,7 +17,7 @@ use Rattle.chip.specs.declared.Stepped.{Stepped}
 use Rattle.chip.specs.Core.{Core}
 use Rattle.chip.specs.MovesLaws.{normal-is}
 use Rattle.demands.specs.Demand.{ofCells, judges, chip, up, core, standing, Awake, Accepted, verdicts, delay}
-use Rattle.demands.specs.History.{awake-is, judging-core, verdicts-are, delay-is, rises}
+use Rattle.demands.specs.History.{awake-is, judging-core, verdicts-are, rises}
 
 -- what was all true is all true of fewer, and of one more that is true
 fewer : (d : ℕ) (l : List Bool) → lastAll (suc d) l ≡ true → lastAll d l ≡ true

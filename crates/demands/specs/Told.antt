@@ -9,7 +9,6 @@ use Rattle.events.specs.declared.Setup.{Setup}
 use Rattle.events.specs.declared.BusEvent.{BusEvent}
 use Rattle.events.specs.declared.BusEvent.the-variants.{Start, Stop, Out, In}
 use Rattle.events.specs.Event.{Event, Por, Boot, Pin, Xready, Scan, Temp, Count, Sense, Load, OnBus, Level, fits}
-use Rattle.settings.specs.declared.Settings.{Settings}
 use Rattle.events.specs.Fault.{Fault, Ov, Uv, Scd, Ocd}
 use Rattle.registers.specs.Fault.{bitOf, raised}
 use Rattle.bus.specs.Bus.{outed}
@@ -20,7 +19,6 @@ use Rattle.protection.specs.Fault.{runOf, runsOf}
 use Rattle.protection.specs.Rule.{Rule, cap, rule, opinion, someOpinion, runAfter, risen}
 use Rattle.protection.specs.TablesLaws.{run-tells}
 use Rattle.chip.specs.declared.Chip.{Chip}
-use Rattle.chip.specs.declared.Stepped.{Stepped}
 use Rattle.chip.specs.Chip.{numbered, inShip, onBus, settled, normally, asleep, happened, stepped, next}
 use Rattle.chip.specs.Core.{coreOf}
 use Rattle.chip.specs.MovesLaws.{normal-is, next-by, stored-by, asleep-by}

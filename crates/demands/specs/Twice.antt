@@ -1,11 +1,10 @@
 -- CHIP H7 in its words: clearing a and then b, b and then a, every bit in either at once, the same bits again, and none. Assumes
 -- nothing.
 use mathlib.Core.Path.{_≡_, refl, sym, ap, subst, _∙_}
-use mathlib.Core.Bool.{Bool, true, false, _||_}
+use mathlib.Core.Bool.{true, false, or-self}
 use mathlib.Core.List.{List}
 use Rattle.events.specs.declared.BusEvent.{BusEvent}
 use Rattle.registers.specs.declared.Status.{Status}
-use Rattle.registers.specs.declared.Registers.{Registers}
 use Rattle.registers.specs.State.{noStatus}
 use Rattle.chip.specs.declared.Chip.{Chip}
 use Rattle.demands.specs.Clearing.{either, ran, Clearings, ones, lowered, Lowers, lowered-both, clearing, clears-none, either-comm}
@@ -30,20 +29,16 @@ both c d e a b f g = (g .0 ∙ ap (lowered b) (f .0) ∙ lowered-both a b (c .re
 alike : (c d e : Chip) {a b : Status} → a ≡ b → Lowers a c d → Lowers b c e → Alike d e
 alike c d e p f g = (f .0 ∙ ap (λ (s : Status). lowered s (c .registers)) p ∙ sym (g .0), f .1 ∙ sym (g .1), f .2 ∙ sym (g .2))
 
-or-same : (t : Bool) → t || t ≡ t
-or-same true = refl
-or-same false = refl
-
 either-same : (a : Status) → either a a ≡ a
 either-same a =
     λ i. record {
-      «cc_ready» = or-same (a .«cc_ready») i;
-      xready = or-same (a .xready) i;
-      «ovrd_alert» = or-same (a .«ovrd_alert») i;
-      uv = or-same (a .uv) i;
-      ov = or-same (a .ov) i;
-      scd = or-same (a .scd) i;
-      ocd = or-same (a .ocd) i;
+      «cc_ready» = or-self (a .«cc_ready») i;
+      xready = or-self (a .xready) i;
+      «ovrd_alert» = or-self (a .«ovrd_alert») i;
+      uv = or-self (a .uv) i;
+      ov = or-self (a .ov) i;
+      scd = or-self (a .scd) i;
+      ocd = or-self (a .ocd) i;
     }
 
 module _ (c : Chip) (a b : Status) (es fs : List BusEvent) (first : Clears c a es) (second : Clears (ran c es) b fs) where

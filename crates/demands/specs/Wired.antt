@@ -1,6 +1,6 @@
 -- CHIP W4: the number of cells moves nothing. A chip with another number of cells answers every event alike and is left alike but
 -- for that number, so that every claim over events holds of a wired chip as it does of one without a wiring record. Assumes nothing.
-use mathlib.Core.Path.{_≡_, refl, sym, ap, _∙_}
+use mathlib.Core.Path.{_≡_, refl, ap, _∙_}
 use mathlib.Core.Bool.{Bool, true, false, cond}
 use mathlib.Core.List.{List, [], _∷_}
 use Prim.Native.Nat.{ℕ, zero, suc}
@@ -24,7 +24,6 @@ use Rattle.bus.specs.declared.Store.the-variants.{Nothing, At}
 use Rattle.bus.specs.declared.Outed.{Outed}
 use Rattle.bus.specs.Bus.{outIn, outed, addressed, fed, inLine, taken, owing, byteGiven, gives, grown}
 use Rattle.settings.specs.Write.{ships}
-use Rattle.registers.specs.declared.Registers.{Registers}
 use Rattle.registers.specs.Write.{cellbalWith}
 use Rattle.registers.specs.Read.{cellbalByte, controlByte, wordAt, fixedByte, readAt}
 use Rattle.chip.specs.declared.Chip.{Chip}

@@ -1,8 +1,8 @@
 -- CHIP.md, "Registers", "Modes" and the drives: what is read back after a write of SYS_CTRL1 and SYS_CTRL2; when a drive comes on, when
 -- it is left, and that a clearing write alone never puts it on. Assumes nothing.
-use mathlib.Core.Path.{_≡_, refl, sym, ap, _∙_}
-use mathlib.Core.Bool.{Bool, true, false, not, _&&_, _||_, cond}
-use Prim.Native.Nat.{ℕ, _+_, _%_, _≤_, _<_}
+use mathlib.Core.Path.{_≡_, refl, sym, _∙_}
+use mathlib.Core.Bool.{Bool, true, false, not, _&&_, _||_}
+use Prim.Native.Nat.{ℕ, _+_, _%_}
 use native.Mathlib.Omega.{arith}
 use lib.Dec.{eqb}
 use Rattle.events.specs.declared.Setup.{Setup}
@@ -10,17 +10,13 @@ use Rattle.events.specs.declared.BusEvent.the-variants.{Out}
 use Rattle.events.specs.Event.{Event, OnBus}
 use Rattle.events.specs.Fault.{Fault, Ov, Uv, Scd, Ocd}
 use Rattle.bits.specs.Bit.{bit}
-use Rattle.bus.specs.declared.Store.{Store}
 use Rattle.bus.specs.declared.Store.the-variants.{Nothing, At}
-use Rattle.settings.specs.declared.Settings.{Settings}
 use Rattle.settings.specs.Write.{settingsWith}
-use Rattle.registers.specs.declared.Status.{Status}
 use Rattle.registers.specs.declared.Shown.{Shown}
 use Rattle.registers.specs.declared.Registers.{Registers}
-use Rattle.registers.specs.State.{alert}
 use Rattle.registers.specs.Write.{written, shownWith}
 use Rattle.registers.specs.Read.{readAt, controlByte}
-use Rattle.demands.specs.Moves.{is, at, heard}
+use Rattle.demands.specs.Moves.{is, heard}
 use Rattle.demands.specs.Table.{one}
 
 -- ── read back ──

@@ -10,6 +10,8 @@ use lib.ListN.{take, drop, replicate}
 use Rattle.events.specs.Setup.{groups, inputs}
 use Rattle.events.specs.declared.Setup.{Setup}
 use Rattle.events.specs.declared.Counts.{Counts}
+use Rattle.events.specs.declared.Beside.{Beside}
+use Rattle.events.specs.declared.Beside.the-variants.{Inputs, Groups, Nothing}
 use Rattle.events.specs.declared.BusEvent.{BusEvent}
 use Rattle.events.specs.declared.Event.{Event as Coded}
 use Rattle.events.specs.declared.Event.the-variants.{Setup as Setup-, Por as Por-, Boot as Boot-, Pin as Pin-, Xready as Xready-}
@@ -69,23 +71,32 @@ unfoldable pub ticksFit : ℕ → ℤ → ℕ → Bool
 ticksFit most v n = senseFits v && leb 1 n && leb n most
 
 -- ── number 2: SETUP not first, or counts that do not fit the part (CHIP R10) ──
--- how many counts stand beside an event of the code
+-- which counts stand beside an event of the code: SCAN has one for each input, TEMP one for each group
+abbrev pub besideOf : Coded → Beside
+besideOf (Setup- v) = Nothing
+besideOf Por- = Nothing
+besideOf Boot- = Nothing
+besideOf Pin- = Nothing
+besideOf Xready- = Nothing
+besideOf Scan- = Inputs
+besideOf Temp- = Groups
+besideOf (Count- n) = Nothing
+besideOf (Sense- v) = Nothing
+besideOf (Load- l) = Nothing
+besideOf (OnBus- b) = Nothing
+besideOf (Level- l) = Nothing
+besideOf (Ticks- v n) = Nothing
+besideOf (Soak- v n) = Nothing
+besideOf (Wires- n) = Nothing
+
+-- .. and how many these are
+abbrev pub manyBeside : Setup → Beside → ℕ
+manyBeside u Inputs = inputs u
+manyBeside u Groups = groups u
+manyBeside u Nothing = 0
+
 abbrev pub countsWanted : Setup → Coded → ℕ
-countsWanted u (Setup- v) = 0
-countsWanted u Por- = 0
-countsWanted u Boot- = 0
-countsWanted u Pin- = 0
-countsWanted u Xready- = 0
-countsWanted u Scan- = inputs u
-countsWanted u Temp- = groups u
-countsWanted u (Count- n) = 0
-countsWanted u (Sense- v) = 0
-countsWanted u (Load- l) = 0
-countsWanted u (OnBus- b) = 0
-countsWanted u (Level- l) = 0
-countsWanted u (Ticks- v n) = 0
-countsWanted u (Soak- v n) = 0
-countsWanted u (Wires- n) = 0
+countsWanted u e = manyBeside u (besideOf e)
 
 -- as many as wanted, and 0 in every place after them
 unfoldable pub countsFit : ℕ → Counts → Bool

@@ -1,5 +1,5 @@
 -- CHIP S1, S4 and S5: the setup, and number 1. Assumes nothing.
-use mathlib.Core.Bool.{Bool, true, false, _&&_, cond}
+use mathlib.Core.Bool.{Bool, _&&_, cond}
 use Prim.Native.Nat.{ℕ, _*_}
 use lib.Dec.{eqb, leb, ltb}
 use Rattle.events.specs.declared.Setup.{Setup}

@@ -1,6 +1,7 @@
 // What the chip is set up with, and what can happen to it.
 ghost use mathlib.Core.Path.{_≡_};
-ghost use Rattle.events.specs.Setup.{setupOf, checkedOf, inputs as inputsSpec, groups as groupsSpec};
+ghost use Rattle.events.specs.Event.{besideOf};
+ghost use Rattle.events.specs.Setup.{checkedOf, inputs as inputsSpec, groups as groupsSpec};
 use constants::range;
 
 pub struct Setup {
@@ -51,6 +52,13 @@ pub struct Counts {
     pub of: [u16; 15],
 }
 
+// Which counts stand beside an event: one for each input, one for each group of five, or none.
+pub enum Beside {
+    Inputs,
+    Groups,
+    Nothing,
+}
+
 // One answer for each of the four faults that wait for a delay.
 pub struct Faults {
     pub ov: bool,
@@ -88,6 +96,29 @@ pub fn setup_of(part: u8, crc: u8, address: u8, gain: u8, offset: u8, floor: u16
         });
     }
     Checked::Bad
+}
+
+// Which counts stand beside an event.
+pub fn beside_of(event: Event) -> Beside
+    ensures { λ r. ⌜ r ≡ besideOf event ⌝ }
+{
+    match event {
+        Event::Setup(_) => Beside::Nothing,
+        Event::Por => Beside::Nothing,
+        Event::Boot => Beside::Nothing,
+        Event::Scan => Beside::Inputs,
+        Event::Temp => Beside::Groups,
+        Event::Count(_) => Beside::Nothing,
+        Event::Sense(_) => Beside::Nothing,
+        Event::Pin => Beside::Nothing,
+        Event::Load(_) => Beside::Nothing,
+        Event::Xready => Beside::Nothing,
+        Event::OnBus(_) => Beside::Nothing,
+        Event::Level(_) => Beside::Nothing,
+        Event::Ticks(_, _) => Beside::Nothing,
+        Event::Soak(_, _) => Beside::Nothing,
+        Event::Wires(_) => Beside::Nothing,
+    }
 }
 
 impl Setup {

@@ -1,5 +1,5 @@
 -- The call by its tests: the chip's room, its bytes, the room of the entries. Assumes nothing.
-use mathlib.Core.Path.{_≡_, refl, sym, ap, ap₂, _∙_, subst}
+use mathlib.Core.Path.{_≡_, sym, ap, ap₂, _∙_, subst}
 use mathlib.Core.Bool.{Bool, true, false, cond, true≢false}
 use mathlib.Core.List.{List}
 use Prim.Native.Nat.{ℕ, _*_, _/_, _^_, _<_, _≤_}
@@ -14,14 +14,13 @@ use borrow.Author.Tests.{lt-ltb, le-ltb, lt-leb, le-leb}
 use Rattle.chip.specs.declared.Chip.{Chip}
 use Rattle.chip.specs.Calm.{Calmed}
 use Rattle.stream.specs.declared.Left.{Left}
-use Rattle.turn.specs.Entries.{entriesFrom, chipFrom, freshFrom}
 use Rattle.stream.specs.Stream.{Ran}
 use Rattle.turn.specs.Frames.{framesFrom}
 use Rattle.turn.specs.CountedLaws.{entries-from-count}
 use Rattle.turn.proofs.Runs.{entered-all}
 use Rattle.chip_bytes.specs.declared.Kept.{Kept}
 use Rattle.chip_bytes.specs.Layout.{noChip, keptAt, keptOf, keptIn}
-use Rattle.chip_bytes.specs.OneLaws.{Stood, kept-stood}
+use Rattle.chip_bytes.specs.OneLaws.{kept-stood}
 use Rattle.feed.specs.Fed.{entriesOf, allFit, answerBy, feedsBy, chipAfter, entriesAfter, Fed}
 use Rattle.feed.specs.KeptLaws.{stood-calm}
 

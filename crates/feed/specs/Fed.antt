@@ -1,6 +1,6 @@
 -- Records fed to a chip that is kept as bytes: the answer, the chip's bytes and the entries after it, and what is refused. Assumes nothing.
 use mathlib.Core.Path.{_≡_}
-use mathlib.Core.Bool.{Bool, true, false, not, _&&_, cond}
+use mathlib.Core.Bool.{Bool, not, _&&_, cond}
 use mathlib.Core.List.{List, _++_}
 use Prim.Native.Nat.{ℕ, _*_}
 use lib.Dec.{leb, ltb}

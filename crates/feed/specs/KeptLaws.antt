@@ -1,14 +1,12 @@
 -- A record leaves a chip that could stand so: what bytes keep stays in reach over any stream. Assumes nothing.
 use mathlib.Core.Path.{_≡_, refl, sym, ap, ap₂, _∙_, subst}
 use mathlib.Core.Bool.{Bool, true, false, cond, not, _&&_, _||_, and-true, and-false, true≢false}
-use mathlib.Core.Logic.{_≢_}
 use mathlib.Core.List.{List, [], _∷_}
 use Prim.Native.Nat.{ℕ, zero, suc}
 use lib.Dec.{eqb}
 use lib.ListN.{length, drop}
-use borrow.Author.Tests.{eqb-true, eqb-false, eq-eqb, ne-eqb}
+use borrow.Author.Tests.{eqb-false, ne-eqb}
 use Rattle.events.specs.declared.Setup.{Setup as SetupValues}
-use Rattle.events.specs.declared.Counts.{Counts}
 use Rattle.events.specs.declared.Event.{Event}
 use Rattle.events.specs.declared.Event.the-variants.{Setup, Por, Boot, Scan, Temp, Count, Sense, Pin, Load, Xready, OnBus, Level, Ticks}
 use Rattle.events.specs.declared.Event.the-variants.{Soak, Wires}
@@ -18,17 +16,18 @@ use Rattle.records.specs.declared.Read.{Read}
 use Rattle.records.specs.declared.Read.the-variants.{Record, Refused, Cut}
 use Rattle.records.specs.Numbers.{bitOf}
 use Rattle.records.specs.Record.{setupGood, readOf, countsBeside}
-use Rattle.records.specs.SoundLaws.{and-left, and-right, IsSetup, first-setup, isWires, wires-by, later-means}
+use Rattle.bits.specs.BoolLaws.{and-left, and-right}
+use Rattle.records.specs.SoundLaws.{IsSetup, first-setup, wires-by, later-means}
 use Rattle.wiring.specs.Rows.{hasRow, wiredWith}
 use Rattle.wiring.specs.declared.Wiring.the-variants.{With, NoRow}
 use Rattle.registers.specs.State.{alert}
 use Rattle.chip.specs.declared.Chip.{Chip}
 use Rattle.chip.specs.declared.Stepped.{Stepped}
-use Rattle.chip.specs.Chip.{numbered, inShip, steppedAs, steppedBy}
+use Rattle.chip.specs.Chip.{numbered, inShip, steppedAs}
 use Rattle.chip.specs.Calm.{Calmed}
 use Rattle.chip.specs.RepeatLaws.{setup-as, calm-as}
 use Rattle.demands.specs.Refused.{refused-as}
-use Rattle.turn.specs.Turn.{Turn, none, bornOf, wiredAs, acted, staysFresh, turned, turnOf}
+use Rattle.turn.specs.Turn.{none, wiredAs, acted, turned, turnOf}
 use Rattle.turn.specs.Entries.{stays, chipFrom, freshFrom}
 use Rattle.turn.specs.Entries.{stands as ends}
 use Rattle.turn.specs.StandingLaws.{acted-is}

@@ -5,6 +5,8 @@ ghost use Prim.Native.Nat.{_≤_};
 ghost use lib.ListN.{length};
 ghost use Rattle.chip_bytes.specs.Layout.{goodOf};
 ghost use Rattle.feed.specs.Fed.{Fed};
+use constants::answer;
+use constants::size;
 
 mod alone;
 
@@ -23,8 +25,8 @@ fn played(chip: &mut [u8], records: &[u8], entries: &mut [u8]) -> i64
     let fresh = chip_bytes::fresh_of(&chip[..]);
     let setup = stood.setup;
     let n = stream::count_from(setup.part, records);
-    if entries.len() / 5 < n {
-        return -5;
+    if entries.len() / size::ENTRY < n {
+        return answer::NO_ROOM;
     }
     let left = stream::run_from(stood, fresh, records, entries);
     let after = left.chip;
@@ -39,11 +41,11 @@ fn played(chip: &mut [u8], records: &[u8], entries: &mut [u8]) -> i64
 pub extern "C" fn toralinge_feed(chip: &mut [u8], records: &[u8], entries: &mut [u8]) -> i64
     ensures { λ r. ⌜ Fed (now (chip .entry)) (now (records .entry)) (now (entries .entry)) r (now (chip .exit)) (now (entries .exit)) ⌝ }
 {
-    if chip.len() < 96 {
-        return -5;
+    if chip.len() < size::KEPT_CHIP {
+        return answer::NO_ROOM;
     }
     if !chip_bytes::good(&chip[..]) {
-        return -26;
+        return answer::NO_CHIP;
     }
     if alone::ticked(chip, records, entries) {
         return 1;

@@ -24,7 +24,7 @@ use Rattle.i2c_lists.specs.WordingLaws.{onWord, onWords, nearWord, nearW
 use Rattle.i2c_lists.specs.NumberingLaws.{Accepted, accepted, no-other}
 use Rattle.i2c_lists.specs.Putting.{Puts}
 use Rattle.i2c_lists.proofs.Steps.{turn, turn-within}
-use Rattle.i2c_lists.proofs.Writing.{Putting, putting-none, putting-length, putting-room, putting-more, putting-end}
+use Rattle.i2c_lists.proofs.Writing.{Putting, putting-none, putting-room, putting-more, putting-end}
 
 abbrev pub togo : List ℕ → ℕ → List BusEvent
 togo line at = onWords (wordsAt line at) ++ (Stop ∷ [])
@@ -80,9 +80,6 @@ module _ {line old out : List ℕ} {next at : ℕ} (g : Listing line old out nex
 
     pub listing-end : (r : ℕ) (new : List ℕ) → Puts (Stop ∷ []) next out r new → Puts (togo line 0) 0 old r new
     listing-end r new p = putting-end (putting-more (g .puts) (Stop ∷ []) [] r new stop p) refl
-
-  pub listing-length : length out ≡ length old
-  listing-length = putting-length (g .puts)
 
 pub puts-length : {es : List BusEvent} {at r : ℕ} {old new : List ℕ} → Puts es at old r new → length new ≡ length old
 puts-length {es} {at} {r} {old} {new} p = ap length (p .wrote) ∙ length-sets old at (recordsOf es)

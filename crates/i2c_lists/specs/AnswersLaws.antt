@@ -3,7 +3,7 @@ use mathlib.Core.Path.{_≡_, refl, ap, sym, _∙_, subst}
 use mathlib.Core.Logic.{_⊎_, inl, inr}
 use Prim.Native.Nat.{ℕ, _+_, _<_, _≤_}
 use mathlib.Core.List.{List, [], _∷_, _++_, append-assoc}
-use mathlib.Core.Bool.{Bool, true, false, cond, _&&_}
+use mathlib.Core.Bool.{Bool, true, false, cond, _&&_, and-false}
 use native.Mathlib.Omega.{arith}
 use lib.Dec.{leb}
 use lib.IntN.{ℤ, pos, negsuc, negℤ}
@@ -59,10 +59,6 @@ outside-by m ms false u et eu i h = here m ms (inl (leb-false 0x08 (addressOf m)
 far-outside : (ms : List Message) → allNear ms ≡ false → Outside ms
 far-outside [] h = absurd (let z : _≡_ {A = ℕ} 0 1 = cc in omega arith)
 far-outside (m ∷ ms) h = outside-by m ms (leb 0x08 (addressOf m)) (leb (addressOf m) 0x77) refl refl (far-outside ms) h
-
-and-false : (t : Bool) → (t && false) ≡ false
-and-false true = refl
-and-false false = refl
 
 outside-far : {ms : List Message} → Outside ms → allNear ms ≡ false
 outside-far (here m ms (inl h)) = simp (lt-leb 0x08 (addressOf m) h)

@@ -2,7 +2,7 @@
 use mathlib.Core.Path.{_≡_, refl, ap, ap₂, sym, _∙_}
 use Prim.Native.Nat.{ℕ, zero, suc, _+_, _-_, _≤_}
 use mathlib.Core.List.{List, [], _∷_, _++_}
-use mathlib.Core.Bool.{Bool, true, false, not, cond, _&&_, _||_}
+use mathlib.Core.Bool.{Bool, true, false, not, cond, _&&_, _||_, or-true}
 use native.Mathlib.Omega.{arith}
 use lib.Dec.{leb, eqb, eqb·suc-zero}
 use lib.ListN.{length}
@@ -24,10 +24,6 @@ or-and : (w e h : Bool) → ((w || not e) || not h) ≡ (w || not (e && h))
 or-and true e h = refl
 or-and false true h = refl
 or-and false false h = refl
-
-or-true : (w : Bool) → (w || true) ≡ true
-or-true true = refl
-or-true false = refl
 
 bad : Judged → Bool
 bad j = j .wrong || not (eqb (j .owed) 0)

@@ -10,12 +10,19 @@ ghost use Rattle.i2c_lists.specs.Judging.{fresh, begun, followed, judged
 ghost use Rattle.i2c_lists.specs.Records.{near, taken, recordsOf, numberFor, Taken};
 ghost use Rattle.i2c_lists.specs.WordingLaws.{onWord, onWords, nearWord};
 ghost use Rattle.i2c_lists.specs.Putting.{Puts};
+use constants::answer;
 use constants::number;
 use constants::range;
+use constants::size;
 use events::BusEvent;
 use events::Event;
 use i2c_words::Word;
 use writer::Wrote;
+
+// The records of a byte, OUT or IN; and of the beginning of a message, START and OUT.
+const BYTE: usize = size::HEADER + 1;
+
+const BEGINNING: usize = size::HEADER + BYTE;
 
 // What the words so far leave: the bytes still owed to their message, whether they begin no list, whether an address is out of
 // range, and the room that is left, with one byte more.
@@ -61,7 +68,7 @@ fn begin(j: Judged, owed: u8, address: u8, size: usize) -> Judged
 fn follow(j: Judged) -> Judged
     ensures { λ r. ⌜ r ≡ followed j ⌝ }
 {
-    let left = less(j.left, 5);
+    let left = less(j.left, BYTE);
     if j.owed == 0 {
         return Judged {
             owed: 0,
@@ -83,8 +90,8 @@ fn judge_word(j: Judged, word: Word) -> Judged
     ensures { λ r. ⌜ r ≡ judgedBy word j ⌝ }
 {
     match word {
-        Word::Write(count, address) => begin(j, count, address, 9),
-        Word::Read(count, address) => begin(j, 0, address, 9 + 5 * (count as usize)),
+        Word::Write(count, address) => begin(j, count, address, BEGINNING),
+        Word::Read(count, address) => begin(j, 0, address, BEGINNING + BYTE * (count as usize)),
         Word::Byte(_) => follow(j),
         Word::Unknown => Judged {
             owed: j.owed,
@@ -108,10 +115,10 @@ fn number(j: Judged) -> u8
     if j.far {
         return number::BAD_ADDRESS;
     }
-    if j.left <= 4 {
+    if j.left <= size::HEADER {
         return number::NO_ROOM;
     }
-    0
+    number::DONE
 }
 
 // Where the word that begins at a place ends: at the next space, or at the line's end.
@@ -230,14 +237,14 @@ pub extern "C" fn toralinge_list(line: &[u8], out: &mut [u8]) -> i64
     ensures { λ r. ⌜ Taken (now (line .entry)) (now (out .entry)) r (now (out .exit)) ⌝ }
 {
     let number = judge(line, out.len());
-    if number == 20 {
-        return -20;
+    if number == number::NO_LIST {
+        return answer::NO_LIST;
     }
-    if number == 21 {
-        return -21;
+    if number == number::BAD_ADDRESS {
+        return answer::BAD_ADDRESS;
     }
-    if number == 5 {
-        return -5;
+    if number == number::NO_ROOM {
+        return answer::NO_ROOM;
     }
     put_list(line, out) as i64
 }

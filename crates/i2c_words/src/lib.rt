@@ -11,42 +11,57 @@ pub enum Word {
     Unknown,
 }
 
+// What the glyph of a hex digit from ten on has above its value, of A to F and of a to f.
+const UPPER: u8 = 55;
+
+const LOWER: u8 = 87;
+
+// What stands for no digit and for no byte: one more than the greatest.
+const NO_HEX: u8 = 16;
+
+const NO_DIGIT: u8 = 10;
+
+const NO_BYTE: u16 = 256;
+
+// How many bytes a message has at most.
+const BYTES_MOST: u8 = 64;
+
 // The value of a hex digit of either case, or 16.
 fn hex_digit(c: u8) -> u8
     ensures { λ r. ⌜ r ≡ hexOf c ⌝ }
 {
-    if c < 48 {
-        return 16;
+    if c < b'0' {
+        return NO_HEX;
     }
-    if c <= 57 {
-        return c - 48;
+    if c <= b'9' {
+        return c - b'0';
     }
-    if c < 65 {
-        return 16;
+    if c < b'A' {
+        return NO_HEX;
     }
-    if c <= 70 {
-        return c - 55;
+    if c <= b'F' {
+        return c - UPPER;
     }
-    if c < 97 {
-        return 16;
+    if c < b'a' {
+        return NO_HEX;
     }
-    if c <= 102 {
-        return c - 87;
+    if c <= b'f' {
+        return c - LOWER;
     }
-    16
+    NO_HEX
 }
 
 // The value of a decimal digit, or 10.
 fn digit(c: u8) -> u8
     ensures { λ r. ⌜ r ≡ digitOf c ⌝ }
 {
-    if c < 48 {
-        return 10;
+    if c < b'0' {
+        return NO_DIGIT;
     }
-    if c <= 57 {
-        return c - 48;
+    if c <= b'9' {
+        return c - b'0';
     }
-    10
+    NO_DIGIT
 }
 
 // The value of two hex digits, or 256.
@@ -54,8 +69,8 @@ fn pair(high: u8, low: u8) -> u16
     requires { ⌜ high < 16 ⌝ }
     ensures { λ r. ⌜ r ≡ pairOf high low ⌝ }
 {
-    if 16 <= low {
-        return 256;
+    if NO_HEX <= low {
+        return NO_BYTE;
     }
     16 * (high as u16) + (low as u16)
 }
@@ -64,8 +79,8 @@ fn pair(high: u8, low: u8) -> u16
 fn digits(high: u8, w: &[u8]) -> u16
     ensures { λ r. ⌜ r ≡ digitsOf high (now (w .entry)) ⌝ }
 {
-    if 16 <= high {
-        return 256;
+    if NO_HEX <= high {
+        return NO_BYTE;
     }
     if w.len() == 3 {
         return high as u16;
@@ -73,7 +88,7 @@ fn digits(high: u8, w: &[u8]) -> u16
     if w.len() == 4 {
         return pair(high, hex_digit(w[3]));
     }
-    256
+    NO_BYTE
 }
 
 // The value of 0x and one or two hex digits, or 256.
@@ -81,13 +96,13 @@ fn value(w: &[u8]) -> u16
     ensures { λ r. ⌜ r ≡ valueOf (now (w .entry)) ⌝ }
 {
     if w.len() < 3 {
-        return 256;
+        return NO_BYTE;
     }
     if w[0] != b'0' {
-        return 256;
+        return NO_BYTE;
     }
     if w[1] != b'x' {
-        return 256;
+        return NO_BYTE;
     }
     digits(hex_digit(w[2]), w)
 }
@@ -96,11 +111,11 @@ fn value(w: &[u8]) -> u16
 fn one(c: u8) -> u8
     ensures { λ r. ⌜ r ≡ oneOf c ⌝ }
 {
-    if c < 49 {
+    if c < b'1' {
         return 0;
     }
-    if c <= 57 {
-        return c - 48;
+    if c <= b'9' {
+        return c - b'0';
     }
     0
 }
@@ -113,7 +128,7 @@ fn joined(tens: u8, ones: u8) -> u8
     if tens == 0 {
         return 0;
     }
-    if 10 <= ones {
+    if NO_DIGIT <= ones {
         return 0;
     }
     10 * tens + ones
@@ -133,10 +148,10 @@ fn message(letter: u8, count: u8, address: u16) -> Word
     if count == 0 {
         return Word::Unknown;
     }
-    if 64 < count {
+    if BYTES_MOST < count {
         return Word::Unknown;
     }
-    if 256 <= address {
+    if NO_BYTE <= address {
         return Word::Unknown;
     }
     if letter == b'w' {
@@ -168,7 +183,7 @@ fn message_of(w: &[u8]) -> Word
 fn word_by(byte: u16, w: &[u8]) -> Word
     ensures { λ r. ⌜ r ≡ wordBy byte (now (w .entry)) ⌝ }
 {
-    if byte < 256 {
+    if byte < NO_BYTE {
         return Word::Byte(byte as u8);
     }
     message_of(w)

@@ -22,7 +22,8 @@ use Rattle.events.specs.Fault.{Fault, Ov, Uv, Scd, Ocd}
 use Rattle.records.specs.declared.Read.{Read}
 use Rattle.records.specs.declared.Read.the-variants.{Record, Refused, Cut}
 use Rattle.records.specs.Record.{readOf, countsBeside}
-use Rattle.records.specs.SoundLaws.{IsSetup, first-setup, Meaning, later-means, and-left, and-right}
+use Rattle.bits.specs.BoolLaws.{and-left, and-right}
+use Rattle.records.specs.SoundLaws.{IsSetup, first-setup, Meaning, later-means}
 use Rattle.protection.specs.declared.Runs.{Runs}
 use Rattle.protection.specs.Streak.{streak}
 use Rattle.protection.specs.Fault.{runOf, runsOf}

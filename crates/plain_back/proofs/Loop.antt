@@ -24,7 +24,8 @@ use Rattle.records.specs.declared.Read.{Read}
 use Rattle.records.specs.declared.Read.the-variants.{Record, Refused, Cut}
 use Rattle.records.specs.Record.{readOf, countsBeside}
 use Rattle.records.specs.ReadingLaws.{Placed, placed}
-use Rattle.records.specs.SoundLaws.{and-right, first-setup, IsSetup, Meaning, isWires, wires-by, later-means}
+use Rattle.bits.specs.BoolLaws.{and-right}
+use Rattle.records.specs.SoundLaws.{first-setup, IsSetup, Meaning, isWires, wires-by, later-means}
 use Rattle.chip.specs.declared.Chip.{Chip}
 use Rattle.chip.specs.Chip.{inShip, steppedBy}
 use Rattle.events.specs.Fault.{Ov, Uv, Scd, Ocd}

@@ -22,7 +22,8 @@ use Rattle.events.specs.Event.{means, ticks, unfit, eventOf, meantOf, countsFit
 use Rattle.records.specs.declared.Read.{Read}
 use Rattle.records.specs.declared.Read.the-variants.{Record, Refused, Cut}
 use Rattle.records.specs.Record.{readOf, countsBeside}
-use Rattle.records.specs.SoundLaws.{and-left, and-right, Meaning}
+use Rattle.bits.specs.BoolLaws.{and-left, and-right}
+use Rattle.records.specs.SoundLaws.{Meaning}
 use Rattle.settings.specs.declared.Settings.{Settings}
 use Rattle.protection.specs.Streak.{streak}
 use Rattle.protection.specs.Rule.{Rule, rule, over, under, beyond, opinion}

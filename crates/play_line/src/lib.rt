@@ -4,6 +4,9 @@ ghost use Prim.Native.Nat.{_+_, _<_};
 ghost use mathlib.Core.List.{[], _∷_};
 ghost use Rattle.play_line.specs.Line.{leading, decimal, hexGlyph, hexByte, kindText, busText, pinsText, recordText, answerText, stateText, lineOf, dash};
 ghost use Rattle.play_line.specs.Put.{tooLong, Puts, Written};
+use constants::answer;
+use constants::size;
+use constants::weight;
 
 // What a line shows of a record's entry.
 pub struct Columns {
@@ -13,6 +16,12 @@ pub struct Columns {
     pub stat: u8,
     pub pins: u8,
 }
+
+// What the glyph of a hex digit from ten on has above its value.
+const LETTERS: u8 = 55;
+
+// How many bytes the line for an input that is too long has.
+const TOO_LONG: usize = 9;
 
 // A byte at a place, where the buffer reaches it. Each `put_..` answers the place after what it put: a variable is named for what comes there.
 fn put(out: &mut [u8], at: usize, b: u8) -> usize
@@ -30,7 +39,7 @@ fn hex_glyph(d: u8) -> u8
     requires { ⌜ d < 16 ⌝ }
     ensures { λ r. ⌜ r ≡ hexGlyph d ⌝ }
 {
-    if d < 10 { 48 + d } else { 55 + d }
+    if d < 10 { b'0' + d } else { LETTERS + d }
 }
 
 fn put_hex(out: &mut [u8], at: usize, b: u8) -> usize
@@ -58,7 +67,7 @@ fn put_leading(out: &mut [u8], at: usize, n: usize, power: usize) -> usize
     if n < power {
         return at;
     }
-    put(out, at, 48 + (n / power % 10) as u8)
+    put(out, at, b'0' + (n / power % 10) as u8)
 }
 
 fn put_decimal(out: &mut [u8], at: usize, n: usize) -> usize
@@ -69,7 +78,7 @@ fn put_decimal(out: &mut [u8], at: usize, n: usize) -> usize
     let hundreds = put_leading(out, thousands, n, 1000);
     let tens = put_leading(out, hundreds, n, 100);
     let ones = put_leading(out, tens, n, 10);
-    put(out, ones, 48 + (n % 10) as u8)
+    put(out, ones, b'0' + (n % 10) as u8)
 }
 
 // The kind of the record that the rest begins with.
@@ -77,7 +86,7 @@ fn put_kind(out: &mut [u8], at: usize, rest: &[u8]) -> usize
     requires { ⌜ at < 4800000000 ⌝ }
     ensures { λ r. ⌜ Puts 4 (kindText (now (rest .entry))) at (now (out .entry)) r (now (out .exit)) ⌝ }
 {
-    if rest.len() < 4 {
+    if rest.len() < size::HEADER {
         let half = put_dashes(out, at);
         return put_dashes(out, half);
     }
@@ -99,9 +108,9 @@ fn put_pins(out: &mut [u8], at: usize, pins: u8) -> usize
     requires { ⌜ at < 4800000000 ⌝ }
     ensures { λ r. ⌜ Puts 3 (pinsText pins) at (now (out .entry)) r (now (out .exit)) ⌝ }
 {
-    let charge = put(out, at, 48 + pins / 4 % 2);
-    let discharge = put(out, charge, 48 + pins / 2 % 2);
-    put(out, discharge, 48 + pins % 2)
+    let charge = put(out, at, b'0' + pins / weight::PIN_ALERT % 2);
+    let discharge = put(out, charge, b'0' + pins / weight::PIN_CHG % 2);
+    put(out, discharge, b'0' + pins % 2)
 }
 
 // The record number and the kind, each with a space after it.
@@ -160,8 +169,8 @@ fn put_four(out: &mut [u8], at: usize, p: u8, q: u8, r: u8, s: u8) -> usize
 pub fn write_too_long(out: &mut [u8]) -> i64
     ensures { λ r. ⌜ Written tooLong (now (out .entry)) r (now (out .exit)) ⌝ }
 {
-    if out.len() < 9 {
-        return -5;
+    if out.len() < TOO_LONG {
+        return answer::NO_ROOM;
     }
     let word = put_four(out, 0, b't', b'o', b'o', b' ');
     let end = put_four(out, word, b'l', b'o', b'n', b'g');

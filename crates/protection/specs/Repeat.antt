@@ -4,7 +4,7 @@ use mathlib.Core.Path.{_≡_, refl, ap, sym, _∙_}
 use mathlib.Core.Bool.{Bool, true, false, _&&_, true≢false}
 use Prim.Native.Nat.{ℕ, zero, suc, _+_, _≤_, min}
 use native.Mathlib.Omega.{arith}
-use lib.Dec.{leb, ltb}
+use lib.Dec.{ltb}
 use lib.IntN.{ℤ}
 use lib.ListN.{replicate}
 use borrow.Author.Tests.{le-leb, leb-true, lt-ltb}
@@ -15,7 +15,6 @@ use Rattle.protection.specs.declared.Judged.{Judged}
 use Rattle.protection.specs.Streak.{bumps}
 use Rattle.protection.specs.Rule.{cap, rule, beyond}
 use Rattle.protection.specs.Judged.{lasts, tickJudged}
-use Rattle.protection.specs.TablesLaws.{ended-waits}
 
 -- that many ticks, each judged after the one before it; what rises is what the last one raises
 unfoldable pub ticksJudged : ℕ → Settings → ℤ → Runs → Judged

@@ -8,6 +8,7 @@ use native.Mathlib.Omega.{arith}
 use lib.ListN.{length, getD}
 use lib.Dec.{leb}
 use borrow.Author.Tests.{leb-true, lt-leb}
+use Rattle.bits.specs.BoolLaws.{and-left, and-right}
 use Rattle.events.specs.Fault.{Fault, Ov, Uv, Scd, Ocd}
 use Rattle.settings.specs.declared.Settings.{Settings}
 use Rattle.protection.specs.Streak.{lastAll, streak, counts}
@@ -34,15 +35,6 @@ code-there Ocd s = omega arith
 pub record Fair (most x : ℕ) : Type 0 where
   pub least : 1 ≤ x
   pub capped : x ≤ most
-
-and-left : (a b : Bool) → (a && b) ≡ true → a ≡ true
-and-left true b e = refl
-and-left false b e = e
-
-and-right : (a b : Bool) → (a && b) ≡ true → b ≡ true
-and-right true b e = e
-and-right false true e = refl
-and-right false false e = e
 
 fair-at : (most : ℕ) (xs : List ℕ) (i : ℕ) → i < length xs → fair most xs ≡ true → Fair most (getD xs i 0)
 fair-at most [] i h e = absurd (omega arith)

@@ -1,12 +1,12 @@
 -- The over-current ticks by doubling are those of the list in CHIP J7, at every code: one computed test each. Assumes nothing.
 use mathlib.Core.Path.{_≡_, refl}
 use mathlib.Core.Bool.{Bool, true, false, _&&_}
-use mathlib.Core.List.{List, [], _∷_}
 use Prim.Native.Nat.{ℕ, zero, suc, _*_, _%_, _^_, _<_}
 use native.Mathlib.Omega.{arith}
 use lib.Dec.{eqb, ltb}
 use lib.ListN.{getD}
 use borrow.Author.Tests.{eqb-true, ltb-true, ltb-false}
+use Rattle.bits.specs.BoolLaws.{and-left, and-right}
 use Rattle.events.specs.Fault.{Ocd}
 use Rattle.protection.specs.Rule.{ocdTicks, delayTable}
 
@@ -14,15 +14,6 @@ use Rattle.protection.specs.Rule.{ocdTicks, delayTable}
 abbrev pub below : ℕ → (ℕ → Bool) → Bool
 below zero f = true
 below (suc n) f = f n && below n f
-
-and-left : (a b : Bool) → (a && b) ≡ true → a ≡ true
-and-left true b e = refl
-and-left false b e = e
-
-and-right : (a b : Bool) → (a && b) ≡ true → b ≡ true
-and-right true b e = e
-and-right false true e = refl
-and-right false false e = e
 
 pub at-each : (n : ℕ) (f : ℕ → Bool) → below n f ≡ true → (k : ℕ) → k < n → f k ≡ true
 at-each zero f e k h = absurd (omega arith)

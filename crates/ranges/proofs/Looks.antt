@@ -3,7 +3,7 @@
 use mathlib.Core.Path.{_≡_, refl, ap, sym, _∙_, subst}
 use Prim.Native.Nat.{ℕ, zero, suc, _+_, _<_, _≤_}
 use mathlib.Core.List.{List}
-use mathlib.Core.Bool.{Bool, true, false, not, cond, _&&_}
+use mathlib.Core.Bool.{Bool, true, false, not, cond, _&&_, and-true}
 use native.Mathlib.Omega.{arith}
 use native.Mathlib.Numerals.{add-one}
 use lib.Dec.{leb, ltb}
@@ -25,10 +25,6 @@ use Rattle.ranges.specs.Refusal.{refusalOf}
 not-above : (a n : ℕ) (t : Bool) → leb n a ≡ t → t ≡ not (ltb a n)
 not-above a n true e = sym (ap not (le-ltb a n (leb-true n a e)))
 not-above a n false e = sym (ap not (lt-ltb a n (leb-false n a e)))
-
-and-true : (b : Bool) → b && true ≡ b
-and-true true = refl
-and-true false = refl
 
 below : (n : ℕ) (t : Bool) → leb n 499999 ≡ t → t ≡ not (ltb 500000 (suc n))
 below n true e = sym (ap not (le-ltb 500000 (suc n) (omega (arith, leb-true n 499999 e))))

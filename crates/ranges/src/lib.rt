@@ -3,7 +3,9 @@ ghost use mathlib.Core.Path.{_≡_};
 ghost use lib.ListN.{take, drop};
 ghost use Rattle.events.specs.Event.{within, countMost, senseFits, ticksFit, countsWanted, countsFit, eventOf, meantOf};
 ghost use Rattle.ranges.specs.Refusal.{refusalOf};
+use constants::number;
 use constants::range;
+use events::Beside;
 use events::Counts;
 use events::Event;
 use events::Setup;
@@ -57,22 +59,10 @@ pub fn counts_in_range(of: [u16; 15], many: u8) -> bool
 pub fn counts_wanted(setup: Setup, event: Event) -> u8
     ensures { λ r. ⌜ r ≡ countsWanted setup event ⌝ }
 {
-    match event {
-        Event::Setup(_) => 0,
-        Event::Por => 0,
-        Event::Boot => 0,
-        Event::Scan => setup.inputs(),
-        Event::Temp => setup.groups(),
-        Event::Count(_) => 0,
-        Event::Sense(_) => 0,
-        Event::Pin => 0,
-        Event::Load(_) => 0,
-        Event::Xready => 0,
-        Event::OnBus(_) => 0,
-        Event::Level(_) => 0,
-        Event::Ticks(_, _) => 0,
-        Event::Soak(_, _) => 0,
-        Event::Wires(_) => 0,
+    match events::beside_of(event) {
+        Beside::Inputs => setup.inputs(),
+        Beside::Groups => setup.groups(),
+        Beside::Nothing => 0,
     }
 }
 
@@ -92,37 +82,41 @@ fn value_refusal(setup: Setup, event: Event, of: [u16; 15]) -> u8
     ensures { λ r. ⌜ r ≡ refusalOf (eventOf setup event of) ⌝ }
 {
     match event {
-        Event::Setup(_) => 2,
-        Event::Por => 0,
-        Event::Boot => 0,
+        Event::Setup(_) => number::BAD_KIND,
+        Event::Por => number::DONE,
+        Event::Boot => number::DONE,
         Event::Scan => if counts_in_range(of, setup.inputs()) {
-            0
+            number::DONE
         } else {
-            3
+            number::BAD_VALUE
         },
         Event::Temp => if counts_in_range(of, setup.groups()) {
-            0
+            number::DONE
         } else {
-            3
+            number::BAD_VALUE
         },
-        Event::Count(_) => 0,
-        Event::Sense(v) => if sense_fits(v) { 0 } else { 3 },
-        Event::Pin => 0,
-        Event::Load(_) => 0,
-        Event::Xready => 0,
-        Event::OnBus(_) => 0,
-        Event::Level(_) => 0,
-        Event::Ticks(v, n) => if ticks_fit(range::TICKS_MOST, v, n as u32) {
-            0
+        Event::Count(_) => number::DONE,
+        Event::Sense(v) => if sense_fits(v) {
+            number::DONE
         } else {
-            3
+            number::BAD_VALUE
+        },
+        Event::Pin => number::DONE,
+        Event::Load(_) => number::DONE,
+        Event::Xready => number::DONE,
+        Event::OnBus(_) => number::DONE,
+        Event::Level(_) => number::DONE,
+        Event::Ticks(v, n) => if ticks_fit(range::TICKS_MOST, v, n as u32) {
+            number::DONE
+        } else {
+            number::BAD_VALUE
         },
         Event::Soak(v, n) => if ticks_fit(range::SOAK_MOST, v, n) {
-            0
+            number::DONE
         } else {
-            3
+            number::BAD_VALUE
         },
-        Event::Wires(_) => 2,
+        Event::Wires(_) => number::BAD_KIND,
     }
 }
 
@@ -135,5 +129,5 @@ pub fn refusal(setup: Setup, event: Event, counts: Counts) -> u8
         let of = counts.of;
         return value_refusal(setup, event, of);
     }
-    2
+    number::BAD_KIND
 }

@@ -1,7 +1,7 @@
 -- Signed values as the code tests and casts them. Assumes nothing.
 use mathlib.Core.Path.{_≡_, refl, sym, ap, subst, _∙_}
-use mathlib.Core.Bool.{Bool, true, false, not, _&&_}
-use Prim.Native.Nat.{ℕ, zero, suc, _^_, _<_, _≤_}
+use mathlib.Core.Bool.{Bool, true, false, not, _&&_, and-true}
+use Prim.Native.Nat.{ℕ, suc, _^_, _<_, _≤_}
 use native.Mathlib.Omega.{arith}
 use lib.Dec.{T, leb, ltb}
 use lib.IntN.{ℤ, pos, negsuc, negℤ, natAbs, _-ℤ_, +ℤ-idl}
@@ -9,7 +9,7 @@ use lib.Signed.{mag, ltZ, leZ, nonNeg}
 use mir.Syntax.{w32, w64}
 use mir.Val.{Fits, SFits, toZ, ofZ}
 use mir.Facts.{toZ-ofZ, sfits-widen}
-use borrow.Author.Tests.{ltb-true, ltb-false, leb-true, leb-false, le-leb, lt-leb}
+use borrow.Author.Tests.{ltb-true, ltb-false, leb-true, leb-false, le-leb, lt-leb, not-true}
 use Rattle.values.proofs.Within.{lit, nat, minus, fits, back}
 use Rattle.events.specs.Event.{senseFits}
 use Rattle.records.specs.RangesLaws.{fits-pos, fits-neg}
@@ -58,10 +58,6 @@ not-above a n false e = by (ltb a n) refl
     by true q = refl
     by false q = absurd (omega (arith, ltb-false a n q, leb-false n a e))
 
-and-true : (b : Bool) → b && true ≡ b
-and-true true = refl
-and-true false = refl
-
 less-one : (n : ℕ) (t : Bool) → leb n 499999 ≡ t → leb (suc n) 500000 ≡ t
 less-one n true e = le-leb (suc n) 500000 (omega (arith, leb-true n 499999 e))
 less-one n false e = lt-leb (suc n) 500000 (omega (arith, leb-false n 499999 e))
@@ -72,10 +68,6 @@ in-range (negsuc n) = and-true (leb n 499999) ∙ not-above 500000 (suc n) (leb 
 
 pub near-is : (v : ℤ) → SFits w64 v → leZ (negsuc 499999) (toZ w64 (ofZ w64 v)) && leZ (toZ w64 (ofZ w64 v)) (pos 500000) ≡ senseFits v
 near-is v f = ap (λ (z : ℤ). leZ (negsuc 499999) z && leZ z (pos 500000)) (toZ-ofZ {w = w64} f) ∙ in-range v
-
-not-true : (t : Bool) → not t ≡ true → t ≡ false
-not-true true e = absurd (subst T (sym e) tt)
-not-true false e = refl
 
 small : (v : ℤ) → senseFits v ≡ true → SFits w32 v
 small (pos n) e = record { sfits = omega (arith, ltb-false 500000 n (not-true _ (sym (fits-pos n) ∙ e))) }

@@ -17,16 +17,15 @@ use borrow.Author.Tests.{ne-eqb, eq-eqb, le-leb, lt-leb, leb-true}
 use Rattle.events.specs.Setup.{checkedOf}
 use Rattle.events.specs.Event.{within, countMost, senseFits, ticksFit}
 use Rattle.events.specs.declared.Checked.{Checked}
-use Rattle.events.specs.declared.Counts.{Counts}
 use Rattle.events.specs.declared.Event.{Event}
 use Rattle.events.specs.declared.Event.the-variants.{Sense}
 use Rattle.records.specs.Kind.{SETUP}
 use Rattle.records.specs.Numbers.{filled}
 use Rattle.records.specs.Record.{checkedIn}
-use Rattle.records.specs.SoundLaws.{and-left, and-right}
+use Rattle.bits.specs.BoolLaws.{and-left, and-right}
 use Rattle.records.specs.declared.Payload.{Payload}
 use Rattle.records.specs.declared.Payload.the-variants.{Whole, Unfit}
-use Rattle.record_c.specs.Values.{natOf, natAt, valueAt, byteOf, wordOf, setupBy, senseBy, repeatBy, countOf, countsBy, laterBy, partBy, eventBy}
+use Rattle.record_c.specs.Values.{natOf, natAt, valueAt, byteOf, wordOf, setupBy, senseBy, repeatBy, countOf, laterBy, partBy, eventBy}
 use Rattle.record_c.proofs.Ints.{same}
 
 -- a value as the code reads it
@@ -86,10 +85,6 @@ module _ (vs : List ℤ) (l : length vs ≡ 6) (n : ℕ) (g : mag (getD vs 4 (po
   setup-is h x part crc address gain offset high floor g5 e0 e1 e2 e3 e4 e5 e6 q =
       let m : floor ≡ wordOf (natAt vs 5) = e6 ∙ ap wordOf (nat-at vs 5 high g5 e5) in
       simp (eq-eqb (length vs) 6 l, le-leb (natAt vs 4) 255 (subst (λ (m : ℕ). m ≤ 255) (nat-at vs 4 n g e) h)) (ap checkedIn (q ∙ six e0 e1 e2 e3 e4 m))
-
--- the counts of an event, by its case
-pub at-counts : (vs : List ℤ) {r : Counts} {e e′ : Event} → e ≡ e′ → r ≡ countsBy e′ vs → r ≡ countsBy e vs
-at-counts vs q p = p ∙ ap (λ (e : Event). countsBy e vs) (sym q)
 
 -- ── counts ──
 -- a turn of the loop over counts: one out of range ends it, and another is passed

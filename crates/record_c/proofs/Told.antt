@@ -8,7 +8,7 @@ use lib.Dec.{eqb, leb}
 use lib.IntN.{ℤ, pos, negsuc, negℤ}
 use lib.ListN.{length, take, drop}
 use borrow.Author.Tests.{le-leb, lt-leb, leb-true}
-use Rattle.values.specs.Values.{Said, gives, refuses}
+use Rattle.values.specs.Values.{gives, refuses}
 use Rattle.events.specs.declared.Counts.{Counts}
 use Rattle.events.specs.declared.Event.{Event}
 use Rattle.records.specs.Record.{readOf, countsIn}
@@ -20,7 +20,7 @@ use Rattle.writer.specs.Write.{kindFor, recordFor, refusalFor, Puts}
 use Rattle.writer.specs.declared.Wrote.{Wrote}
 use Rattle.writer.specs.declared.Wrote.the-variants.{Done, Refused as Refused-}
 use Rattle.record_c.specs.Values.{valuesFor, partBy, eventBy, countsBy}
-use Rattle.record_c.specs.Calls.{meantBy, writtenBy, wroteAnswer, countedFew, recordSaid, recordAnswer, recordBytes, Records, laid, Named, named, namedRead, namedSaid, Names}
+use Rattle.record_c.specs.Calls.{meantBy, writtenBy, wroteAnswer, countedFew, recordSaid, Records, laid, named, namedRead, namedSaid, Names}
 
 -- ── a record written ──
 few-by : (n : ℕ) (number room : ℕ) (t u : Bool) → leb n room ≡ u → room < 2 ^ 63 → countedFew (cond t (cond u (Done n) (Refused- 5)) (Refused- number))

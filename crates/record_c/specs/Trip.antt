@@ -1,19 +1,17 @@
 -- The round trip: a record that was written from a kind and values is read back as that kind and these values, whatever bytes follow; and
 -- two answers that a call may give are the same. Assumes nothing.
 use mathlib.Core.Path.{_≡_, refl, sym, ap, subst, _∙_}
-use mathlib.Core.Logic.{_≢_}
-use mathlib.Core.Bool.{Bool, true, false, cond, _&&_, true≢false}
+use mathlib.Core.Bool.{Bool, true, false, cond, _&&_}
 use mathlib.Core.List.{List, [], _∷_, _++_, map}
 use Prim.Native.Nat.{ℕ, zero, suc, _%_, _^_, _<_, _≤_}
 use native.Mathlib.Omega.{arith}
 use lib.Dec.{eqb, leb}
 use lib.IntN.{ℤ, pos, negsuc, negℤ}
-use lib.ListN.{length, getD, take, drop}
-use borrow.Author.Tests.{eqb-true, eq-eqb, ne-eqb, leb-true, leb-false, le-leb}
+use lib.ListN.{length, take, drop}
+use borrow.Author.Tests.{eqb-true, leb-true, le-leb}
 use Rattle.values.specs.Values.{Said, gives, refuses}
 use Rattle.events.specs.Setup.{setupFits, setupOf, checkedOf}
 use Rattle.events.specs.Event.{within, countMost, senseFits, ticksMost, soakMost, ticksFit}
-use Rattle.events.specs.declared.Checked.{Checked}
 use Rattle.events.specs.declared.Checked.the-variants.{Good, Bad}
 use Rattle.events.specs.declared.Counts.{Counts}
 use Rattle.events.specs.declared.BusEvent.the-variants.{Start, Out, In, Stop}
@@ -23,19 +21,18 @@ use Rattle.events.specs.declared.Event.the-variants.{Soak, Wires}
 use Rattle.records.specs.Kind.{SETUP, POR, BOOT, SCAN, TEMP, COUNT, SENSE, PIN, LOAD, XREADY, START, OUT, IN, STOP, LEVEL, TICKS, SOAK}
 use Rattle.records.specs.Kind.{WIRES}
 use Rattle.records.specs.Numbers.{bitOf, filled}
-use Rattle.records.specs.Record.{checkedIn, loadOf, levelOf, inOf, ticksOf, soakOf, inputsAt, groupsAt, noCounts, readOf, countsBeside}
-use Rattle.records.specs.CountedLaws.{few-groups, few-inputs}
-use Rattle.records.specs.SoundLaws.{and-left, and-right}
+use Rattle.records.specs.Record.{checkedIn, ticksOf, soakOf, standing, inputsAt, groupsAt, readOf}
+use Rattle.events.specs.FewLaws.{few-groups, few-inputs}
+use Rattle.bits.specs.BoolLaws.{and-left, and-right}
 use Rattle.records.specs.declared.Payload.{Payload}
 use Rattle.records.specs.declared.Payload.the-variants.{Whole, Unfit}
-use Rattle.records.specs.declared.Read.{Read}
 use Rattle.records.specs.declared.Read.the-variants.{Record}
 use Rattle.writer.specs.Write.{kindFor, recordFor, refusalFor}
 use Rattle.writer.specs.TripLaws.{standsFor, read-back, beside-back}
 use Rattle.record_c.specs.Values.{valuesFor, setupValues, countValues, natOf, valueAt, natAt, byteOf, wordOf, setupBy, bareBy}
-use Rattle.record_c.specs.Values.{countedBy, countBy, outBy, switchBy, senseBy, repeatBy, wiresBy, laterBy, partBy, eventBy}
+use Rattle.record_c.specs.Values.{countedBy, senseBy, repeatBy, laterBy, partBy, eventBy}
 use Rattle.record_c.specs.Values.{countOf, countsAt, countsBy}
-use Rattle.record_c.specs.Calls.{meantBy, writtenBy, recordSaid, Records, Named, named, namedRead, namedSaid, Names}
+use Rattle.record_c.specs.Calls.{meantBy, recordSaid, Records, Named, named, namedRead, namedSaid, Names}
 
 -- ── what an event that values mean says of them: its kind and its values are these ──
 pub record Back (kind : ℕ) (vs : List ℤ) (e : Event) : Type 0 where
@@ -292,8 +289,8 @@ unfolding laterBy countsBy
 later-backs kind part vs =
     kind-backs kind POR vs _ _ (bare-backs POR Por vs refl refl)
     (kind-backs kind BOOT vs _ _ (bare-backs BOOT Boot vs refl refl)
-    (kind-backs kind SCAN vs _ _ (counted-backs SCAN Scan (inputsAt part) vs refl (few-inputs part) refl)
-    (kind-backs kind TEMP vs _ _ (counted-backs TEMP Temp (groupsAt part) vs refl (omega (arith, few-groups part)) refl)
+    (kind-backs kind SCAN vs _ _ (counted-backs SCAN Scan (inputsAt part) vs refl (few-inputs (standing part)) refl)
+    (kind-backs kind TEMP vs _ _ (counted-backs TEMP Temp (groupsAt part) vs refl (omega (arith, few-groups (standing part))) refl)
     (kind-backs kind COUNT vs _ _ (one-backs COUNT vs (λ n. Count n) 65535 3 (omega arith) (λ n. refl) (λ n h. refl))
     (kind-backs kind SENSE vs _ _ (sense-backs vs)
     (kind-backs kind PIN vs _ _ (bare-backs PIN Pin vs refl refl)

@@ -1,14 +1,16 @@
 -- CHIP.md, "Events and their records": the values of each kind, as whole numbers, and the event that values mean. Assumes nothing.
-use mathlib.Core.Bool.{Bool, cond, _&&_}
+use mathlib.Core.Bool.{Bool, cond}
 use mathlib.Core.List.{List, [], _∷_, map}
-use Prim.Native.Nat.{ℕ, _*_, _%_, _^_}
+use Prim.Native.Nat.{ℕ, _%_, _^_}
 use lib.Dec.{eqb, leb}
 use lib.IntN.{ℤ, pos, negsuc}
 use lib.ListN.{length, getD, take}
 use Rattle.events.specs.Setup.{checkedOf}
-use Rattle.events.specs.Event.{within, countMost, senseFits, ticksMost, soakMost, ticksFit}
+use Rattle.events.specs.Event.{besideOf, within, countMost, senseFits, ticksMost, soakMost, ticksFit}
 use Rattle.events.specs.declared.Setup.{Setup as SetupValues}
 use Rattle.events.specs.declared.Counts.{Counts}
+use Rattle.events.specs.declared.Beside.{Beside}
+use Rattle.events.specs.declared.Beside.the-variants.{Inputs, Groups, Nothing}
 use Rattle.events.specs.declared.BusEvent.the-variants.{Start, Out, In, Stop}
 use Rattle.events.specs.declared.Event.{Event}
 use Rattle.events.specs.declared.Event.the-variants.{Setup, Por, Boot, Scan, Temp, Count, Sense, Pin, Load, Xready, OnBus, Level, Ticks}
@@ -144,19 +146,10 @@ countOf v = natOf v % 65536
 abbrev pub countsAt : List ℤ → Counts
 countsAt vs = record { many = length vs % 256; of = filled 15 (map countOf vs) }
 
+abbrev pub countsWith : Beside → List ℤ → Counts
+countsWith Inputs vs = countsAt vs
+countsWith Groups vs = countsAt vs
+countsWith Nothing vs = noCounts
+
 unfoldable pub countsBy : Event → List ℤ → Counts
-countsBy (Setup v) vs = noCounts
-countsBy Por vs = noCounts
-countsBy Boot vs = noCounts
-countsBy Scan vs = countsAt vs
-countsBy Temp vs = countsAt vs
-countsBy (Count n) vs = noCounts
-countsBy (Sense v) vs = noCounts
-countsBy Pin vs = noCounts
-countsBy (Load l) vs = noCounts
-countsBy Xready vs = noCounts
-countsBy (OnBus b) vs = noCounts
-countsBy (Level l) vs = noCounts
-countsBy (Ticks v n) vs = noCounts
-countsBy (Soak v n) vs = noCounts
-countsBy (Wires n) vs = noCounts
+countsBy e vs = countsWith (besideOf e) vs

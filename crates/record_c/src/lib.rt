@@ -3,16 +3,22 @@ ghost use mathlib.Core.Path.{_≡_};
 ghost use mathlib.Core.Bool.{true};
 ghost use mathlib.Core.List.{[], _∷_, map};
 ghost use Prim.Native.Nat.{_≤_, _<_};
-ghost use lib.ListN.{length, take};
+ghost use lib.ListN.{length};
 ghost use lib.IntN.{pos};
 ghost use Rattle.values.specs.Values.{gives};
 ghost use Rattle.events.specs.Event.{within, countMost, senseFits, ticksMost, soakMost};
-ghost use Rattle.records.specs.Numbers.{bitOf, filled};
+ghost use Rattle.records.specs.Numbers.{bitOf};
 ghost use Rattle.records.specs.Record.{loadOf, levelOf, inOf, ticksOf, soakOf, noCounts};
 ghost use Rattle.events.specs.declared.Event.the-variants.{OnBus};
 ghost use Rattle.writer.specs.Write.{kindFor};
-ghost use Rattle.record_c.specs.Values.{valuesFor, setupValues, countValues, natOf, natAt, valueAt, byteOf, wordOf, setupBy, bareBy, countedBy, countBy, outBy, switchBy, senseBy, repeatBy, wiresBy, laterBy, partBy, eventBy, countOf, countsAt, countsBy};
+ghost use Rattle.record_c.specs.Values.{valuesFor, setupValues, countValues, natOf, natAt, byteOf, wordOf, setupBy, bareBy, countedBy, countBy, outBy, switchBy, senseBy, repeatBy, wiresBy, laterBy, partBy, eventBy, countsAt, countsBy};
 ghost use Rattle.record_c.specs.Calls.{recordSaid, Records, countedFew, wroteAnswer, laid, named, namedSaid, Names};
+use constants::answer;
+use constants::kind;
+use constants::number;
+use constants::range;
+use constants::size;
+use events::Beside;
 use events::BusEvent;
 use events::Checked;
 use events::Counts;
@@ -22,12 +28,62 @@ use records::Payload;
 use records::Read;
 use writer::Wrote;
 
+// A value below 0 as a number: beyond every range.
+const BEYOND: u64 = 9223372036854775808;
+
+// The ranges and kinds of records, in the widths that C hands over.
+const COUNT_MOST: u64 = range::COUNT_MOST as u64;
+
+const SENSE_LEAST: i64 = range::SENSE_LEAST as i64;
+
+const SENSE_MOST: i64 = range::SENSE_MOST as i64;
+
+const TICKS_MOST: u64 = range::TICKS_MOST as u64;
+
+const SOAK_MOST: u64 = range::SOAK_MOST as u64;
+
+const KIND_SETUP: u32 = kind::SETUP as u32;
+
+const KIND_POR: u32 = kind::POR as u32;
+
+const KIND_BOOT: u32 = kind::BOOT as u32;
+
+const KIND_SCAN: u32 = kind::SCAN as u32;
+
+const KIND_TEMP: u32 = kind::TEMP as u32;
+
+const KIND_COUNT: u32 = kind::COUNT as u32;
+
+const KIND_SENSE: u32 = kind::SENSE as u32;
+
+const KIND_PIN: u32 = kind::PIN as u32;
+
+const KIND_LOAD: u32 = kind::LOAD as u32;
+
+const KIND_XREADY: u32 = kind::XREADY as u32;
+
+const KIND_START: u32 = kind::START as u32;
+
+const KIND_OUT: u32 = kind::OUT as u32;
+
+const KIND_IN: u32 = kind::IN as u32;
+
+const KIND_STOP: u32 = kind::STOP as u32;
+
+const KIND_TICKS: u32 = kind::TICKS as u32;
+
+const KIND_LEVEL: u32 = kind::LEVEL as u32;
+
+const KIND_WIRING: u32 = kind::WIRING as u32;
+
+const KIND_SOAK: u32 = kind::SOAK as u32;
+
 // A value as a number from 0 up: one below 0 is beyond every range.
 fn natural(v: i64) -> u64
     ensures { λ r. ⌜ r ≡ natOf v ⌝ }
 {
     if v < 0 {
-        return 9223372036854775808;
+        return BEYOND;
     }
     v as u64
 }
@@ -55,10 +111,10 @@ fn setup_by(values: &[i64]) -> Payload
     ensures { λ r. ⌜ r ≡ setupBy (now (values .entry)) ⌝ }
 {
     if values.len() != 6 {
-        return Payload::Unfit(2);
+        return Payload::Unfit(number::BAD_KIND);
     }
     if 255 < natural(values[4]) {
-        return Payload::Unfit(1);
+        return Payload::Unfit(number::BAD_SETUP);
     }
     let part = byte_at(values, 0);
     let crc = byte_at(values, 1);
@@ -68,7 +124,7 @@ fn setup_by(values: &[i64]) -> Payload
     let floor = word_of(natural(values[5]));
     match events::setup_of(part, crc, address, gain, offset, floor) {
         Checked::Good(setup) => Payload::Whole(Event::Setup(setup)),
-        Checked::Bad => Payload::Unfit(1),
+        Checked::Bad => Payload::Unfit(number::BAD_SETUP),
     }
 }
 
@@ -79,7 +135,7 @@ fn bare_by(event: Event, values: &[i64]) -> Payload
     if values.len() == 0 {
         Payload::Whole(event)
     } else {
-        Payload::Unfit(2)
+        Payload::Unfit(number::BAD_KIND)
     }
 }
 
@@ -89,7 +145,7 @@ fn all_counts(values: &[i64]) -> bool
 {
     let mut i = 0;
     while i < values.len() {
-        if 16383 < natural(values[i]) {
+        if COUNT_MOST < natural(values[i]) {
             return false;
         }
         i += 1;
@@ -102,12 +158,12 @@ fn counted_by(event: Event, wanted: u8, values: &[i64]) -> Payload
     ensures { λ r. ⌜ r ≡ countedBy event wanted (now (values .entry)) ⌝ }
 {
     if values.len() != wanted as usize {
-        return Payload::Unfit(2);
+        return Payload::Unfit(number::BAD_KIND);
     }
     if all_counts(values) {
         Payload::Whole(event)
     } else {
-        Payload::Unfit(3)
+        Payload::Unfit(number::BAD_VALUE)
     }
 }
 
@@ -115,13 +171,13 @@ fn count_by(values: &[i64]) -> Payload
     ensures { λ r. ⌜ r ≡ countBy (now (values .entry)) ⌝ }
 {
     if values.len() != 1 {
-        return Payload::Unfit(2);
+        return Payload::Unfit(number::BAD_KIND);
     }
     let n = natural(values[0]);
     if n <= 65535 {
         Payload::Whole(Event::Count(n as u16))
     } else {
-        Payload::Unfit(3)
+        Payload::Unfit(number::BAD_VALUE)
     }
 }
 
@@ -129,13 +185,13 @@ fn out_by(values: &[i64]) -> Payload
     ensures { λ r. ⌜ r ≡ outBy (now (values .entry)) ⌝ }
 {
     if values.len() != 1 {
-        return Payload::Unfit(2);
+        return Payload::Unfit(number::BAD_KIND);
     }
     let n = natural(values[0]);
     if n <= 255 {
         Payload::Whole(Event::OnBus(BusEvent::Out(n as u8)))
     } else {
-        Payload::Unfit(3)
+        Payload::Unfit(number::BAD_VALUE)
     }
 }
 
@@ -143,13 +199,13 @@ fn load_by(values: &[i64]) -> Payload
     ensures { λ r. ⌜ r ≡ switchBy loadOf (now (values .entry)) ⌝ }
 {
     if values.len() != 1 {
-        return Payload::Unfit(2);
+        return Payload::Unfit(number::BAD_KIND);
     }
     let n = natural(values[0]);
     if n <= 1 {
         Payload::Whole(Event::Load(n == 1))
     } else {
-        Payload::Unfit(3)
+        Payload::Unfit(number::BAD_VALUE)
     }
 }
 
@@ -157,13 +213,13 @@ fn level_by(values: &[i64]) -> Payload
     ensures { λ r. ⌜ r ≡ switchBy levelOf (now (values .entry)) ⌝ }
 {
     if values.len() != 1 {
-        return Payload::Unfit(2);
+        return Payload::Unfit(number::BAD_KIND);
     }
     let n = natural(values[0]);
     if n <= 1 {
         Payload::Whole(Event::Level(n == 1))
     } else {
-        Payload::Unfit(3)
+        Payload::Unfit(number::BAD_VALUE)
     }
 }
 
@@ -171,13 +227,13 @@ fn in_by(values: &[i64]) -> Payload
     ensures { λ r. ⌜ r ≡ switchBy inOf (now (values .entry)) ⌝ }
 {
     if values.len() != 1 {
-        return Payload::Unfit(2);
+        return Payload::Unfit(number::BAD_KIND);
     }
     let n = natural(values[0]);
     if n <= 1 {
         Payload::Whole(Event::OnBus(BusEvent::In(n == 1)))
     } else {
-        Payload::Unfit(3)
+        Payload::Unfit(number::BAD_VALUE)
     }
 }
 
@@ -185,7 +241,7 @@ fn in_by(values: &[i64]) -> Payload
 fn near(v: i64) -> bool
     ensures { λ r. ⌜ r ≡ senseFits v ⌝ }
 {
-    (-500000 <= v) & (v <= 500000)
+    (SENSE_LEAST <= v) & (v <= SENSE_MOST)
 }
 
 // Such a value.
@@ -200,54 +256,54 @@ fn sense_by(values: &[i64]) -> Payload
     ensures { λ r. ⌜ r ≡ senseBy (now (values .entry)) ⌝ }
 {
     if values.len() != 1 {
-        return Payload::Unfit(2);
+        return Payload::Unfit(number::BAD_KIND);
     }
     let v = values[0];
     if near(v) {
         return Payload::Whole(Event::Sense(narrow(v)));
     }
-    Payload::Unfit(3)
+    Payload::Unfit(number::BAD_VALUE)
 }
 
 fn ticks_by(values: &[i64]) -> Payload
     ensures { λ r. ⌜ r ≡ repeatBy ticksOf ticksMost (now (values .entry)) ⌝ }
 {
     if values.len() != 2 {
-        return Payload::Unfit(2);
+        return Payload::Unfit(number::BAD_KIND);
     }
     let v = values[0];
     let n = natural(values[1]);
-    if near(v) & (1 <= n) & (n <= 4096) {
+    if near(v) & (1 <= n) & (n <= TICKS_MOST) {
         return Payload::Whole(Event::Ticks(narrow(v), n as u16));
     }
-    Payload::Unfit(3)
+    Payload::Unfit(number::BAD_VALUE)
 }
 
 fn soak_by(values: &[i64]) -> Payload
     ensures { λ r. ⌜ r ≡ repeatBy soakOf soakMost (now (values .entry)) ⌝ }
 {
     if values.len() != 2 {
-        return Payload::Unfit(2);
+        return Payload::Unfit(number::BAD_KIND);
     }
     let v = values[0];
     let n = natural(values[1]);
-    if near(v) & (1 <= n) & (n <= 16777216) {
+    if near(v) & (1 <= n) & (n <= SOAK_MOST) {
         return Payload::Whole(Event::Soak(narrow(v), n as u32));
     }
-    Payload::Unfit(3)
+    Payload::Unfit(number::BAD_VALUE)
 }
 
 fn wires_by(values: &[i64]) -> Payload
     ensures { λ r. ⌜ r ≡ wiresBy (now (values .entry)) ⌝ }
 {
     if values.len() != 1 {
-        return Payload::Unfit(2);
+        return Payload::Unfit(number::BAD_KIND);
     }
     let n = natural(values[0]);
     if n <= 255 {
         Payload::Whole(Event::Wires(n as u8))
     } else {
-        Payload::Unfit(13)
+        Payload::Unfit(number::NO_ROW)
     }
 }
 
@@ -256,24 +312,24 @@ fn later_by(kind: u32, part: u8, values: &[i64]) -> Payload
     ensures { λ r. ⌜ r ≡ laterBy kind part (now (values .entry)) ⌝ }
 {
     match kind {
-        0x0001 => bare_by(Event::Por, values),
-        0x0002 => bare_by(Event::Boot, values),
-        0x0003 => counted_by(Event::Scan, records::inputs_at(part), values),
-        0x0004 => counted_by(Event::Temp, records::groups_at(part), values),
-        0x0005 => count_by(values),
-        0x0006 => sense_by(values),
-        0x0007 => bare_by(Event::Pin, values),
-        0x0008 => load_by(values),
-        0x0009 => bare_by(Event::Xready, values),
-        0x0010 => bare_by(Event::OnBus(BusEvent::Start), values),
-        0x0011 => out_by(values),
-        0x0012 => in_by(values),
-        0x0013 => bare_by(Event::OnBus(BusEvent::Stop), values),
-        0x0015 => level_by(values),
-        0x0014 => ticks_by(values),
-        0x0017 => soak_by(values),
-        0x0016 => wires_by(values),
-        _ => Payload::Unfit(2),
+        KIND_POR => bare_by(Event::Por, values),
+        KIND_BOOT => bare_by(Event::Boot, values),
+        KIND_SCAN => counted_by(Event::Scan, records::inputs_at(part), values),
+        KIND_TEMP => counted_by(Event::Temp, records::groups_at(part), values),
+        KIND_COUNT => count_by(values),
+        KIND_SENSE => sense_by(values),
+        KIND_PIN => bare_by(Event::Pin, values),
+        KIND_LOAD => load_by(values),
+        KIND_XREADY => bare_by(Event::Xready, values),
+        KIND_START => bare_by(Event::OnBus(BusEvent::Start), values),
+        KIND_OUT => out_by(values),
+        KIND_IN => in_by(values),
+        KIND_STOP => bare_by(Event::OnBus(BusEvent::Stop), values),
+        KIND_LEVEL => level_by(values),
+        KIND_TICKS => ticks_by(values),
+        KIND_SOAK => soak_by(values),
+        KIND_WIRING => wires_by(values),
+        _ => Payload::Unfit(number::BAD_KIND),
     }
 }
 
@@ -287,12 +343,12 @@ fn part_by(part: u32) -> u8
 fn event_by(kind: u32, part: u32, values: &[i64]) -> Payload
     ensures { λ r. ⌜ r ≡ eventBy kind part (now (values .entry)) ⌝ }
 {
-    if kind == 0 {
+    if kind == KIND_SETUP {
         return setup_by(values);
     }
     let p = part_by(part);
     if p == 0 {
-        return Payload::Unfit(1);
+        return Payload::Unfit(number::BAD_SETUP);
     }
     later_by(kind, p, values)
 }
@@ -314,22 +370,10 @@ fn counts_at(values: &[i64]) -> Counts
 fn counts_by(event: Event, values: &[i64]) -> Counts
     ensures { λ r. ⌜ r ≡ countsBy event (now (values .entry)) ⌝ }
 {
-    match event {
-        Event::Scan => counts_at(values),
-        Event::Temp => counts_at(values),
-        Event::Setup(_) => records::no_counts(),
-        Event::Por => records::no_counts(),
-        Event::Boot => records::no_counts(),
-        Event::Count(_) => records::no_counts(),
-        Event::Sense(_) => records::no_counts(),
-        Event::Pin => records::no_counts(),
-        Event::Load(_) => records::no_counts(),
-        Event::Xready => records::no_counts(),
-        Event::OnBus(_) => records::no_counts(),
-        Event::Level(_) => records::no_counts(),
-        Event::Ticks(_, _) => records::no_counts(),
-        Event::Soak(_, _) => records::no_counts(),
-        Event::Wires(_) => records::no_counts(),
+    match events::beside_of(event) {
+        Beside::Inputs => counts_at(values),
+        Beside::Groups => counts_at(values),
+        Beside::Nothing => records::no_counts(),
     }
 }
 
@@ -365,10 +409,10 @@ fn bus_kind(event: BusEvent) -> u32
     ensures { λ r. ⌜ r ≡ kindFor (OnBus event) ⌝ }
 {
     match event {
-        BusEvent::Start => 0x0010,
-        BusEvent::Out(_) => 0x0011,
-        BusEvent::In(_) => 0x0012,
-        BusEvent::Stop => 0x0013,
+        BusEvent::Start => KIND_START,
+        BusEvent::Out(_) => KIND_OUT,
+        BusEvent::In(_) => KIND_IN,
+        BusEvent::Stop => KIND_STOP,
     }
 }
 
@@ -376,21 +420,21 @@ fn kind_of(event: Event) -> u32
     ensures { λ r. ⌜ r ≡ kindFor event ⌝ }
 {
     match event {
-        Event::Setup(_) => 0x0000,
-        Event::Por => 0x0001,
-        Event::Boot => 0x0002,
-        Event::Scan => 0x0003,
-        Event::Temp => 0x0004,
-        Event::Count(_) => 0x0005,
-        Event::Sense(_) => 0x0006,
-        Event::Pin => 0x0007,
-        Event::Load(_) => 0x0008,
-        Event::Xready => 0x0009,
+        Event::Setup(_) => KIND_SETUP,
+        Event::Por => KIND_POR,
+        Event::Boot => KIND_BOOT,
+        Event::Scan => KIND_SCAN,
+        Event::Temp => KIND_TEMP,
+        Event::Count(_) => KIND_COUNT,
+        Event::Sense(_) => KIND_SENSE,
+        Event::Pin => KIND_PIN,
+        Event::Load(_) => KIND_LOAD,
+        Event::Xready => KIND_XREADY,
         Event::OnBus(bus) => bus_kind(bus),
-        Event::Level(_) => 0x0015,
-        Event::Ticks(_, _) => 0x0014,
-        Event::Soak(_, _) => 0x0017,
-        Event::Wires(_) => 0x0016,
+        Event::Level(_) => KIND_LEVEL,
+        Event::Ticks(_, _) => KIND_TICKS,
+        Event::Soak(_, _) => KIND_SOAK,
+        Event::Wires(_) => KIND_WIRING,
     }
 }
 
@@ -525,7 +569,7 @@ fn put_named(event: Event, counts: Counts, kind: &mut u32, values: &mut [i64]) -
 {
     let n = many_of(event, counts);
     if values.len() < n {
-        return -5;
+        return answer::NO_ROOM;
     }
     *kind = kind_of(event);
     put_values(values, event, counts);
@@ -550,7 +594,7 @@ pub extern "C" fn toralinge_values(
         Read::Cut => -9,
         Read::Refused { number, next: _ } => -(number as i64),
         Read::Record { event, next } => {
-            let counts = records::counts_in(event, &bytes[4..next]);
+            let counts = records::counts_in(event, &bytes[size::HEADER..next]);
             put_named(event, counts, kind, values)
         }
     }

@@ -39,9 +39,6 @@ pub read-cut : (part : ℕ) (r : List ℕ) (n : ℕ) → n ≡ le16 r 0 → 4 �
 unfolding readOf
 read-cut part r n en h g = simp (le-ltb (length r) 4 h, lt-ltb (length r - 4) (le16 r 0) (omega arith))
 
-pub at-counts : (b : List ℕ) {r : Counts} {e e′ : Event} → e ≡ e′ → r ≡ countsIn e′ b → r ≡ countsIn e b
-at-counts b q p = p ∙ ap (λ (e : Event). countsIn e b) (sym q)
-
 abbrev pub asTaken : Read → Counts → Taken
 asTaken y k = record { read = y; counts = k }
 

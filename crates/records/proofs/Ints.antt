@@ -16,7 +16,7 @@ use Rattle.events.specs.declared.Event.{Event}
 use Rattle.events.specs.declared.Event.the-variants.{Sense}
 use Rattle.records.specs.Numbers.{signed32}
 use Rattle.records.specs.Record.{senseOf, repeatOf}
-use Rattle.records.specs.SoundLaws.{and-left}
+use Rattle.bits.specs.BoolLaws.{and-left}
 use Rattle.records.specs.RangesLaws.{fits-pos, fits-neg, as-pos, as-neg}
 use Rattle.records.specs.declared.Payload.the-variants.{Whole, Unfit}
 

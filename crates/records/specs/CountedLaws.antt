@@ -1,17 +1,16 @@
 -- Laws of the counts beside an event: as many as the payload holds, and 0 in every place after them. Assumes nothing.
 use mathlib.Core.Path.{_≡_, refl, ap, _∙_}
-use Prim.Native.Nat.{ℕ, suc, zero, _-_, _*_, _<_, _≤_}
+use Prim.Native.Nat.{ℕ, suc, zero, _-_, _*_, _≤_}
 use mathlib.Core.List.{List, [], _∷_, _++_}
 use mathlib.Core.Bool.{Bool, true, false}
 use native.Mathlib.Omega.{arith}
 use lib.Dec.{ltb}
 use lib.ListN.{length, take, drop, replicate}
 use lib.Seq.{take-append-seam, drop-append-seam}
-use borrow.Author.Tests.{ltb-true, ltb-false, eq-eqb}
+use borrow.Author.Tests.{ltb-false, eq-eqb}
 use Rattle.events.specs.Event.{within, countsFit}
 use Rattle.records.specs.Numbers.{words, filled}
-use Rattle.records.specs.Record.{groupsAt, inputsAt, countsOf}
-use Rattle.events.specs.Setup.{groups, inputs}
+use Rattle.records.specs.Record.{countsOf}
 
 pub words-count : (b : List ℕ) (n : ℕ) → length b ≡ 2 * n → length (words b) ≡ n
 words-count [] n h = omega arith
@@ -69,15 +68,3 @@ module _ (b : List ℕ) (n : ℕ) (l : length b ≡ 2 * n) (h : n ≤ 15) where
   counts-taken =
       let w : length (words b) ≡ n = words-count b n l in
       rw (← w) (filled-take (words b) (omega arith))
-
--- a part has at most 3 groups and 15 inputs
-groups-by : (part : ℕ) (t : Bool) → ltb part 3 ≡ t → (groupsAt part ≤ 3) × (inputsAt part ≡ 5 * groupsAt part)
-unfolding groups inputs
-groups-by part true e = let f : part < 3 = ltb-true _ _ e in simp e (omega arith, refl)
-groups-by part false e = simp e (omega arith, refl)
-
-pub few-groups : (part : ℕ) → groupsAt part ≤ 3
-few-groups part = groups-by part (ltb part 3) refl .0
-
-pub few-inputs : (part : ℕ) → inputsAt part ≤ 15
-few-inputs part = let g : (groupsAt part ≤ 3) × (inputsAt part ≡ 5 * groupsAt part) = groups-by part (ltb part 3) refl in omega arith

@@ -1,16 +1,12 @@
 -- SENSE's range by the sign of its value: both ends of ±500,000 are taken. Assumes nothing.
 use mathlib.Core.Path.{_≡_, refl}
 use Prim.Native.Nat.{ℕ, zero, suc, _-_, _<_, _≤_}
-use mathlib.Core.Bool.{Bool, true, false, not, _&&_}
+use mathlib.Core.Bool.{not, and-true}
 use lib.Dec.{ltb}
 use lib.IntN.{pos, negsuc}
 use borrow.Author.Tests.{lt-ltb, le-ltb}
 use Rattle.events.specs.Event.{senseMost, senseFits}
 use Rattle.records.specs.Numbers.{signed32}
-
-and-true : (t : Bool) → t && true ≡ t
-and-true true = refl
-and-true false = refl
 
 pub fits-pos : (n : ℕ) → senseFits (pos n) ≡ not (ltb senseMost n)
 fits-pos zero = refl

@@ -6,11 +6,13 @@ use lib.ListN.{length, getD, take, drop, replicate}
 use lib.Dec.{ltb, leb, eqb}
 use lib.IntN.{ℤ}
 use Rattle.events.specs.Setup.{setupFits, checkedOf, setupNumber, groups, inputs}
-use Rattle.events.specs.Event.{countMost, within, senseFits, ticksMost, soakMost, ticksFit}
+use Rattle.events.specs.Event.{besideOf, countMost, within, senseFits, ticksMost, soakMost, ticksFit}
 use Rattle.events.specs.declared.Setup.{Setup as SetupValues}
 use Rattle.events.specs.declared.Counts.{Counts}
 use Rattle.events.specs.declared.Checked.{Checked}
 use Rattle.events.specs.declared.Checked.the-variants.{Good, Bad}
+use Rattle.events.specs.declared.Beside.{Beside}
+use Rattle.events.specs.declared.Beside.the-variants.{Inputs, Groups, Nothing}
 use Rattle.events.specs.declared.BusEvent.the-variants.{Start, Out, In, Stop}
 use Rattle.events.specs.declared.Event.{Event}
 use Rattle.events.specs.declared.Event.the-variants.{Setup, Por, Boot, Scan, Temp, Count, Sense, Pin, Load, Xready, OnBus, Level, Ticks}
@@ -158,22 +160,13 @@ unfoldable pub countsOf : List ℕ → Counts
 countsOf b = record { many = cond (ltb (length b) 30) (length b / 2) 15; of = filled 15 (words b) }
 
 -- SCAN and TEMP alone have counts
+abbrev pub countsAs : Beside → List ℕ → Counts
+countsAs Inputs b = countsOf b
+countsAs Groups b = countsOf b
+countsAs Nothing b = noCounts
+
 unfoldable pub countsIn : Event → List ℕ → Counts
-countsIn (Setup v) b = noCounts
-countsIn Por b = noCounts
-countsIn Boot b = noCounts
-countsIn Scan b = countsOf b
-countsIn Temp b = countsOf b
-countsIn (Count n) b = noCounts
-countsIn (Sense v) b = noCounts
-countsIn Pin b = noCounts
-countsIn (Load l) b = noCounts
-countsIn Xready b = noCounts
-countsIn (OnBus e) b = noCounts
-countsIn (Level l) b = noCounts
-countsIn (Ticks v n) b = noCounts
-countsIn (Soak v n) b = noCounts
-countsIn (Wires n) b = noCounts
+countsIn e b = countsAs (besideOf e) b
 
 -- the counts beside what was read at the start of r
 abbrev pub countsBeside : List ℕ → Read → Counts

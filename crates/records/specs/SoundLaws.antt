@@ -11,8 +11,9 @@ use lib.Dec.{leb, eqb}
 use lib.ListN.{length, getD, take, drop}
 use lib.IntN.{ℤ}
 use borrow.Author.Tests.{eqb-true, leb-true, ne-eqb}
+use Rattle.bits.specs.BoolLaws.{and-left, and-right}
 use Rattle.events.specs.Setup.{setupFits, setupOf, checkedOf, groups, inputs}
-use Rattle.events.specs.Event.{Level as Level-, within, countMost, senseFits, ticksMost, soakMost, ticksFit, fits, countsFit, inRange}
+use Rattle.events.specs.Event.{within, countMost, senseFits, ticksMost, soakMost, ticksFit, fits, countsFit, inRange}
 use Rattle.events.specs.Event.{meantOf}
 use Rattle.events.specs.declared.Setup.{Setup as SetupValues}
 use Rattle.events.specs.declared.Counts.{Counts}
@@ -24,7 +25,8 @@ use Rattle.records.specs.Numbers.{le16, le32, signed32, bitOf, words}
 use Rattle.records.specs.Kind.{SETUP}
 use Rattle.records.specs.Record.{setupGood, checkedIn, setupIn, countedIn, senseOf, repeatOf, ticksOf, soakOf, payloadOf, laterOf}
 use Rattle.records.specs.Record.{readOf, groupsAt, inputsAt, countsOf, countsIn, countsBeside}
-use Rattle.records.specs.CountedLaws.{counts-fit, counts-taken, few-groups, few-inputs}
+use Rattle.events.specs.FewLaws.{few-groups, few-inputs}
+use Rattle.records.specs.CountedLaws.{counts-fit, counts-taken}
 use Rattle.records.specs.ReadingLaws.{WholeAt, read-whole, later-by, cond-by}
 use Rattle.records.specs.declared.Payload.{Payload}
 use Rattle.records.specs.declared.Payload.the-variants.{Whole, Unfit}
@@ -39,15 +41,6 @@ bit-small (suc (suc c)) h = absurd (omega arith)
 
 pub bit-back : (c : ℕ) → leb c 1 ≡ true → bitOf (eqb c 1) ≡ c
 bit-back c h = bit-small c (leb-true c 1 h)
-
-pub and-left : (x y : Bool) → x && y ≡ true → x ≡ true
-and-left true y h = refl
-and-left false y h = h
-
-pub and-right : (x y : Bool) → x && y ≡ true → y ≡ true
-and-right true y h = h
-and-right false true h = refl
-and-right false false h = h
 
 pub crc-back : (p c a g f : ℕ) → setupFits p c a g f ≡ true → bitOf (eqb c 1) ≡ c
 crc-back p c a g f h =
@@ -159,7 +152,7 @@ module _ (u : SetupValues) (b : List ℕ) where
   unfolding meantOf countsIn fits
   scan-ok l w =
       let n : length b ≡ 2 * inputs u = eqb-true _ _ l ∙ ap (λ (n : ℕ). 2 * n) (sym (inputs-at u)) in
-      let few : inputs u ≤ 15 = subst (λ (n : ℕ). n ≤ 15) (sym (inputs-at u)) (few-inputs (u .part)) in
+      let few : inputs u ≤ 15 = few-inputs u in
       let f : countsFit (inputs u) (countsOf b) ≡ true = counts-fit b (inputs u) n few in
       simp f (ap (within countMost) (counts-taken b (inputs u) n few) ∙ w)
 
@@ -167,7 +160,7 @@ module _ (u : SetupValues) (b : List ℕ) where
   unfolding meantOf countsIn fits
   temp-ok l w =
       let n : length b ≡ 2 * groups u = eqb-true _ _ l ∙ ap (λ (n : ℕ). 2 * n) (sym (groups-at u)) in
-      let three : groups u ≤ 3 = subst (λ (n : ℕ). n ≤ 3) (sym (groups-at u)) (few-groups (u .part)) in
+      let three : groups u ≤ 3 = few-groups u in
       let few : groups u ≤ 15 = omega arith in
       let f : countsFit (groups u) (countsOf b) ≡ true = counts-fit b (groups u) n few in
       simp f (ap (within countMost) (counts-taken b (groups u) n few) ∙ w)

@@ -10,6 +10,8 @@ ghost use Rattle.records.specs.Record.{senseOf, repeatOf, ticksOf, ticks
 use constants::kind;
 use constants::number;
 use constants::range;
+use constants::size;
+use events::Beside;
 use events::BusEvent;
 use events::Checked;
 use events::Counts;
@@ -312,16 +314,16 @@ pub fn payload_of(kind: u16, part: u8, b: &[u8]) -> Payload
 pub fn read_rest(rest: &[u8], part: u8) -> Read
     ensures { λ r. ⌜ r ≡ readOf part (now (rest .entry)) ⌝ }
 {
-    if rest.len() < 4 {
+    if rest.len() < size::HEADER {
         return Read::Cut;
     }
     let n = get16(rest, 0) as usize;
     let kind = get16(rest, 2);
-    if rest.len() - 4 < n {
+    if rest.len() - size::HEADER < n {
         return Read::Cut; // The payload runs past the end.
     }
-    let end = 4 + n;
-    match payload_of(kind, part, &rest[4..end]) {
+    let end = size::HEADER + n;
+    match payload_of(kind, part, &rest[size::HEADER..end]) {
         Payload::Whole(event) => Read::Record { event, next: end },
         Payload::Unfit(number) => Read::Refused { number, next: end },
     }
@@ -384,22 +386,10 @@ pub fn no_counts() -> Counts
 pub fn counts_in(event: Event, payload: &[u8]) -> Counts
     ensures { λ r. ⌜ r ≡ countsIn event (now (payload .entry)) ⌝ }
 {
-    match event {
-        Event::Scan => counts_of(payload),
-        Event::Temp => counts_of(payload),
-        Event::Setup(_) => no_counts(),
-        Event::Por => no_counts(),
-        Event::Boot => no_counts(),
-        Event::Count(_) => no_counts(),
-        Event::Sense(_) => no_counts(),
-        Event::Pin => no_counts(),
-        Event::Load(_) => no_counts(),
-        Event::Xready => no_counts(),
-        Event::OnBus(_) => no_counts(),
-        Event::Level(_) => no_counts(),
-        Event::Ticks(_, _) => no_counts(),
-        Event::Soak(_, _) => no_counts(),
-        Event::Wires(_) => no_counts(),
+    match events::beside_of(event) {
+        Beside::Inputs => counts_of(payload),
+        Beside::Groups => counts_of(payload),
+        Beside::Nothing => no_counts(),
     }
 }
 
@@ -421,7 +411,7 @@ pub fn take_record(s: &[u8], at: usize, part: u8) -> Taken
                 event,
                 next: at + next,
             },
-            counts: counts_in(event, &rest[4..next]),
+            counts: counts_in(event, &rest[size::HEADER..next]),
         },
         Read::Refused { number, next } => Taken {
             read: Read::Refused {
@@ -441,15 +431,18 @@ pub fn take_record(s: &[u8], at: usize, part: u8) -> Taken
 pub fn header_of(rest: &[u8]) -> Framed
     ensures { λ r. ⌜ r ≡ headerOf (now (rest .entry)) ⌝ }
 {
-    if rest.len() < 4 {
+    if rest.len() < size::HEADER {
         return Framed::Short;
     }
     let n = get16(rest, 0) as usize;
-    if rest.len() - 4 < n {
+    if rest.len() - size::HEADER < n {
         return Framed::Short;
     }
     let kind = get16(rest, 2);
-    Framed::Header { kind, next: 4 + n }
+    Framed::Header {
+        kind,
+        next: size::HEADER + n,
+    }
 }
 
 // The number of the record that a stream begins with: 0 for a good SETUP.
@@ -463,7 +456,7 @@ pub fn first_number(s: &[u8]) -> u8
     if kind != kind::SETUP {
         return number::BAD_KIND;
     }
-    match setup_in(&s[4..next]) {
+    match setup_in(&s[size::HEADER..next]) {
         Payload::Whole(_) => 0,
         Payload::Unfit(number) => number,
     }
@@ -473,12 +466,12 @@ pub fn first_number(s: &[u8]) -> u8
 pub fn frame(rest: &[u8]) -> usize
     ensures { λ r. ⌜ r ≡ frameOf (now (rest .entry)) ⌝ }
 {
-    if rest.len() < 4 {
+    if rest.len() < size::HEADER {
         return 0;
     }
     let n = get16(rest, 0) as usize;
-    if rest.len() - 4 < n {
+    if rest.len() - size::HEADER < n {
         return 0;
     }
-    4 + n
+    size::HEADER + n
 }

@@ -1,7 +1,7 @@
 -- CHIP L2: the outside level over the registers. Where it is 1 a bit of SYS_STAT is up after every event that leaves the chip
 -- in NORMAL; it raises OVRD_ALERT alone, and where a bit is up, or the level is 0, it does nothing. Assumes nothing.
 use mathlib.Core.Path.{_≡_, refl, sym, ap, _∙_}
-use mathlib.Core.Bool.{Bool, true, false, _||_, cond, true≢false}
+use mathlib.Core.Bool.{Bool, true, false, _||_, cond, true≢false, or-true}
 use Prim.Native.Nat.{ℕ}
 use Rattle.events.specs.Fault.{Fault, Ov, Uv, Scd, Ocd}
 use Rattle.registers.specs.declared.Status.{Status}
@@ -14,10 +14,6 @@ use Rattle.registers.specs.Judging.{pulledAt, coulombs, pulled, pulledBy
 -- the level 1 and SYS_STAT 0 do not stand together
 abbrev pub Calm : Registers → Type 0
 Calm r = r .«outside_level» ≡ true → alert (r .shown .status) ≡ true
-
-or-true : (b : Bool) → (b || true) ≡ true
-or-true true = refl
-or-true false = refl
 
 -- OVRD_ALERT keeps ALERT up
 pub overridden-alerts : (s : Shown) → alert (overridden s .status) ≡ true

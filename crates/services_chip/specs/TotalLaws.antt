@@ -3,14 +3,14 @@ use mathlib.Core.Path.{_≡_, refl, sym, ap, _∙_}
 use mathlib.Core.List.{List, [], _∷_}
 use Prim.Native.Nat.{ℕ, _+_, _*_}
 use native.Mathlib.Omega.{arith}
-use lib.IntN.{ℤ, pos, _+ℤ_, _*ℤ_}
+use lib.IntN.{pos, _+ℤ_, _*ℤ_}
 use lib.ListN.{length, take}
 use lib.Seq.{take-all}
 use Rattle.cell_counts.specs.Scan.{total}
 use Rattle.values.specs.Values.{gain, offsetMicrovolts}
 use Rattle.values.specs.Forecast.{totalOf}
 use Rattle.values.specs.Laws.{sumOf, total-is}
-use Rattle.season.specs.Column.{microvoltsBy}
+use Rattle.values.specs.Values.{microvoltsBy}
 
 sums : (l : List ℕ) → sumOf l ≡ total l
 sums [] = refl

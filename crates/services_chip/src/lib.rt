@@ -67,7 +67,7 @@ fn total(chip: Chip) -> i64
     let held = wiring::link(setup, cells);
     let of = held.of;
     let looked = cell_counts::look(of, held.many, 0, 0, 0);
-    season::microvolts(setup.gain_code, setup.offset, held.many as u32, looked.sum)
+    values::microvolts_by(setup.gain_code, setup.offset, held.many as u32, looked.sum)
 }
 
 // The reply to a Smart Battery command, with the sense resistor in milliohms: low byte, high byte and the PEC. Answers 0, or with nothing written the number that refuses it.

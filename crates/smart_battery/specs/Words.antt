@@ -1,7 +1,7 @@
 -- CHIP C1 to C6: the word of each command, and what refuses it. Assumes nothing.
-use mathlib.Core.Bool.{Bool, true, false, not, _&&_, _||_, cond}
-use Prim.Native.Nat.{ℕ, suc, _+_, _-_, _*_, _/_, _%_}
-use lib.Dec.{eqb, leb, ltb}
+use mathlib.Core.Bool.{Bool, _&&_, _||_, cond}
+use Prim.Native.Nat.{ℕ, suc, _+_, _-_, _*_, _/_}
+use lib.Dec.{eqb, leb}
 use lib.IntN.{ℤ, pos, negsuc, negℤ, _+ℤ_}
 use Rattle.values.specs.Values.{Said, gives, refuses, floor, dieTemperature, ccHundredths}
 use Rattle.smart_battery.specs.declared.Word.{Word}

@@ -11,24 +11,7 @@ use Rattle.stream.specs.declared.Work.the-variants.{Scans, Ticks, Hears,
 use Rattle.events.specs.declared.Event.the-variants.{Setup, Por, Boot, Scan, Temp, Count, Sense, Pin, Load, Xready, OnBus, Level}
 use Rattle.events.specs.declared.Event.the-variants.{Ticks as Repeated, Soak, Wires}
 
-abbrev pub often : Event → Bool
-often (Setup v) = false
-often Por = false
-often Boot = false
-often Scan = true
-often Temp = false
-often (Count n) = false
-often (Sense v) = true
-often Pin = false
-often (Load l) = false
-often Xready = false
-often (OnBus b) = true
-often (Level l) = false
-often (Repeated v n) = false
-often (Soak v n) = false
-often (Wires n) = false
-
--- ── and what each is to the loop, in NORMAL and in SHIP ──
+-- ── what each is to the loop, in NORMAL and in SHIP ──
 abbrev pub awakeWork : Event → Work
 awakeWork (Setup v) = Other
 awakeWork Por = Other
@@ -45,6 +28,16 @@ awakeWork (Level l) = Other
 awakeWork (Repeated v n) = Other
 awakeWork (Soak v n) = Other
 awakeWork (Wires n) = Other
+
+-- one that has an arm of its own
+abbrev pub ownArm : Work → Bool
+ownArm Scans = true
+ownArm (Ticks v) = true
+ownArm (Hears b) = true
+ownArm Other = false
+
+abbrev pub often : Event → Bool
+often e = ownArm (awakeWork e)
 
 unfoldable pub workOf : Bool → Event → Work
 workOf a e = cond a (awakeWork e) Other

@@ -5,15 +5,17 @@ ghost use Rattle.chip.specs.Outward.{saidForecast};
 ghost use Rattle.stream.specs.Forecast.{Read4};
 use crate::last_chip;
 use chip::ForecastAnswer;
+use constants::number;
+use constants::size;
 
 // The number of a reading, 0 where it is given.
 fn refusal_of(answer: ForecastAnswer) -> u8
     ensures { λ r. ⌜ r ≡ numberSaid (saidForecast answer) ⌝ }
 {
     match answer {
-        ForecastAnswer::Is(_) => 0,
-        ForecastAnswer::Asleep => 4,
-        ForecastAnswer::NotConnected => 10,
+        ForecastAnswer::Is(_) => number::DONE,
+        ForecastAnswer::Asleep => number::ASLEEP,
+        ForecastAnswer::NotConnected => number::NOT_CONNECTED,
     }
 }
 
@@ -32,8 +34,8 @@ pub extern "C" fn toralinge_reading(stream: &[u8], reading: &mut [f64]) -> u8
     let ForecastAnswer::Is(given) = answer else {
         return refusal_of(answer);
     };
-    if reading.len() < 4 {
-        return 5;
+    if reading.len() < size::READING {
+        return number::NO_ROOM;
     }
     reading[0] = given.least;
     reading[1] = given.greatest;

@@ -20,7 +20,10 @@ use bus::Store;
 use chip::Chip;
 use chip::Heard;
 use chip::Stepped;
+use constants::answer;
 use constants::number;
+use constants::size;
+use constants::weight;
 use events::BusEvent;
 use events::Event;
 use records::Read;
@@ -70,9 +73,9 @@ fn face_of(chip: Chip) -> Face
     let registers = chip.registers;
     let shown = registers.shown;
     let stat = chip.status();
-    let pins = bits::weigh(stat != 0, 4)
-        + bits::weigh(shown.chg_on, 2)
-        + bits::weigh(shown.dsg_on, 1);
+    let pins = bits::weigh(stat != 0, weight::PIN_ALERT)
+        + bits::weigh(shown.chg_on, weight::PIN_CHG)
+        + bits::weigh(shown.dsg_on, weight::PIN_DSG);
     Face { stat, pins }
 }
 
@@ -185,13 +188,13 @@ fn seldom(chip: Chip, event: Event, counts: [u16; 15]) -> Stepped
 {
     let registers = chip.registers;
     match event {
-        Event::Setup(_) => numbered(2, chip),
+        Event::Setup(_) => numbered(number::BAD_KIND, chip),
         Event::Por => chip.por(),
         Event::Boot => roused(chip),
-        Event::Scan => numbered(4, chip),
+        Event::Scan => numbered(number::ASLEEP, chip),
         Event::Temp => heated(chip, counts),
         Event::Count(cc) => registers_moved(chip, registers.coulombs(cc)),
-        Event::Sense(_) => numbered(4, chip),
+        Event::Sense(_) => numbered(number::ASLEEP, chip),
         Event::Pin => registers_moved(chip, registers.pulled()),
         Event::Load(level) => registers_moved(chip, registers.loaded(level)),
         Event::Xready => registers_moved(chip, registers.unready()),
@@ -199,7 +202,7 @@ fn seldom(chip: Chip, event: Event, counts: [u16; 15]) -> Stepped
         Event::Level(level) => registers_moved(chip, leveled(registers, level)),
         Event::Ticks(value, repeat) => chip.ticked(value, repeat as u32),
         Event::Soak(value, repeat) => chip.ticked(value, repeat),
-        Event::Wires(_) => numbered(2, chip),
+        Event::Wires(_) => numbered(number::BAD_KIND, chip),
     }
 }
 
@@ -208,7 +211,7 @@ fn roused(mut chip: Chip) -> Stepped
     ensures { λ r. ⌜ r ≡ numberedSpec 0 (withNormal true chip) ⌝ }
 {
     chip.normal = true;
-    numbered(0, chip)
+    numbered(number::DONE, chip)
 }
 
 // The registers moved, in NORMAL.
@@ -216,10 +219,10 @@ fn registers_moved(mut chip: Chip, registers: Registers) -> Stepped
     ensures { λ r. ⌜ r ≡ registersMovedSpec registers chip ⌝ }
 {
     if !chip.normal {
-        return numbered(4, chip);
+        return numbered(number::ASLEEP, chip);
     }
     chip.registers = registers;
-    numbered(0, chip)
+    numbered(number::DONE, chip)
 }
 
 // The outside level, kept and looked at.
@@ -236,9 +239,9 @@ fn heated(chip: Chip, counts: [u16; 15]) -> Stepped
     ensures { λ r. ⌜ r ≡ happened (Temp (take (groups (chip .setup)) counts)) chip ⌝ }
 {
     if !chip.normal {
-        return numbered(4, chip);
+        return numbered(number::ASLEEP, chip);
     }
-    numbered(0, chip.warmed(counts))
+    numbered(number::DONE, chip.warmed(counts))
 }
 
 // The counts beside an event that was read.
@@ -246,7 +249,7 @@ fn counted(part: u8, event: Event, rest: &[u8], next: usize) -> [u16; 15]
     requires { ⌜ readOf part (now rest) ≡ Record event next ⌝ }
     ensures { λ r. ⌜ r ≡ countsBeside (now (rest .entry)) (Record event next) .of ⌝ }
 {
-    let counts = records::counts_in(event, &rest[4..next]);
+    let counts = records::counts_in(event, &rest[size::HEADER..next]);
     counts.of
 }
 
@@ -285,8 +288,8 @@ fn note(out: &mut [u8], n: usize, e: Entry)
     requires { ⌜ 5 * n + 5 < 2 ^ 64 ⌝ }
     ensures { λ _. ⌜ now (out .exit) ≡ noted (now (out .entry)) n e ⌝ }
 {
-    let at = 5 * n;
-    if at + 5 <= out.len() {
+    let at = size::ENTRY * n;
+    if at + size::ENTRY <= out.len() {
         out[at] = e.number;
         out[at + 1] = e.flag;
         out[at + 2] = e.byte;
@@ -317,7 +320,7 @@ pub fn run_from(mut chip: Chip, mut fresh: bool, s: &[u8], out: &mut [u8]) -> Le
             };
             let open = fresh;
             fresh = false;
-            let mut answer = unanswered(0);
+            let mut answer = unanswered(number::DONE);
             match work_of(chip.normal, event) {
                 Work::Scans => {
                     chip = chip.scanned(counted(chip.setup.part, event, rest, next));
@@ -345,7 +348,7 @@ pub fn run_from(mut chip: Chip, mut fresh: bool, s: &[u8], out: &mut [u8]) -> Le
                 }
                 Work::Other => {
                     let step = act(chip, open, event, rest, next);
-                    fresh = (chip.setup.part == 0) | (open & (step.number != 0));
+                    fresh = (chip.setup.part == 0) | (open & (step.number != number::DONE));
                     chip = step.chip;
                     answer = answer_of(step);
                     face = face_of(chip);
@@ -428,8 +431,8 @@ pub extern "C" fn toralinge_play(stream: &[u8], entries: &mut [u8]) -> i64
     ensures { λ r. ⌜ Played (now (stream .entry)) (now (entries .entry)) r (now (entries .exit)) ⌝ }
 {
     let n = count(stream);
-    if entries.len() / 5 < n {
-        return -5;
+    if entries.len() / size::ENTRY < n {
+        return answer::NO_ROOM;
     }
     run_from(no_chip(), false, stream, entries);
     n as i64

@@ -1,6 +1,4 @@
 -- A double that is a whole number is a number. Assumes nothing.
-use mathlib.Core.Bool.{not}
-use lib.Dec.{T}
 use lib.IntN.{ℤ, pos, negsuc}
 use lib.Ieee.{Float, nan, inf, fin, isNan}
 use Rattle.values.specs.Double.{Equals, IsDouble}

@@ -28,7 +28,8 @@ use Rattle.records.specs.Numbers.{le16, bitOf}
 use Rattle.records.specs.Kind.{SETUP}
 use Rattle.records.specs.Record.{setupGood, checkedIn, setupIn, payloadOf, asRead, readOf, numberOf, countsBeside}
 use Rattle.records.specs.ReadingLaws.{cond-by}
-use Rattle.records.specs.SoundLaws.{and-left, and-right, IsSetup, first-setup, Meaning, wires-by, later-means}
+use Rattle.bits.specs.BoolLaws.{and-left, and-right}
+use Rattle.records.specs.SoundLaws.{IsSetup, first-setup, Meaning, wires-by, later-means}
 use Rattle.chip.specs.declared.Chip.{Chip}
 use Rattle.chip.specs.declared.Stepped.{Stepped}
 use Rattle.chip.specs.Chip.{numbered, inShip, steppedBy}

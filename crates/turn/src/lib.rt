@@ -7,6 +7,7 @@ ghost use Rattle.turn.specs.TurnedLaws.{asTurn};
 use chip::Chip;
 use chip::Stepped;
 use constants::number;
+use constants::size;
 use events::Counts;
 use events::Event;
 use events::Setup;
@@ -143,7 +144,7 @@ pub fn turn(chip: Chip, fresh: bool, rest: &[u8]) -> Turned
             told(numbered(number, chip), fresh, next, setup.part == 0)
         }
         Read::Record { event, next } => {
-            let counts = records::counts_in(event, &rest[4..next]);
+            let counts = records::counts_in(event, &rest[size::HEADER..next]);
             let step = act(chip, fresh, event, counts);
             let stays = (setup.part == 0) | (fresh & (step.number != number::DONE));
             told(step, stays, next, false)
@@ -155,8 +156,8 @@ pub fn turn(chip: Chip, fresh: bool, rest: &[u8]) -> Turned
 pub fn put(out: &mut [u8], n: usize, e: Entry)
     ensures { λ _. ⌜ now (out .exit) ≡ noted (now (out .entry)) n e ⌝ }
 {
-    if n < out.len() / 5 {
-        let at = 5 * n;
+    if n < out.len() / size::ENTRY {
+        let at = size::ENTRY * n;
         out[at] = e.number;
         out[at + 1] = e.flag;
         out[at + 2] = e.byte;

@@ -1,5 +1,5 @@
 -- The double of a whole number of at most 2 ^ 53 is that number. Assumes nothing.
-use mathlib.Core.Path.{_≡_, refl, ap, subst, sym}
+use mathlib.Core.Path.{_≡_, refl, subst}
 use mathlib.Core.Bool.{true, false}
 use Prim.Native.Nat.{suc, _^_, _≤_}
 use lib.IntN.{ℤ, pos, negsuc, natAbs}

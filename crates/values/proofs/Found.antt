@@ -7,18 +7,18 @@ use native.Mathlib.Numerals.{add-one}
 use native.Mathlib.Omega.{arith}
 use lib.ListN.{length, getD, take}
 use lib.Seq.{take-suc, take-all}
-use lib.IntN.{ℤ, pos, natAbs, _+ℤ_, _*ℤ_}
+use lib.IntN.{ℤ, pos, natAbs, _+ℤ_}
 use lib.Signed.{ltZ}
 use lib.Dec.{ltb}
 use borrow.Author.Tests.{ltb-true, ltb-false}
 use mir.Val.{Fits}
 use mir.Syntax.{w8, w16}
-use Rattle.values.specs.Values.{cellMicrovolts, ccHundredths, signed8, gain}
+use Rattle.values.specs.Values.{cellMicrovolts, ccHundredths, gain}
 use Rattle.values.specs.Double.{IsDouble}
 use Rattle.values.proofs.Exact.{moved}
 use Rattle.values.specs.declared.Reading.{Reading}
 use Rattle.values.specs.Forecast.{fold, lesser, greater, voltages, firstOf, IsReading}
-use Rattle.values.proofs.Within.{Within, lit, own, abs-add, plus, times, signed}
+use Rattle.values.proofs.Within.{lit, own, abs-add, plus, times, signed}
 
 fold-append : (f : ℤ → ℤ → ℤ) (z : ℤ) (l : List ℤ) (v : ℤ) → fold f z (l ++ (v ∷ [])) ≡ f (fold f z l) v
 unfolding fold

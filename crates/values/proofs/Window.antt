@@ -1,16 +1,16 @@
 -- Signed numbers by their positive part, `up`, and what lies outside a threshold's window. Assumes nothing.
-use mathlib.Core.Path.{_≡_, refl, sym, ap, subst, _∙_}
+use mathlib.Core.Path.{_≡_, refl, sym, subst}
 use mathlib.Core.Bool.{Bool, true, false, not, cond}
-use Prim.Native.Nat.{ℕ, zero, suc, _+_, _-_, _*_, _/_, _^_, _≤_, _<_}
-use native.Mathlib.Nat.{mul-le-mul, le-trans, lt-of-lt-of-le, lt-of-le-of-lt, div-lt-iff-lt-mul, le-div-iff-mul-le}
+use Prim.Native.Nat.{ℕ, suc, _+_, _-_, _/_, _^_, _≤_, _<_}
+use native.Mathlib.Nat.{mul-le-mul, lt-of-le-of-lt, div-lt-iff-lt-mul, le-div-iff-mul-le}
 use native.Mathlib.Omega.{arith}
-use lib.IntN.{ℤ, pos, negsuc, negℤ, natAbs, subℕ, _+ℤ_, _-ℤ_, _*ℤ_}
+use lib.IntN.{ℤ, pos, negsuc, negℤ, natAbs, subℕ, _+ℤ_, _-ℤ_}
 use lib.Dec.{T, ltb, ltb→lt, nltb→le}
 use lib.Signed.{ltZ, nonNeg}
 use mir.Syntax.{w8, w64}
 use mir.Val.{Fits}
-use borrow.Author.Tests.{lt-ltb, le-ltb, le-leb, lt-leb, ltb-true, ltb-false}
-use Rattle.values.specs.Values.{Said, gives, refuses, inWindow, floor, full, up, gain, offsetMicrovolts}
+use borrow.Author.Tests.{le-leb, lt-leb, ltb-true, ltb-false}
+use Rattle.values.specs.Values.{gives, refuses, inWindow, floor, full, up, gain, offsetMicrovolts}
 use Rattle.values.proofs.Within.{Within, abs-neg, lit, times, signed}
 
 up-cond : (P : ℕ → Type 0) (t : Bool) (x y : ℤ) → (T t → P (up x)) → (T (not t) → P (up y)) → P (up (cond t x y))

@@ -6,11 +6,11 @@ use mathlib.Core.List.{List, [], _∷_, map}
 use Prim.Native.Nat.{ℕ, zero, suc, _+_, _*_, _<_, _≤_, min}
 use native.Mathlib.Nat.{mul-zero, mul-add}
 use native.Mathlib.Omega.{arith}
-use lib.Dec.{T, ltb, ltb→lt, le→leb, not-T}
+use lib.Dec.{T, ltb→lt, le→leb, not-T}
 use lib.IntN.{ℤ, pos, negsuc, _+ℤ_, _*ℤ_, +ℤ-assoc, +ℤ-comm, +ℤ-idr, +ℤ-idl, sucℤ-*ℤ, zero-*ℤ}
 use lib.ListN.{length, getD, take, length-take}
 use lib.Seq.{getD-take}
-use lib.Signed.{ltZ, leZ, _≤ℤ_, ltZ-yes, ltZ-no, ≤ℤ-refl, <ℤ-≤ℤ-trans, clashℤ}
+use lib.Signed.{ltZ, _≤ℤ_, ltZ-yes, ltZ-no, ≤ℤ-refl, <ℤ-≤ℤ-trans, clashℤ}
 use Rattle.values.specs.Values.{gain, cellMicrovolts, offsetMicrovolts}
 use Rattle.values.specs.Forecast.{fold, lesser, greater, voltages, firstOf, leastOf, greatestOf, totalOf}
 

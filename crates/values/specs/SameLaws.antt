@@ -35,9 +35,6 @@ reason-number Window = refl
 pub settled : {A B : Type 0} (said : A → B) (told : B → A) → ((a : A) → told (said a) ≡ a) → (a b : A) → said a ≡ said b → a ≡ b
 settled said told back a b e = sym (back a) ∙ ap told e ∙ back b
 
-pub same-refusal : (a b : Refusal) → numberOf a ≡ numberOf b → a ≡ b
-same-refusal = settled numberOf reason reason-number
-
 voltage : Said ℤ → CellVoltage
 voltage (gives z) = Cell.Is (record { 0 = z })
 voltage (refuses n) = Cell.No (reason n)

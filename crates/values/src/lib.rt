@@ -2,7 +2,7 @@
 ghost use mathlib.Core.Path.{_≡_};
 ghost use Prim.Native.Nat.{_^_, _+_, _≤_, _<_, min};
 ghost use lib.IntN.{natAbs, pos};
-ghost use Rattle.values.specs.Values.{signed8, signed16, cellMicrovolts, cellSaid, ccHundredths, ohmsSaid, dieSaid, full, thresholdSaid, overSaid, underSaid, up};
+ghost use Rattle.values.specs.Values.{signed8, signed16, cellMicrovolts, microvoltsBy, cellSaid, ccHundredths, ohmsSaid, dieSaid, full, thresholdSaid, overSaid, underSaid, up};
 ghost use Rattle.values.specs.Double.{IsDouble};
 ghost use Rattle.values.specs.Forecast.{lesser, greater, IsReading};
 ghost use Rattle.values.specs.Said.{numberOf, saidVoltage, saidOhms, saidDie, saidCode};
@@ -112,6 +112,15 @@ pub fn cell_microvolts(code: u8, offset: u8, count: RawCount) -> Microvolts
     ensures { λ r. ⌜ r .0 ≡ cellMicrovolts code offset (count .0) ⌝ }
 {
     Microvolts(cell(code, offset, count.0))
+}
+
+// The sum of a cell's microvolts over scans: a count's worth for each count of their sum, and the offset once a scan.
+pub fn microvolts_by(gain_code: u8, offset: u8, scans: u32, sum: u32) -> i64
+    ensures { λ r. ⌜ r ≡ microvoltsBy «gain_code» offset scans sum ⌝ }
+{
+    let each = cell_microvolts(gain_code, 0, RawCount(1));
+    let once = cell_microvolts(gain_code, offset, RawCount(0));
+    each.0 * sum as i64 + scans as i64 * once.0
 }
 
 // A cell's voltage on bare numbers, which are judged.

@@ -3,10 +3,10 @@ use mathlib.Core.Path.{_≡_, refl, ap, ap₂, _∙_}
 use mathlib.Core.Bool.{Bool, true, false, cond}
 use Prim.Native.Nat.{ℕ, _≤_}
 use native.Mathlib.Omega.{arith}
-use lib.Dec.{ltb, leb}
+use lib.Dec.{ltb}
 use lib.IntN.{ℤ}
 use borrow.Author.Tests.{ltb-false, lt-ltb, le-leb}
-use Rattle.values.specs.Values.{Said, gives, refuses, cellMicrovolts, dieTemperature, ohms, codeFirst, countThen, cellSaid, dieSaid, ohmsSaid, full, inWindow, thresholdSaid}
+use Rattle.values.specs.Values.{Said, gives, cellMicrovolts, dieTemperature, codeFirst, countThen, cellSaid, dieSaid, ohmsSaid, full, inWindow, thresholdSaid}
 use Rattle.values_c.specs.Convert.{clipped}
 
 code-by : {A : Type 0} (g : ℕ) (f : ℕ → Said A) (t : Bool) → ltb g 255 ≡ t → codeFirst (cond t g 255) (f (cond t g 255)) ≡ codeFirst g (f g)

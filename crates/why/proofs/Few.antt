@@ -21,7 +21,8 @@ use Rattle.records.specs.declared.Read.{Read}
 use Rattle.records.specs.declared.Read.the-variants.{Record, Refused, Cut}
 use Rattle.records.specs.Record.{readOf, countsBeside}
 use Rattle.records.specs.ReadingLaws.{Placed, placed}
-use Rattle.records.specs.SoundLaws.{and-right, first-setup, IsSetup, Meaning, later-means}
+use Rattle.bits.specs.BoolLaws.{and-right}
+use Rattle.records.specs.SoundLaws.{first-setup, IsSetup, Meaning, later-means}
 use Rattle.bits.specs.Bit.{bit}
 use Rattle.chip.specs.declared.Chip.{Chip}
 use Rattle.turn.specs.Turn.{turned, turnOf}

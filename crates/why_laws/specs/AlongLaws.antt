@@ -1,33 +1,32 @@
 -- CHIP P17: the walk of why_walk over a stream whose first record is a SETUP is that of demand 3: before each record stands the chip of the
 -- events heard so far, but for its number of cells, and the streak of their verdicts. Assumes nothing.
-use mathlib.Core.Path.{_≡_, refl, sym, ap, ap₂, subst, _∙_}
-use mathlib.Core.Bool.{Bool, true, false, cond, _&&_, _||_, true≢false}
+use mathlib.Core.Path.{_≡_, refl, sym, ap, subst, _∙_}
+use mathlib.Core.Bool.{Bool, true, false, cond, _&&_, true≢false}
 use mathlib.Core.Logic.{_≢_}
 use mathlib.Core.List.{List, [], _∷_, map}
 use Prim.Native.Nat.{ℕ, zero, suc, _+_, _-_, _<_, _≤_}
 use native.Mathlib.Omega.{arith}
 use native.Mathlib.Nat.{zero-add}
-use lib.Dec.{eqb, leb}
+use lib.Dec.{leb}
 use lib.ListN.{length, drop, getD}
 use lib.IntN.{ℤ}
 use lib.Seq.{drop-drop, drop-length}
-use borrow.Author.Tests.{leb-true, ne-eqb}
+use borrow.Author.Tests.{leb-true}
 use Rattle.events.specs.declared.Setup.{Setup as SetupValues}
 use Rattle.events.specs.declared.Counts.{Counts}
 use Rattle.events.specs.declared.Event.{Event as Coded}
 use Rattle.events.specs.declared.Event.the-variants.{Setup, Por, Boot, Scan, Temp, Count, Sense, Pin, Load, Xready, OnBus, Level, Ticks}
 use Rattle.events.specs.declared.Event.the-variants.{Soak, Wires}
-use Rattle.events.specs.Event.{Event, Meant, ticks, unfit, ticksFit, senseFits, countsFit, countsWanted, eventOf, meantOf, inRange}
+use Rattle.events.specs.Event.{Event, Meant, unfit, ticksFit, senseFits, countsFit, eventOf, meantOf, inRange}
 use Rattle.events.specs.Fault.{Fault, Ov, Uv, Scd, Ocd}
 use Rattle.records.specs.declared.Read.{Read}
 use Rattle.records.specs.declared.Read.the-variants.{Record, Refused, Cut}
 use Rattle.records.specs.Record.{readOf, countsBeside}
-use Rattle.records.specs.SoundLaws.{and-left, and-right, Meaning, isWires, wires-by, later-means}
+use Rattle.bits.specs.BoolLaws.{and-left, and-right}
+use Rattle.records.specs.SoundLaws.{Meaning, wires-by, later-means}
 use Rattle.protection.specs.Streak.{streak}
 use Rattle.chip.specs.declared.Chip.{Chip}
-use Rattle.chip.specs.Chip.{inShip}
-use Rattle.chip.specs.Core.{Core, coreOf, bare}
-use Rattle.turn.specs.declared.Entry.{Entry}
+use Rattle.chip.specs.Core.{bare}
 use Rattle.turn.specs.Turn.{Turn, none, acted, turned, turnOf}
 use Rattle.turn.specs.Entries.{entries}
 use Rattle.demands.specs.Demand.{chip, core, verdicts}
@@ -35,14 +34,12 @@ use Rattle.demands.specs.History.{setup-is, core-is, awake-is, asleep-none}
 use Rattle.demands.specs.Aside.{withMeant}
 use Rattle.demands.specs.Wired.{celled}
 use Rattle.demands.specs.BytesLaws.{place, heardTo}
-use Rattle.demands.specs.Streams.{restAfter, heardNext, freshNext, cellsNext, historiesBy, histories, Untouched, Took}
+use Rattle.demands.specs.Streams.{restAfter, heardNext, cellsNext, historiesBy, histories, Untouched, Took}
 use Rattle.demands.specs.Streams.{took, turn-is, goes-on, a-part, shows, toShow, entries-show}
-use Rattle.plain_back.specs.declared.Streaks.{Streaks}
 use Rattle.plain_back.specs.declared.Walk.{Walk}
 use Rattle.plain_back.specs.Said.{streakOf, streaksOf}
 use Rattle.plain_back.specs.Walk.{walkedBy, Tracks, tracks-walked}
 use Rattle.why_walk.specs.declared.Says.{Says}
-use Rattle.why_walk.specs.declared.Standing.{Standing}
 use Rattle.why_walk.specs.Says.{saysNone, saysRead, saysIn, eventSays, streakAfter}
 use Rattle.why_walk.specs.Standing.{advanced, standingAt}
 use Rattle.why_laws.specs.StreakLaws.{repeats, says-bare, adds}

@@ -1,5 +1,5 @@
 -- CHIP P17, H1, H2: a bit that rises in a record rises at one of its events, and is due there. Assumes nothing.
-use mathlib.Core.Path.{_≡_, refl, sym, ap, subst, _∙_}
+use mathlib.Core.Path.{_≡_, refl, sym, ap, _∙_}
 use mathlib.Core.Bool.{Bool, true, false, cond, _||_, true≢false}
 use mathlib.Core.List.{List, [], _∷_, _++_}
 use Prim.Native.Nat.{ℕ, zero, suc}
@@ -14,9 +14,9 @@ use Rattle.registers.specs.Fault.{bitOf}
 use Rattle.protection.specs.Streak.{lastAll, lastAll-is}
 use Rattle.protection.specs.Rule.{rule}
 use Rattle.chip.specs.declared.Chip.{Chip}
-use Rattle.chip.specs.Chip.{stepped, next}
+use Rattle.chip.specs.Chip.{stepped}
 use Rattle.chip.specs.Core.{Core, coreOf}
-use Rattle.demands.specs.Demand.{judges, chip, up, Accepted, core, verdicts, delay, Due}
+use Rattle.demands.specs.Demand.{judges, chip, up, Accepted, verdicts, delay, Due}
 use Rattle.demands.specs.Refused.{refused}
 use Rattle.demands.specs.History.{core-is, delay-is, rises}
 use Rattle.demands.specs.Theorem.{nothing-else-raises}

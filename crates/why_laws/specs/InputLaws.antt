@@ -11,26 +11,22 @@ use Rattle.events.specs.declared.Counts.{Counts}
 use Rattle.events.specs.declared.Event.{Event as Coded}
 use Rattle.events.specs.declared.Event.the-variants.{Setup, Por, Boot, Scan, Temp, Count, Sense, Pin, Load, Xready, OnBus, Level, Ticks}
 use Rattle.events.specs.declared.Event.the-variants.{Soak, Wires}
-use Rattle.events.specs.Setup.{inputs}
-use Rattle.events.specs.Event.{Event, Scan as Scanned, Meant, unfit, countsFit, countsWanted, eventOf, meantOf, eventsIn}
+use Rattle.events.specs.Event.{Event, Scan as Scanned, unfit, countsFit, countsWanted, eventOf, meantOf}
 use Rattle.events.specs.Fault.{Fault, Ov, Uv, Scd, Ocd}
-use Rattle.records.specs.SoundLaws.{and-left, and-right}
+use Rattle.bits.specs.BoolLaws.{and-left, and-right}
 use Rattle.settings.specs.declared.Settings.{Settings}
 use Rattle.cell_counts.specs.Scan.{some}
 use Rattle.protection.specs.Streak.{lastAll, lastAll-is}
 use Rattle.protection.specs.Rule.{rule, over, under, opinion}
 use Rattle.protection.specs.TablesLaws.{need-fair}
-use Rattle.chip.specs.declared.Chip.{Chip}
-use Rattle.chip.specs.Core.{coreOf, bare}
-use Rattle.demands.specs.Demand.{ofCells, judges, chip, core, standing, verdicts, delay, Due}
-use Rattle.demands.specs.History.{setup-is, core-is, verdicts-are}
+use Rattle.chip.specs.Core.{bare}
+use Rattle.demands.specs.Demand.{ofCells, judges, core, standing, verdicts, delay}
+use Rattle.demands.specs.History.{verdicts-are}
 use Rattle.demands.specs.BytesLaws.{place}
-use Rattle.demands.specs.Wired.{celled}
 use Rattle.why_walk.specs.declared.Says.{Says}
-use Rattle.why_walk.specs.Says.{isOutside, lowest, saysScan, scanSays, eventSays}
+use Rattle.why_walk.specs.Says.{isOutside, lowest, saysScan, scanSays}
 use Rattle.why_laws.specs.LowestLaws.{LowestAt, lowest-is, lowest-some}
-use Rattle.why_laws.specs.StreakLaws.{says-bare}
-use Rattle.why_laws.specs.DueLaws.{Alike, alikeBy, meant-alike, RisesAt, RisesIn}
+use Rattle.why_laws.specs.DueLaws.{Alike, alikeBy, RisesAt}
 
 -- what is outside, for a fault of the cells
 abbrev pub outsideOf : Fault → ℕ → ℕ → ℕ → Bool

@@ -2,7 +2,7 @@
 -- spell in which the records so far end, are true. Assumes nothing.
 use mathlib.Core.Path.{_≡_, refl, sym, ap, _∙_}
 use mathlib.Core.Bool.{Bool, true, false, cond, _&&_}
-use mathlib.Core.List.{List, []}
+use mathlib.Core.List.{List}
 use Prim.Native.Nat.{ℕ, zero, suc, _+_, _≤_}
 use native.Mathlib.Omega.{arith}
 use lib.Dec.{eqb}
@@ -25,9 +25,8 @@ use Rattle.demands.specs.Wired.{celled}
 use Rattle.plain_back.specs.declared.Streaks.{Streaks}
 use Rattle.plain_back.specs.declared.Walk.{Walk}
 use Rattle.plain_back.specs.Said.{streakOf, noStreaks}
-use Rattle.plain_back.specs.Walk.{goesOn, scanIn, ticksIn, scanSaid, ticksSaid, movedTo, movedBy, walkedBy}
-use Rattle.why_walk.specs.declared.Says.{Says}
-use Rattle.why_walk.specs.Says.{saysNone, saysScan, saysTicks, scanSays, ticksSay, eventSays, streakAfter, isOutside}
+use Rattle.plain_back.specs.Walk.{goesOn, scanIn, ticksIn, scanSaid, ticksSaid, movedBy, walkedBy}
+use Rattle.why_walk.specs.Says.{saysScan, scanSays, ticksSay, eventSays, streakAfter}
 use Rattle.why_laws.specs.LowestLaws.{above-some, between-some}
 
 -- the number of cells says nothing, nor anything else than the setup and the settings

@@ -8,7 +8,6 @@ use mathlib.Core.Logic.{_≢_}
 use mathlib.Core.List.{List, [], _∷_, _++_}
 use Prim.Native.Nat.{ℕ, zero, suc, _-_, _<_, _≤_}
 use native.Mathlib.Omega.{arith}
-use lib.Dec.{eqb}
 use lib.ListN.{length, take, drop, getD, length-append}
 use borrow.Author.Tests.{ne-eqb}
 use Rattle.bits.specs.Bit.{bit}
@@ -27,7 +26,6 @@ use Rattle.protection.specs.Streak.{streak}
 use Rattle.protection.specs.Rule.{rule}
 use Rattle.chip.specs.declared.Chip.{Chip}
 use Rattle.chip.specs.Core.{Core, bare}
-use Rattle.turn.specs.declared.Entry.{Entry}
 use Rattle.turn.specs.Entries.{entries}
 use Rattle.demands.specs.Demand.{ofCells, chip, up, standing, verdicts, delay}
 use Rattle.demands.specs.History.{setup-is, core-is}
@@ -40,7 +38,7 @@ use Rattle.why_walk.specs.Says.{saysRead, saysIn, eventSays}
 use Rattle.why_walk.specs.Standing.{standingAt}
 use Rattle.why.specs.declared.Rose.{Rose}
 use Rattle.why.specs.declared.Why.{Why}
-use Rattle.why.specs.Rise.{risen, searched}
+use Rattle.why.specs.Rise.{risen}
 use Rattle.why.specs.Why.{isJudged, causeOf, needOf, limitOf, leastOf, judged, unjudged, whyOf}
 use Rattle.why_laws.specs.RiseLaws.{shownIn, RoseAt, bit-rose, bit-stood}
 use Rattle.why_laws.specs.StreakLaws.{says-bare}

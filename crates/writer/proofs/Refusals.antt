@@ -3,7 +3,7 @@
 use mathlib.Core.Path.{_≡_, refl, ap, sym, _∙_, subst}
 use Prim.Native.Nat.{ℕ}
 use mathlib.Core.List.{List, [], _∷_, _++_}
-use mathlib.Core.Bool.{Bool, true, false, cond, _&&_}
+use mathlib.Core.Bool.{Bool, true, false, cond, _&&_, and-true}
 use lib.IntN.{ℤ}
 use lib.Dec.{leb, eqb}
 use borrow.Author.Tests.{ne-eqb, eq-eqb}
@@ -26,10 +26,6 @@ use Rattle.writer.specs.declared.Wrote.the-variants.{Refused}
 bit-fits : (t : Bool) → leb (bitOf t) 1 ≡ true
 bit-fits true = refl
 bit-fits false = refl
-
-and-true : (b : Bool) → b && true ≡ b
-and-true true = refl
-and-true false = refl
 
 pub good-is : (v : Setup) → leb 1 (v .part) && leb (v .part) 3 && leb 0x08 (v .address) && leb (v .address) 0x77 && leb (v .«gain_code») 31 && leb (v .floor) 4095 && eqb (v .cells) 0 ≡ setupGood v
 good-is v =

@@ -12,7 +12,7 @@ use Rattle.events.specs.declared.Event.the-variants.{Setup as Setup-, Por, Boot
 use Rattle.events.specs.declared.Event.the-variants.{Level, Ticks, Soak, Wires}
 use Rattle.ranges.specs.CountedLaws.{fit-is}
 use Rattle.records.specs.Record.{standing}
-use Rattle.records.specs.CountedLaws.{few-groups, few-inputs}
+use Rattle.events.specs.FewLaws.{few-groups, few-inputs}
 use Rattle.writer.specs.Write.{partFor, valueRefusal, refusalFor, Puts}
 use Rattle.writer.specs.declared.Wrote.{Wrote}
 
@@ -20,8 +20,8 @@ pub wanted-few : (part : ℕ) (e : Event) → countsWanted (standing part) e ≤
 wanted-few part (Setup- v) = omega arith
 wanted-few part Por = omega arith
 wanted-few part Boot = omega arith
-wanted-few part Scan = few-inputs part
-wanted-few part Temp = omega (arith, few-groups part)
+wanted-few part Scan = few-inputs (standing part)
+wanted-few part Temp = omega (arith, few-groups (standing part))
 wanted-few part (Count n) = omega arith
 wanted-few part (Sense v) = omega arith
 wanted-few part Pin = omega arith

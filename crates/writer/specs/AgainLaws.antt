@@ -25,9 +25,11 @@ use Rattle.records.specs.Kind.{WIRES}
 use Rattle.records.specs.Numbers.{le16, le32, signed32, bitOf, words}
 use Rattle.records.specs.Record.{setupGood, checkedIn, setupIn, countedIn, senseOf, repeatOf, ticksOf, soakOf, groupsAt, inputsAt}
 use Rattle.records.specs.Record.{standing, laterOf, payloadOf, readOf, countsOf, countsIn, countsBeside}
-use Rattle.records.specs.CountedLaws.{many-is, counts-taken, few-groups, few-inputs}
+use Rattle.records.specs.CountedLaws.{many-is, counts-taken}
+use Rattle.events.specs.FewLaws.{few-groups, few-inputs}
 use Rattle.records.specs.ReadingLaws.{WholeAt, read-whole, later-by, cond-by}
-use Rattle.records.specs.SoundLaws.{bit-back, crc-back, and-left, IsSetup, first-setup, Meaning, isWires, later-means}
+use Rattle.bits.specs.BoolLaws.{and-left}
+use Rattle.records.specs.SoundLaws.{bit-back, crc-back, IsSetup, first-setup, Meaning, isWires, later-means}
 use Rattle.records.specs.declared.Payload.{Payload}
 use Rattle.records.specs.declared.Payload.the-variants.{Whole, Unfit}
 use Rattle.records.specs.declared.Read.the-variants.{Record}
@@ -59,9 +61,9 @@ module _ (b : List ℕ) (h : Bytes b) where
       (sized POR 0 (Whole Por) (λ l. (refl, none-forth b l)))
       (sized BOOT 0 (Whole Boot) (λ l. (refl, none-forth b l)))
       (sized SCAN (2 * inputsAt part) (cond counts (Whole Scan) (Unfit 3))
-      (λ l. ranged SCAN counts (Whole Scan) (λ f. (refl, counts-forth (inputsAt part) (few-inputs part) l))))
+      (λ l. ranged SCAN counts (Whole Scan) (λ f. (refl, counts-forth (inputsAt part) (few-inputs (standing part)) l))))
       (sized TEMP (2 * groupsAt part) (cond counts (Whole Temp) (Unfit 3))
-      (λ l. ranged TEMP counts (Whole Temp) (λ f. (refl, counts-forth (groupsAt part) (omega (arith, few-groups part)) l))))
+      (λ l. ranged TEMP counts (Whole Temp) (λ f. (refl, counts-forth (groupsAt part) (omega (arith, few-groups (standing part))) l))))
       (sized COUNT 2 (Whole (Count (le16 b 0))) (λ l. (refl, two-forth b l h)))
       (sized SENSE 4 (senseOf (le32 b 0)) (λ l. ranged SENSE (senseFits value) (Whole (Sense value)) (λ f. (refl, four-forth b l h))))
       (sized PIN 0 (Whole Pin) (λ l. (refl, none-forth b l)))

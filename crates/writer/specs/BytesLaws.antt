@@ -14,7 +14,7 @@ use Rattle.events.specs.declared.Event.the-variants.{Sense}
 use Rattle.records.specs.Numbers.{le16, le32, signed32, bitOf, words}
 use Rattle.records.specs.Record.{senseOf, repeatOf}
 use Rattle.records.specs.RangesLaws.{fits-pos, fits-neg, as-pos, as-neg}
-use Rattle.records.specs.SoundLaws.{and-left, and-right}
+use Rattle.bits.specs.BoolLaws.{and-left, and-right}
 use Rattle.records.specs.declared.Payload.the-variants.{Whole, Unfit}
 use Rattle.writer.specs.Write.{bytes16, bytes32, bits32, wordBytes}
 

@@ -25,7 +25,7 @@ use Rattle.records.specs.Record.{setupGood, checkedIn, setupIn, countedIn, tick
 use Rattle.records.specs.Record.{asRead, readOf, noCounts, countsOf, countsIn, countsBeside, takenFrom, takenAt}
 use Rattle.records.specs.CountedLaws.{many-is}
 use Rattle.records.specs.ReadingLaws.{taken-moved}
-use Rattle.records.specs.SoundLaws.{and-left, and-right}
+use Rattle.bits.specs.BoolLaws.{and-left, and-right}
 use Rattle.records.specs.declared.Payload.the-variants.{Whole}
 use Rattle.records.specs.declared.Read.the-variants.{Record}
 use Rattle.records.specs.declared.Taken.{Taken}

@@ -12,14 +12,13 @@ ghost use Rattle.writer.specs.CheckedLaws.{refusalAt};
 use constants::kind;
 use constants::number;
 use constants::range;
+use constants::size;
 use events::BusEvent;
 use events::Counts;
 use events::Event;
 use events::Setup;
 
-// A record's header, and its longest payload.
-const HEADER: usize = 4;
-
+// A record's longest payload.
 const PAYLOAD_MOST: usize = 30;
 
 // What writing gives: how many bytes it wrote, or the number it is refused with.
@@ -86,15 +85,15 @@ fn write_bytes(out: &mut [u8], kind: u16, payload: &[u8]) -> Wrote
     ensures { λ r. ⌜ Writes (recordOf kind (now (payload .entry))) (now (out .entry)) r (now (out .exit)) ⌝ }
 {
     let n = payload.len();
-    if out.len() < HEADER + n {
+    if out.len() < size::HEADER + n {
         return Wrote::Refused(number::NO_ROOM);
     }
     out[0] = (n % 256) as u8;
     out[1] = (n / 256) as u8;
     out[2] = (kind % 256) as u8;
     out[3] = (kind / 256) as u8;
-    put_bytes(out, HEADER, payload);
-    Wrote::Done(HEADER + n)
+    put_bytes(out, size::HEADER, payload);
+    Wrote::Done(size::HEADER + n)
 }
 
 // A record whose payload is numbers of 2 bytes.
@@ -309,7 +308,7 @@ pub fn write_record(event: Event, counts: Counts, part: u8, out: &mut [u8]) -> W
     ensures { λ r. ⌜ Puts (refusalFor event counts part) (recordFor event counts) (now (out .entry)) r (now (out .exit)) ⌝ }
 {
     let number = refusal(event, counts, part);
-    if number != 0 {
+    if number != number::DONE {
         return Wrote::Refused(number);
     }
     put_event(event, counts, out)

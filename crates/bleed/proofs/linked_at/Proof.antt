@@ -1,12 +1,8 @@
 -- No weight is 0.
-use mathlib.Core.Path.{_≡_, refl}
-use mathlib.Core.Bool.{Bool, true, _&&_}
-use mathlib.Core.List.{List, [], _∷_}
-use Prim.Native.Nat.{ℕ, zero, suc, _<_}
-use native.Mathlib.Omega.{arith}
-use lib.ListN.{length, getD}
+use mathlib.Core.Path.{refl}
+use Prim.Native.Nat.{_<_}
 use borrow.Author.Needs.{needs}
-use Rattle.bleed.specs.Excess.{linkedAt, weights, weights-up}
+use Rattle.bleed.specs.Excess.{linkedAt, weights-up}
 use Rattle.bleed.proofs.linked_at.Statement.{statement}
 use Rattle.bleed.proofs.linked_at.Tie as tie
 

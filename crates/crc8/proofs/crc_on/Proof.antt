@@ -1,10 +1,8 @@
 use Prim.Native.Nat.{ℕ, _≤_, _-_, _+_}
 use mathlib.Core.Path.{_≡_, refl, ap, sym, _∙_}
 use native.Mathlib.Omega.{arith}
-use native.Mathlib.Numerals.{add-one}
 use borrow.Author.Needs.{needs}
-use lib.ListN.{length, drop, getD}
-use lib.Seq.{drop-cons}
+use lib.ListN.{length, drop}
 use Rattle.crc8.specs.Laws.{crcOn-next, crcOn-done}
 use Rattle.crc8.specs.Crc.{crcOn}
 use Rattle.crc8.proofs.crc_on.Statement.{statement}

@@ -1,4 +1,3 @@
-use borrow.Author.Tests.{lt-ltb, le-ltb}
 use Rattle.events.specs.Setup.{checkedOf}
 use Rattle.events.proofs.setup_of.Statement.{statement}
 use Rattle.events.proofs.setup_of.Tie as tie

@@ -4,7 +4,7 @@ use lib.IntN.{pos}
 use Rattle.record_c.specs.Calls.{countedFew, wroteAnswer}
 use mir.Facts.{toZ-pos}
 use mir.Syntax.{w64}
-use mathlib.Core.Path.{_≡_, sym, ap, subst, _∙_}
+use mathlib.Core.Path.{sym, ap, subst, _∙_}
 use Rattle.record_c.proofs.Ints.{minus-fits, minus-is}
 use borrow.Author.Needs.{needs}
 use Rattle.record_c.proofs.answer_of.Statement.{statement}

@@ -1,6 +1,6 @@
 -- The first record's number, by its header and then its payload (Framing).
 use mathlib.Core.Path.{_≡_, sym, ap, _∙_}
-use Prim.Native.Nat.{ℕ, _≤_}
+use Prim.Native.Nat.{_≤_}
 use lib.ListN.{length}
 use native.Mathlib.Omega.{arith}
 use Rattle.records.specs.Frame.{headerOf}

@@ -1,9 +1,4 @@
 -- Field by field.
-use mathlib.Core.Path.{ap}
-use mathlib.Core.Bool.{not}
-use Prim.Native.Nat.{ℕ}
-use lib.Dec.{eqb}
-use lib.ListN.{getD}
 use borrow.Author.Needs.{needs}
 use Rattle.services_chip.proofs.pack_of.Statement.{statement}
 use Rattle.services_chip.proofs.pack_of.Tie as tie

@@ -1,11 +1,10 @@
 -- By what the chip has.
-use mathlib.Core.Path.{_≡_, _∙_, ap, subst}
+use mathlib.Core.Path.{_≡_, subst}
 use mathlib.Core.List.{List}
 use Prim.Native.Nat.{ℕ}
 use lib.IntN.{ℤ}
 use Rattle.values.proofs.Within.{result}
 use borrow.Author.Needs.{needs}
-use Rattle.values.specs.Values.{Said}
 use Rattle.smart_battery.specs.declared.Pack.{Pack}
 use Rattle.smart_battery.specs.Words.{wordFor}
 use Rattle.smart_battery.specs.Reply.{Replied}

@@ -13,7 +13,7 @@ use Rattle.wiring.specs.Kept.{countsOf, take-padded, picked-many}
 use Rattle.wiring.specs.Linked.{few-linked}
 use Rattle.chip.specs.declared.Chip.{Chip}
 use Rattle.chip.specs.Outward.{linkedCounts}
-use Rattle.season.specs.Column.{microvoltsBy}
+use Rattle.values.specs.Values.{microvoltsBy}
 use Rattle.services_chip.specs.Care.{linkedTotal}
 use Rattle.services_chip.specs.TotalLaws.{total-by}
 use Rattle.services_chip.proofs.total.Statement.{statement}
@@ -39,7 +39,7 @@ returns c =
     let o = c .before .before in
     let h = o .before .before in
     let k = h .before .before .before .before .before .args .chip in
-    result (c .microvolts .ok) (c .microvolts .ensures ∙ total-of k (h .link .result) (o .look .result) (h .link .ensures) (o .look .ensures))
+    result (c .microvolts-by .ok) (c .microvolts-by .ensures ∙ total-of k (h .link .result) (o .look .result) (h .link .ensures) (o .look .ensures))
 
 pub total-spec : {M : Type 1} → statement M
 total-spec = tie.close (tie.spec (λ c κs. search needs) (λ c κs. search needs) (λ c. search needs) (λ c κs. search needs) returns)

@@ -1,7 +1,6 @@
 -- By the laws of the word, with and without a sign.
 use mathlib.Core.Path.{sym}
 use Prim.Native.Nat.{_<_}
-use native.Mathlib.Omega.{arith}
 use borrow.Author.Needs.{needs}
 use Rattle.smart_battery.specs.Laws.{charge-is, charge-far, draw-is, draw-far}
 use Rattle.smart_battery.proofs.current.Statement.{statement}

@@ -1,7 +1,7 @@
 -- Three stores at the start, where they fit.
 use Prim.Native.Nat.{ℕ, _<_, _≤_, _%_, _/_}
-use mathlib.Core.Path.{_≡_, refl, ap, _∙_}
-use mathlib.Core.List.{List, []}
+use mathlib.Core.Path.{_≡_, _∙_}
+use mathlib.Core.List.{List}
 use native.Mathlib.Omega.{arith}
 use lib.ListN.{length, length-set, set}
 use borrow.Author.Needs.{needs}

@@ -1,7 +1,7 @@
 -- By the sign of the total.
-use mathlib.Core.Path.{_≡_, sym, ap, _∙_, subst, refl}
-use mathlib.Core.Bool.{Bool, true, false, cond}
-use Prim.Native.Nat.{ℕ, _<_, _≤_, _/_}
+use mathlib.Core.Path.{_≡_, sym, subst, refl}
+use mathlib.Core.Bool.{true, false}
+use Prim.Native.Nat.{_<_, _≤_, _/_}
 use native.Mathlib.Omega.{arith}
 use lib.Dec.{T}
 use lib.IntN.{ℤ, pos, negsuc, natAbs}
@@ -11,7 +11,7 @@ use mir.Val.{Fits, SFits, toZ, ofZ}
 use mir.Facts.{toZ-ofZ}
 use borrow.Author.Needs.{needs}
 use borrow.Author.Tests.{le-leb, lt-leb, ltb-true}
-use Rattle.values.specs.Values.{Said, gives, refuses}
+use Rattle.values.specs.Values.{gives, refuses}
 use Rattle.smart_battery.specs.Words.{unsignedSaid, millivolts}
 use Rattle.smart_battery.proofs.voltage.Statement.{statement}
 use Rattle.smart_battery.proofs.voltage.Tie as tie

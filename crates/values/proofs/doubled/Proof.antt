@@ -1,9 +1,9 @@
 -- `values::doubled` meets its contract. Assumes nothing.
-use mathlib.Core.Path.{_≡_, refl, ap, _∙_}
+use mathlib.Core.Path.{refl}
 use Prim.Native.Nat.{_^_}
 use mir.Syntax.{w64}
 use mir.Facts.{toZ-ofZ}
-use Rattle.values.proofs.Within.{Within, back, whole}
+use Rattle.values.proofs.Within.{back, whole}
 use Rattle.values.proofs.Exact.{exact}
 use Rattle.values.proofs.doubled.Statement.{statement}
 use Rattle.values.proofs.doubled.Tie as tie

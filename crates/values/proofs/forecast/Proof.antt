@@ -1,7 +1,7 @@
 -- `values::forecast` meets its contract: the loop has found the least, the greatest and the total of the first i voltages (`Found`). Assumes nothing.
 use borrow.Author.Needs.{needs}
 use native.Mathlib.Omega.{arith}
-use Prim.Native.Nat.{_+_, _-_, _*_, _≤_, _<_, _^_}
+use Prim.Native.Nat.{_+_, _-_, _*_, _<_, _^_}
 use mathlib.Core.Path.{_≡_, refl, ap, _∙_}
 use lib.ListN.{length, getD}
 use lib.IntN.{_+ℤ_}

@@ -1,5 +1,5 @@
 -- The value or the number that refuses, by what the conversion answers.
-use mathlib.Core.Path.{_≡_, refl, _∙_}
+use mathlib.Core.Path.{refl, _∙_}
 use Rattle.values.specs.Said.{saidOhms}
 use Rattle.values_c.proofs.Given.{gives-as}
 use Rattle.values_c.proofs.Wide.{ohms-wide}

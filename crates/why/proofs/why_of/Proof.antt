@@ -1,5 +1,4 @@
 -- By whether the bit is judged.
-use Prim.Native.Nat.{_-_}
 use native.Mathlib.Omega.{arith}
 use borrow.Author.Tests.{not-true, not-false}
 use Rattle.why.proofs.Cases.{why-unjudged, why-judged}

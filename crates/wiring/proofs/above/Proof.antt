@@ -1,7 +1,7 @@
 -- `above` looks at the inputs from the last down (Downward), and its bits are few (Linked).
 use borrow.Author.Needs.{needs}
-use mathlib.Core.Path.{_≡_, refl}
-use Prim.Native.Nat.{ℕ, _+_, _-_, _≤_}
+use mathlib.Core.Path.{_≡_}
+use Prim.Native.Nat.{_+_, _-_, _≤_}
 use native.Mathlib.Omega.{arith}
 use Rattle.wiring.specs.Rows.{bits}
 use Rattle.wiring.specs.Linked.{aboveFloor, few-bits}

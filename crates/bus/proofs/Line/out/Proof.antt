@@ -1,4 +1,4 @@
-use Rattle.bus.specs.Bus.{outed, outIn}
+use Rattle.bus.specs.Bus.{outed}
 use borrow.Author.Needs.{needs}
 use Rattle.bus.proofs.Line.out.Statement.{statement}
 use Rattle.bus.proofs.Line.out.Tie as tie

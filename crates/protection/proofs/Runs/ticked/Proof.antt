@@ -1,5 +1,4 @@
 -- `Runs::ticked` meets its contract: one look is enough for ticks of one value.
-use mathlib.Core.Path.{sym, _∙_}
 use Rattle.protection.specs.Repeat.{ticks-alike}
 use mir.Facts.{toZ-ofZ}
 use borrow.Author.Needs.{needs}
