@@ -27,10 +27,7 @@ use protection::Judged;
 use protection::Runs;
 use registers::Registers;
 
-pub mod outward;
-
-pub use outward::CellAnswer;
-pub use outward::ForecastAnswer;
+mod outward;
 
 pub struct Chip {
     pub setup: Setup,

@@ -8,13 +8,13 @@ use lib.Dec.{eqb, ltb}
 use lib.Ieee.{Float}
 use lib.ListN.{length, set}
 use borrow.Author.Tests.{eq-eqb, ne-eqb, lt-ltb, le-ltb, ltb-false, lt-leb}
-use Rattle.values.specs.Values.{Said, gives, refuses, numberSaid, valueSaid}
+use Rattle.constants.specs.Answer.{Said, gives, refuses, numberSaid, valueSaid}
 use Rattle.values.specs.declared.Reading.{Reading}
 use Rattle.registers.specs.Read.{readAt}
 use Rattle.wiring.specs.Rows.{packCells}
 use Rattle.wiring.specs.Numbered.{few-cells}
 use Rattle.chip.specs.declared.Chip.{Chip}
-use Rattle.chip.specs.Outward.{voltageSaid, Reads, forecastNumber}
+use Rattle.chip_voltage.specs.Voltage.{voltageSaid, Reads, forecastNumber}
 use Rattle.values_c.specs.Convert.{Gives}
 use Rattle.stream.specs.Forecast.{Contents}
 use Rattle.stream.proofs.Doubles.{four}

@@ -8,12 +8,12 @@ use lib.Dec.{eqb, ltb}
 use lib.IntN.{ℤ}
 use lib.Ieee.{Float}
 use lib.ListN.{length}
-use Rattle.values.specs.Values.{Said, gives, refuses}
+use Rattle.constants.specs.Answer.{Said, gives, refuses}
 use Rattle.registers.specs.Read.{readAt}
 use Rattle.bleed.specs.declared.Choice.{Choice}
 use Rattle.smart_battery.specs.Words.{wordFor}
 use Rattle.chip.specs.declared.Chip.{Chip}
-use Rattle.chip.specs.Outward.{voltageSaid, forecastNumber}
+use Rattle.chip_voltage.specs.Voltage.{voltageSaid, forecastNumber}
 use Rattle.services_chip.specs.Care.{proposalSaid, packOf, linkedTotal}
 use Rattle.stream.specs.Forecast.{Contents}
 use Rattle.chip_bytes.specs.declared.Kept.{Kept}

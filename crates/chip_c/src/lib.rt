@@ -1,15 +1,15 @@
 // A chip that is kept as bytes, for C: what its registers hold, its voltages, and what forecasting, workshops and chargers ask.
 ghost use mathlib.Core.Path.{_≡_};
 ghost use Rattle.chip_bytes.specs.Layout.{keptOf};
-ghost use Rattle.values.specs.Values.{numberSaid};
-ghost use Rattle.chip.specs.Outward.{saidForecast};
+ghost use Rattle.constants.specs.Answer.{numberSaid};
+ghost use Rattle.chip_voltage.specs.Voltage.{saidForecast};
 ghost use Rattle.values_c.specs.Convert.{Gives};
 ghost use Rattle.smart_battery.specs.Reply.{Replied};
 ghost use Rattle.services_stream.specs.Asks.{Bled};
 ghost use Rattle.chip_c.specs.Asked.{byteOr, standsNumber, registerSaid, voltageOf, proposalOf, wordOf, ReadOf};
-use chip::CellAnswer;
-use chip::ForecastAnswer;
 use chip_bytes::Kept;
+use chip_voltage::CellAnswer;
+use chip_voltage::ForecastAnswer;
 use services_chip::Proposal;
 
 // 0 where a chip stands, 26 for bytes that are no chip, 9 for no chip yet.
@@ -65,7 +65,7 @@ pub extern "C" fn toralinge_voltage(chip: &[u8], cell: u32, microvolts: &mut i64
         return number;
     }
     let chip = kept.chip;
-    let answer = chip.voltage(byte_or_none(cell));
+    let answer = chip_voltage::voltage(chip, byte_or_none(cell));
     match answer {
         CellAnswer::Is(v) => {
             let z = v.0;
@@ -139,7 +139,7 @@ pub extern "C" fn toralinge_reading_of(chip: &[u8], reading: &mut [f64]) -> u8
         return number;
     }
     let chip = kept.chip;
-    let answer = chip.forecast();
+    let answer = chip_voltage::forecast(chip);
     let ForecastAnswer::Is(given) = answer else {
         return unread(answer);
     };

@@ -9,7 +9,7 @@ use Rattle.constants.specs.Address.{«SYS_STAT», CELLBAL1, CELLBAL2, CE
 use Rattle.constants.specs.Address.{«OV_TRIP», «UV_TRIP», «CC_CFG», VC1, BAT, TS1, CC, «AFTER_CC», ADCGAIN1, ADCOFFSET, ADCGAIN2}
 use Rattle.constants.specs.Number.{DONE, «BAD_SETUP», «BAD_KIND», «BAD_VALUE», ASLEEP, «NO_ROOM», «NO_CELL», «OPEN_SENSOR»}
 use Rattle.constants.specs.Number.{«NO_CODE», CUT, «NOT_CONNECTED», «NO_FIT», EXTERNAL, «NO_ROW», «NO_LIST», «BAD_ADDRESS»}
-use Rattle.constants.specs.Number.{«SEASON_FULL», «BAD_COMMAND», «TOO_LONG», «OTHER_CHIP», «NO_CHIP»}
+use Rattle.constants.specs.Number.{«SEASON_FULL», «BAD_COMMAND», «TOO_LONG», «OTHER_CHIP», «NO_CHIP», «NO_RECORD», «NOT_SO»}
 use Rattle.constants.specs.Weight.{«CC_READY», XREADY, «OVRD_ALERT», UV, OV, SCD, OCD, «LOAD_PRESENT», «ADC_EN», «TEMP_SEL»}
 use Rattle.constants.specs.Weight.{«SHUT_A», «SHUT_B», «DELAY_DIS», «CC_EN», «CC_ONESHOT», «DSG_ON», «CHG_ON», «PIN_ALERT», «PIN_CHG»}
 use Rattle.constants.specs.Weight.{«PIN_DSG»}
@@ -21,13 +21,14 @@ rising x (y ∷ ys) = ltb x y && rising y ys
 
 pub numbers-rise : rising DONE (
     «BAD_SETUP» ∷ «BAD_KIND» ∷ «BAD_VALUE» ∷ ASLEEP ∷ «NO_ROOM» ∷ «NO_CELL» ∷ «OPEN_SENSOR» ∷ «NO_CODE» ∷ CUT ∷ «NOT_CONNECTED» ∷ «NO_FIT»
-    ∷ EXTERNAL ∷ «NO_ROW» ∷ «NO_LIST» ∷ «BAD_ADDRESS» ∷ «SEASON_FULL» ∷ «BAD_COMMAND» ∷ «TOO_LONG» ∷ «OTHER_CHIP» ∷ «NO_CHIP» ∷ []
+    ∷ EXTERNAL ∷ «NO_ROW» ∷ «NO_LIST» ∷ «BAD_ADDRESS» ∷ «SEASON_FULL» ∷ «BAD_COMMAND» ∷ «TOO_LONG» ∷ «OTHER_CHIP» ∷ «NO_CHIP» ∷ «NO_RECORD»
+    ∷ «NOT_SO» ∷ []
     ) ≡ true
 numbers-rise = refl
 
 pub addresses-rise : rising «SYS_STAT» (
-    CELLBAL1 ∷ CELLBAL2 ∷ CELLBAL3 ∷ «SYS_CTRL1» ∷ «SYS_CTRL2» ∷ PROTECT1 ∷ PROTECT2 ∷ PROTECT3 ∷ «OV_TRIP» ∷ «UV_TRIP» ∷ «CC_CFG» ∷ VC1 ∷ BAT
-    ∷ TS1 ∷ CC ∷ «AFTER_CC» ∷ ADCGAIN1 ∷ ADCOFFSET ∷ ADCGAIN2 ∷ []
+    CELLBAL1 ∷ CELLBAL2 ∷ CELLBAL3 ∷ «SYS_CTRL1» ∷ «SYS_CTRL2» ∷ PROTECT1 ∷ PROTECT2 ∷ PROTECT3 ∷ «OV_TRIP» ∷ «UV_TRIP» ∷ «CC_CFG» ∷ VC1
+    ∷ BAT ∷ TS1 ∷ CC ∷ «AFTER_CC» ∷ ADCGAIN1 ∷ ADCOFFSET ∷ ADCGAIN2 ∷ []
     ) ≡ true
 addresses-rise = refl
 

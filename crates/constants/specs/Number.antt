@@ -63,3 +63,10 @@ abbrev pub «OTHER_CHIP» : ℕ
 
 abbrev pub «NO_CHIP» : ℕ
 «NO_CHIP» = 26
+
+abbrev pub «NO_RECORD» : ℕ
+«NO_RECORD» = 27
+
+-- the bit is not up, or the drive is on
+abbrev pub «NOT_SO» : ℕ
+«NOT_SO» = 28

@@ -3,6 +3,7 @@ pub mod address;
 pub mod answer;
 pub mod kind;
 pub mod number;
+pub mod part;
 pub mod range;
 pub mod size;
 pub mod weight;

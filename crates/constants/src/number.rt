@@ -40,3 +40,7 @@ pub const TOO_LONG: u8 = 24;
 pub const OTHER_CHIP: u8 = 25;
 
 pub const NO_CHIP: u8 = 26;
+
+pub const NO_RECORD: u8 = 27;
+
+pub const NOT_SO: u8 = 28;

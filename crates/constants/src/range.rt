@@ -1,6 +1,10 @@
 // The least and the most that values may be, and the longest delays in scans and ticks.
 pub const PART_MOST: u8 = 3;
 
+pub const GROUP_INPUTS: u8 = 5;
+
+pub const INPUTS_MOST: u8 = 15;
+
 pub const ADDRESS_LEAST: u8 = 0x08;
 
 pub const ADDRESS_MOST: u8 = 0x77;

@@ -2,3 +2,4 @@ pub mod Setup
 pub mod Event
 pub mod Fault
 pub mod FewLaws
+pub mod Role

@@ -2,6 +2,8 @@
 use mathlib.Core.Bool.{Bool, _&&_, cond}
 use Prim.Native.Nat.{ℕ, _*_}
 use lib.Dec.{eqb, leb, ltb}
+use Rattle.constants.specs.Range.{«PART_MOST», «ADDRESS_LEAST», «ADDRESS_MOST», «GAIN_CODE_MOST», «FLOOR_MOST»}
+use Rattle.constants.specs.Number.{DONE, «BAD_SETUP»}
 use Rattle.events.specs.declared.Setup.{Setup}
 use Rattle.events.specs.declared.Checked.{Checked}
 use Rattle.events.specs.declared.Checked.the-variants.{Good, Bad}
@@ -9,7 +11,8 @@ use Rattle.events.specs.declared.Checked.the-variants.{Good, Bad}
 -- the ranges of CHIP S4
 abbrev pub setupFits : ℕ → ℕ → ℕ → ℕ → ℕ → Bool
 setupFits part crc address gain floor =
-    leb 1 part && leb part 3 && leb crc 1 && leb 0x08 address && leb address 0x77 && leb gain 31 && leb floor 4095
+    leb 1 part && leb part «PART_MOST» && leb crc 1 && leb «ADDRESS_LEAST» address && leb address «ADDRESS_MOST»
+    && leb gain «GAIN_CODE_MOST» && leb floor «FLOOR_MOST»
 
 abbrev pub setupOf : ℕ → ℕ → ℕ → ℕ → ℕ → ℕ → Setup
 setupOf part crc address gain offset floor =
@@ -21,8 +24,8 @@ checkedOf part crc address gain offset floor =
 
 -- the number of each answer (CHIP O4)
 abbrev pub setupNumber : Checked → ℕ
-setupNumber (Good v) = 0
-setupNumber Bad = 1
+setupNumber (Good v) = DONE
+setupNumber Bad = «BAD_SETUP»
 
 -- five inputs for part 1, ten for part 2, fifteen for part 3: that many groups of five
 unfoldable pub groups : Setup → ℕ

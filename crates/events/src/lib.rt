@@ -1,6 +1,7 @@
 // What the chip is set up with, and what can happen to it.
 ghost use mathlib.Core.Path.{_≡_};
 ghost use Rattle.events.specs.Event.{besideOf};
+ghost use Rattle.events.specs.Role.{roleOf};
 ghost use Rattle.events.specs.Setup.{checkedOf, inputs as inputsSpec, groups as groupsSpec};
 use constants::range;
 
@@ -57,6 +58,13 @@ pub enum Beside {
     Inputs,
     Groups,
     Nothing,
+}
+
+// What an event's record does: SETUP makes a chip, a wiring record makes it anew with that many cells, every other event happens to it.
+pub enum Role {
+    Makes(Setup),
+    Rewires(u8),
+    Happens,
 }
 
 // One answer for each of the four faults that wait for a delay.
@@ -121,18 +129,49 @@ pub fn beside_of(event: Event) -> Beside
     }
 }
 
+// What an event's record does.
+pub fn role_of(event: Event) -> Role
+    ensures { λ r. ⌜ r ≡ roleOf event ⌝ }
+{
+    match event {
+        Event::Setup(setup) => Role::Makes(setup),
+        Event::Por => Role::Happens,
+        Event::Boot => Role::Happens,
+        Event::Scan => Role::Happens,
+        Event::Temp => Role::Happens,
+        Event::Count(_) => Role::Happens,
+        Event::Sense(_) => Role::Happens,
+        Event::Pin => Role::Happens,
+        Event::Load(_) => Role::Happens,
+        Event::Xready => Role::Happens,
+        Event::OnBus(_) => Role::Happens,
+        Event::Level(_) => Role::Happens,
+        Event::Ticks(_, _) => Role::Happens,
+        Event::Soak(_, _) => Role::Happens,
+        Event::Wires(cells) => Role::Rewires(cells),
+    }
+}
+
 impl Setup {
     // How many groups of five inputs the part has: at most three.
     pub fn groups(self) -> u8
         ensures { λ r. ⌜ r ≡ groupsSpec self ⌝ }
     {
-        if self.part < 3 { self.part } else { 3 }
+        if self.part < range::PART_MOST {
+            self.part
+        } else {
+            range::PART_MOST
+        }
     }
 
     // How many cell inputs the part has.
     pub fn inputs(self) -> u8
         ensures { λ r. ⌜ r ≡ inputsSpec self ⌝ }
     {
-        if self.part < 3 { 5 * self.part } else { 15 }
+        if self.part < range::PART_MOST {
+            range::GROUP_INPUTS * self.part
+        } else {
+            range::INPUTS_MOST
+        }
     }
 }

@@ -1,6 +1,7 @@
 // Turns command lists from standard input, one a line, into records: a line of hex for each, or minus the number it is refused with.
 ghost use Prim.Native.Nat.{_<_, _≤_};
 ghost use lib.ListN.{length};
+use constants::range;
 use libc::STDIN_FILENO;
 use libc::STDOUT_FILENO;
 
@@ -55,7 +56,7 @@ fn refuse(answer: i64) {
 
 // A list's records, where they have at most 65,536 bytes.
 fn turn(line: &[u8]) {
-    let mut out = [0u8; 65536];
+    let mut out = [0u8; range::STREAM_MOST];
     let answer = i2c_lists::toralinge_list(line, &mut out);
     if answer < 0 {
         refuse(answer);
@@ -75,11 +76,13 @@ fn turn_all(text: &[u8]) {
     }
 }
 
+// A byte more than is allowed, so that too many are seen.
+const INPUT_ROOM: usize = 65537;
+
 fn main() {
-    // A byte more than is allowed, so that too many are seen.
-    let mut input = [0u8; 65537];
+    let mut input = [0u8; INPUT_ROOM];
     let n = io::read_full(STDIN_FILENO, &mut input);
-    if 65536 < n {
+    if range::STREAM_MOST < n {
         io::write_all(STDOUT_FILENO, b"too long\n");
         return;
     }

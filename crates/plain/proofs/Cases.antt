@@ -22,7 +22,7 @@ use Rattle.records.specs.declared.Read.{Read}
 use Rattle.records.specs.declared.Read.the-variants.{Record, Refused, Cut}
 use Rattle.records.proofs.Read.{the-type as read-type}
 use Rattle.records.specs.Record.{readOf, countsIn}
-use Rattle.values.specs.Values.{Said, gives, refuses, valueSaid, numberSaid}
+use Rattle.constants.specs.Answer.{Said, gives, refuses, valueSaid, numberSaid}
 use Rattle.cell_counts.specs.declared.Looked.{Looked}
 use Rattle.cell_counts.specs.Scan.{lookedAt}
 use Rattle.settings.specs.declared.Settings.{Settings}

@@ -5,8 +5,11 @@ use mathlib.Core.Bool.{Bool, false, cond, not, _&&_}
 use mathlib.Core.List.{List, [], _∷_, _++_}
 use Prim.Native.Nat.{ℕ, zero, suc, _*_}
 use lib.Dec.{eqb, leb}
-use lib.IntN.{ℤ, pos, negsuc}
+use lib.IntN.{ℤ, pos}
 use lib.ListN.{length, take, drop}
+use Rattle.constants.specs.Number.{«NO_ROOM», «TOO_LONG»}
+use Rattle.constants.specs.Size.{ENTRY}
+use Rattle.constants.specs.Answer.{minus}
 use Rattle.events.specs.declared.Event.{Event}
 use Rattle.events.specs.declared.Event.the-variants.{Setup, Por, Boot, Scan, Temp, Count, Sense, Pin, Load, Xready, OnBus, Level, Ticks}
 use Rattle.events.specs.declared.Event.the-variants.{Soak, Wires}
@@ -74,8 +77,9 @@ Noted s old new = new ≡ entered old (plainEntries s)
 -- the entries
 pub record PlainPlayed (s old : List ℕ) (r : ℤ) (new : List ℕ) : Type 0 where
   pub answer : r
-      ≡ cond (leb (length s) most) (cond (leb (5 * length (plainEntries s)) (length old)) (pos (length (plainEntries s))) (negsuc 4))
-      (negsuc 23)
+      ≡ cond (leb (length s) most)
+      (cond (leb (ENTRY * length (plainEntries s)) (length old)) (pos (length (plainEntries s))) (minus «NO_ROOM»))
+      (minus «TOO_LONG»)
   pub contents : new
-      ≡ cond (leb (length s) most && leb (5 * length (plainEntries s)) (length old))
-      (bytesOf (plainEntries s) ++ drop (5 * length (plainEntries s)) old) old
+      ≡ cond (leb (length s) most && leb (ENTRY * length (plainEntries s)) (length old))
+      (bytesOf (plainEntries s) ++ drop (ENTRY * length (plainEntries s)) old) old

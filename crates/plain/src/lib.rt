@@ -17,8 +17,10 @@ ghost use Rattle.plain.specs.Plain.{decided as decidedSpec, plainTurn, N
 use cell_counts::Looked;
 use chip::Chip;
 use chip::Stepped;
+use constants::answer;
 use constants::number;
 use constants::range;
+use constants::size;
 use events::Event;
 use events::Faults;
 use plain_back::Back;
@@ -136,7 +138,7 @@ fn ticks(chip: Chip, before: &[u8], value: i32, these: u32) -> Stepped
 fn decided(fresh: bool, step: Stepped, next: usize) -> Turned
     ensures { λ r. ⌜ asTurn r ≡ decidedSpec fresh step next ⌝ }
 {
-    turn::told(step, fresh & (step.number != 0), next, false)
+    turn::told(step, fresh & (step.number != number::DONE), next, false)
 }
 
 // A record, with the records before it at hand: scans and ticks are decided here, all else is done as the base engine does it.
@@ -151,7 +153,7 @@ fn take_turn(chip: Chip, fresh: bool, before: &[u8], rest: &[u8]) -> Turned
     };
     match event {
         Event::Scan => {
-            let counts = records::counts_in(event, &rest[4..next]);
+            let counts = records::counts_in(event, &rest[size::HEADER..next]);
             let of = counts.of;
             decided(fresh, scan(chip, before, of), next)
         }
@@ -201,11 +203,11 @@ pub extern "C" fn toralinge_plain(bytes: &[u8], entries: &mut [u8]) -> i64
     ensures { λ r. ⌜ PlainPlayed (now (bytes .entry)) (now (entries .entry)) r (now (entries .exit)) ⌝ }
 {
     if range::STREAM_MOST < bytes.len() {
-        return -24;
+        return answer::TOO_LONG;
     }
     let n = stream::count(bytes);
-    if entries.len() / 5 < n {
-        return -5;
+    if entries.len() / size::ENTRY < n {
+        return answer::NO_ROOM;
     }
     run(bytes, entries);
     n as i64

@@ -14,7 +14,7 @@ use Rattle.events.specs.Fault.{Fault, Ov, Uv, Scd, Ocd}
 use Rattle.records.specs.declared.Read.{Read}
 use Rattle.records.specs.declared.Read.the-variants.{Record, Refused, Cut}
 use Rattle.records.specs.Record.{standing, readOf}
-use Rattle.values.specs.Values.{Said, gives, refuses}
+use Rattle.constants.specs.Answer.{Said, gives, refuses}
 use Rattle.protection.specs.Streak.{streak}
 use Rattle.demands.specs.Demand.{verdicts}
 use Rattle.demands.specs.Streams.{heard}

@@ -56,7 +56,8 @@ entries-few s h = omega (arith, entries-count s, all-few s)
 -- ── the lines ──
 lines-few : (n : ℕ) (rest : List ℕ) (es : List Entry) → length (linesFrom n rest es) ≤ 27 * length es
 lines-few n rest [] = omega arith
-lines-few n rest (e ∷ es) = simp length-append (omega (arith, line-few n rest (columnsOf e), lines-few (suc n) (drop (frameOf rest) rest) es))
+lines-few n rest (e ∷ es) =
+    simp length-append (omega (arith, line-few n rest (columnsOf e), lines-few (suc n) (drop (frameOf rest) rest) es))
 
 -- ── the text ──
 text-by : (s : List ℕ) (b : Bool) → ltb mostInput (length s) ≡ b → length (cond b tooLong (linesFrom 0 s (entries s))) ≤ mostText

@@ -5,6 +5,7 @@ ghost use lib.ListN.{length};
 ghost use Rattle.turn.specs.Entries.{entries};
 ghost use Rattle.play_line.specs.Put.{Puts, Written};
 ghost use Rattle.play.specs.Text.{columnsOf, linesFrom, textOf, mostInput, mostText};
+use constants::answer;
 use constants::range;
 use play_line::Columns;
 use turn::Entry;
@@ -55,7 +56,7 @@ fn write_lines(out: &mut [u8], input: &[u8]) -> i64
     let mut room = [0u8; 1];
     let length = put_lines(&mut room[..0], input);
     if out.len() < length {
-        return -5;
+        return answer::NO_ROOM;
     }
     put_lines(out, input) as i64
 }

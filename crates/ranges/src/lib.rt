@@ -5,6 +5,7 @@ ghost use Rattle.events.specs.Event.{within, countMost, senseFits, ticksFit, co
 ghost use Rattle.ranges.specs.Refusal.{refusalOf};
 use constants::number;
 use constants::range;
+use constants::size;
 use events::Beside;
 use events::Counts;
 use events::Event;
@@ -29,7 +30,7 @@ pub fn within_from(of: [u16; 15], from: usize, most: u16) -> bool
     ensures { λ r. ⌜ r ≡ within most (drop from of) ⌝ }
 {
     let mut i = from;
-    while i < 15 {
+    while i < size::INPUTS {
         if most < of[i] {
             return false;
         }
@@ -43,7 +44,7 @@ pub fn counts_in_range(of: [u16; 15], many: u8) -> bool
     ensures { λ r. ⌜ r ≡ within countMost (take many of) ⌝ }
 {
     let mut i = 0;
-    while i < 15 {
+    while i < size::INPUTS {
         if many as usize <= i {
             return true;
         }

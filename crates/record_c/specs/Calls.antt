@@ -6,7 +6,7 @@ use Prim.Native.Nat.{ℕ, _<_, _^_}
 use lib.Dec.{eqb, leb}
 use lib.IntN.{ℤ, pos, negsuc, negℤ}
 use lib.ListN.{length, drop}
-use Rattle.values.specs.Values.{Said, gives, refuses}
+use Rattle.constants.specs.Answer.{Said, gives, refuses}
 use Rattle.events.specs.declared.Counts.{Counts}
 use Rattle.events.specs.declared.Event.{Event}
 use Rattle.records.specs.Record.{readOf, countsBeside}

@@ -9,7 +9,7 @@ use lib.Dec.{eqb, leb}
 use lib.IntN.{ℤ, pos, negsuc, negℤ}
 use lib.ListN.{length, take, drop}
 use borrow.Author.Tests.{eqb-true, leb-true, le-leb}
-use Rattle.values.specs.Values.{Said, gives, refuses}
+use Rattle.constants.specs.Answer.{Said, gives, refuses}
 use Rattle.events.specs.Setup.{setupFits, setupOf, checkedOf}
 use Rattle.events.specs.Event.{within, countMost, senseFits, ticksMost, soakMost, ticksFit}
 use Rattle.events.specs.declared.Checked.the-variants.{Good, Bad}
@@ -20,7 +20,8 @@ use Rattle.events.specs.declared.Event.the-variants.{Setup, Por, Boot, Scan, Te
 use Rattle.events.specs.declared.Event.the-variants.{Soak, Wires}
 use Rattle.records.specs.Kind.{SETUP, POR, BOOT, SCAN, TEMP, COUNT, SENSE, PIN, LOAD, XREADY, START, OUT, IN, STOP, LEVEL, TICKS, SOAK}
 use Rattle.records.specs.Kind.{WIRES}
-use Rattle.records.specs.Numbers.{bitOf, filled}
+use Rattle.cell_counts.specs.Scan.{padded}
+use Rattle.records.specs.Numbers.{bitOf}
 use Rattle.records.specs.Record.{checkedIn, ticksOf, soakOf, standing, inputsAt, groupsAt, readOf}
 use Rattle.events.specs.FewLaws.{few-groups, few-inputs}
 use Rattle.bits.specs.BoolLaws.{and-left, and-right}
@@ -150,7 +151,7 @@ repeat-backs kind vs f most h k v =
 
 -- ── counts ──
 counts-back : (n : ℕ) (vs : List ℤ) → length vs ≤ n → within countMost (map natOf vs) ≡ true
-    → map pos (take (length vs) (filled n (map countOf vs))) ≡ vs
+    → map pos (take (length vs) (padded n (map countOf vs))) ≡ vs
 counts-back zero [] h t = refl
 counts-back zero (v ∷ vs) h t = absurd (omega arith)
 counts-back (suc n) [] h t = refl
@@ -164,7 +165,7 @@ counts-back (suc n) (v ∷ vs) h t =
 counted-back : (vs : List ℤ) → length vs ≤ 15 → within countMost (map natOf vs) ≡ true → countValues (countsAt vs) ≡ vs
 counted-back vs h t =
     let e : length vs % 256 ≡ length vs = omega arith in
-    ap (λ (n : ℕ). map pos (take n (filled 15 (map countOf vs)))) e ∙ counts-back 15 vs h t
+    ap (λ (n : ℕ). map pos (take n (padded 15 (map countOf vs)))) e ∙ counts-back 15 vs h t
 
 counted-backs : (kind : ℕ) (e : Event) (wanted : ℕ) (vs : List ℤ) → kindFor e ≡ kind → wanted ≤ 15
     → valuesFor e (countsBy e vs) ≡ countValues (countsAt vs) → Backs kind vs (countedBy e wanted vs)
@@ -336,18 +337,18 @@ stands-as (Ticks v n) part = refl
 stands-as (Soak v n) part = refl
 stands-as (Wires n) part = refl
 
-filled-length : (n : ℕ) (xs : List ℕ) → length (filled n xs) ≡ n
-filled-length zero xs = refl
-filled-length (suc n) [] = ap suc (filled-length n [])
-filled-length (suc n) (x ∷ xs) = ap suc (filled-length n xs)
+padded-length : (n : ℕ) (xs : List ℕ) → length (padded n xs) ≡ n
+padded-length zero xs = refl
+padded-length (suc n) [] = ap suc (padded-length n [])
+padded-length (suc n) (x ∷ xs) = ap suc (padded-length n xs)
 
 fifteen : (e : Event) (vs : List ℤ) → length (countsBy e vs .of) ≡ 15
 unfolding countsBy
 fifteen (Setup v) vs = refl
 fifteen Por vs = refl
 fifteen Boot vs = refl
-fifteen Scan vs = filled-length 15 (map countOf vs)
-fifteen Temp vs = filled-length 15 (map countOf vs)
+fifteen Scan vs = padded-length 15 (map countOf vs)
+fifteen Temp vs = padded-length 15 (map countOf vs)
 fifteen (Count n) vs = refl
 fifteen (Sense v) vs = refl
 fifteen Pin vs = refl

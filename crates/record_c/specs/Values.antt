@@ -17,7 +17,8 @@ use Rattle.events.specs.declared.Event.the-variants.{Setup, Por, Boot, Scan, Te
 use Rattle.events.specs.declared.Event.the-variants.{Soak, Wires}
 use Rattle.records.specs.Kind.{SETUP, POR, BOOT, SCAN, TEMP, COUNT, SENSE, PIN, LOAD, XREADY, START, OUT, IN, STOP, LEVEL, TICKS, SOAK}
 use Rattle.records.specs.Kind.{WIRES}
-use Rattle.records.specs.Numbers.{bitOf, filled}
+use Rattle.cell_counts.specs.Scan.{padded}
+use Rattle.records.specs.Numbers.{bitOf}
 use Rattle.records.specs.Record.{checkedIn, loadOf, levelOf, inOf, ticksOf, soakOf, inputsAt, groupsAt, noCounts}
 use Rattle.records.specs.declared.Payload.{Payload}
 use Rattle.records.specs.declared.Payload.the-variants.{Whole, Unfit}
@@ -144,7 +145,7 @@ abbrev pub countOf : ℤ → ℕ
 countOf v = natOf v % 65536
 
 abbrev pub countsAt : List ℤ → Counts
-countsAt vs = record { many = length vs % 256; of = filled 15 (map countOf vs) }
+countsAt vs = record { many = length vs % 256; of = padded 15 (map countOf vs) }
 
 abbrev pub countsWith : Beside → List ℤ → Counts
 countsWith Inputs vs = countsAt vs

@@ -5,7 +5,7 @@ ghost use mathlib.Core.List.{[], _∷_, map};
 ghost use Prim.Native.Nat.{_≤_, _<_};
 ghost use lib.ListN.{length};
 ghost use lib.IntN.{pos};
-ghost use Rattle.values.specs.Values.{gives};
+ghost use Rattle.constants.specs.Answer.{gives};
 ghost use Rattle.events.specs.Event.{within, countMost, senseFits, ticksMost, soakMost};
 ghost use Rattle.records.specs.Numbers.{bitOf};
 ghost use Rattle.records.specs.Record.{loadOf, levelOf, inOf, ticksOf, soakOf, noCounts};
@@ -31,7 +31,17 @@ use writer::Wrote;
 // A value below 0 as a number: beyond every range.
 const BEYOND: u64 = 9223372036854775808;
 
+// The most that a byte holds, and a number of two bytes.
+const BYTE_MOST: u64 = 255;
+
+const WORD_MOST: u64 = 65535;
+
+// SETUP's values: part, CRC, address, gain code, offset and floor.
+const SETUP_VALUES: usize = 6;
+
 // The ranges and kinds of records, in the widths that C hands over.
+const PART_MOST: u32 = range::PART_MOST as u32;
+
 const COUNT_MOST: u64 = range::COUNT_MOST as u64;
 
 const SENSE_LEAST: i64 = range::SENSE_LEAST as i64;
@@ -91,13 +101,13 @@ fn natural(v: i64) -> u64
 fn byte_of(n: u64) -> u8
     ensures { λ r. ⌜ r ≡ byteOf n ⌝ }
 {
-    if n <= 255 { n as u8 } else { 255 }
+    if n <= BYTE_MOST { n as u8 } else { 255 }
 }
 
 fn word_of(n: u64) -> u16
     ensures { λ r. ⌜ r ≡ wordOf n ⌝ }
 {
-    if n <= 65535 { n as u16 } else { 65535 }
+    if n <= WORD_MOST { n as u16 } else { 65535 }
 }
 
 fn byte_at(values: &[i64], i: usize) -> u8
@@ -110,10 +120,10 @@ fn byte_at(values: &[i64], i: usize) -> u8
 fn setup_by(values: &[i64]) -> Payload
     ensures { λ r. ⌜ r ≡ setupBy (now (values .entry)) ⌝ }
 {
-    if values.len() != 6 {
+    if values.len() != SETUP_VALUES {
         return Payload::Unfit(number::BAD_KIND);
     }
-    if 255 < natural(values[4]) {
+    if BYTE_MOST < natural(values[4]) {
         return Payload::Unfit(number::BAD_SETUP);
     }
     let part = byte_at(values, 0);
@@ -174,7 +184,7 @@ fn count_by(values: &[i64]) -> Payload
         return Payload::Unfit(number::BAD_KIND);
     }
     let n = natural(values[0]);
-    if n <= 65535 {
+    if n <= WORD_MOST {
         Payload::Whole(Event::Count(n as u16))
     } else {
         Payload::Unfit(number::BAD_VALUE)
@@ -188,7 +198,7 @@ fn out_by(values: &[i64]) -> Payload
         return Payload::Unfit(number::BAD_KIND);
     }
     let n = natural(values[0]);
-    if n <= 255 {
+    if n <= BYTE_MOST {
         Payload::Whole(Event::OnBus(BusEvent::Out(n as u8)))
     } else {
         Payload::Unfit(number::BAD_VALUE)
@@ -300,7 +310,7 @@ fn wires_by(values: &[i64]) -> Payload
         return Payload::Unfit(number::BAD_KIND);
     }
     let n = natural(values[0]);
-    if n <= 255 {
+    if n <= BYTE_MOST {
         Payload::Whole(Event::Wires(n as u8))
     } else {
         Payload::Unfit(number::NO_ROW)
@@ -336,7 +346,7 @@ fn later_by(kind: u32, part: u8, values: &[i64]) -> Payload
 fn part_by(part: u32) -> u8
     ensures { λ r. ⌜ r ≡ partBy part ⌝ }
 {
-    if part <= 3 { part as u8 } else { 0 }
+    if part <= PART_MOST { part as u8 } else { 0 }
 }
 
 // The event that values mean.
@@ -453,10 +463,10 @@ fn bus_many(event: BusEvent) -> usize
 fn counts_many(counts: Counts) -> usize
     ensures { λ r. ⌜ (r ≡ length (countValues counts)) × (r ≤ 15) ⌝ }
 {
-    if counts.many <= 15 {
+    if counts.many <= range::INPUTS_MOST {
         counts.many as usize
     } else {
-        15
+        size::INPUTS
     }
 }
 
@@ -465,7 +475,7 @@ fn many_of(event: Event, counts: Counts) -> usize
     ensures { λ r. ⌜ (r ≡ length (valuesFor event counts)) × (r ≤ 15) ⌝ }
 {
     match event {
-        Event::Setup(_) => 6,
+        Event::Setup(_) => SETUP_VALUES,
         Event::Por => 0,
         Event::Boot => 0,
         Event::Scan => counts_many(counts),
@@ -587,11 +597,11 @@ pub extern "C" fn toralinge_values(
 ) -> i64
     ensures { λ r. ⌜ Names (namedSaid part (now (bytes .entry))) (now (kind .entry)) (now (values .entry)) r (now (kind .exit)) (now (values .exit)) ⌝ }
 {
-    if 3 < part {
-        return -1;
+    if PART_MOST < part {
+        return answer::BAD_SETUP;
     }
     match records::read_rest(bytes, part as u8) {
-        Read::Cut => -9,
+        Read::Cut => answer::CUT,
         Read::Refused { number, next: _ } => -(number as i64),
         Read::Record { event, next } => {
             let counts = records::counts_in(event, &bytes[size::HEADER..next]);

@@ -9,7 +9,8 @@ use lib.ListN.{length, take, drop, replicate}
 use lib.Seq.{take-append-seam, drop-append-seam}
 use borrow.Author.Tests.{ltb-false, eq-eqb}
 use Rattle.events.specs.Event.{within, countsFit}
-use Rattle.records.specs.Numbers.{words, filled}
+use Rattle.cell_counts.specs.Scan.{padded}
+use Rattle.records.specs.Numbers.{words}
 use Rattle.records.specs.Record.{countsOf}
 
 pub words-count : (b : List ℕ) (n : ℕ) → length b ≡ 2 * n → length (words b) ≡ n
@@ -18,32 +19,32 @@ words-count (x ∷ []) n h = absurd (omega arith)
 words-count (x ∷ y ∷ b) zero h = absurd (omega arith)
 words-count (x ∷ y ∷ b) (suc n) h = ap suc (words-count b n (omega arith))
 
-none-filled : (n : ℕ) → filled n [] ≡ replicate n 0
-none-filled zero = refl
-none-filled (suc n) = ap (λ (l : List ℕ). 0 ∷ l) (none-filled n)
+none-padded : (n : ℕ) → padded n [] ≡ replicate n 0
+none-padded zero = refl
+none-padded (suc n) = ap (λ (l : List ℕ). 0 ∷ l) (none-padded n)
 
-pub filled-is : (n : ℕ) (xs : List ℕ) → length xs ≤ n → filled n xs ≡ xs ++ replicate (n - length xs) 0
-filled-is zero [] h = refl
-filled-is zero (x ∷ xs) h = absurd (omega arith)
-filled-is (suc n) [] h =
+pub padded-is : (n : ℕ) (xs : List ℕ) → length xs ≤ n → padded n xs ≡ xs ++ replicate (n - length xs) 0
+padded-is zero [] h = refl
+padded-is zero (x ∷ xs) h = absurd (omega arith)
+padded-is (suc n) [] h =
     let e : suc n ≡ suc n - 0 = omega arith in
-    none-filled (suc n) ∙ ap (λ (k : ℕ). replicate k 0) e
-filled-is (suc n) (x ∷ xs) h =
+    none-padded (suc n) ∙ ap (λ (k : ℕ). replicate k 0) e
+padded-is (suc n) (x ∷ xs) h =
     let e : n - length xs ≡ suc n - suc (length xs) = omega arith in
-    ap (λ (l : List ℕ). x ∷ l) (filled-is n xs (omega arith) ∙ ap (λ (k : ℕ). xs ++ replicate k 0) e)
+    ap (λ (l : List ℕ). x ∷ l) (padded-is n xs (omega arith) ∙ ap (λ (k : ℕ). xs ++ replicate k 0) e)
 
 none-within : (n : ℕ) → within 0 (replicate n 0) ≡ true
 none-within zero = refl
 none-within (suc n) = none-within n
 
--- the numbers of a list that is filled up, and what stands after them
+-- the numbers of a list that is padded up, and what stands after them
 module _ (xs : List ℕ) (h : length xs ≤ 15) where
-  pub filled-take : take (length xs) (filled 15 xs) ≡ xs
-  filled-take = ap (take (length xs)) (filled-is 15 xs h) ∙ take-append-seam xs (replicate (15 - length xs) 0)
+  pub padded-take : take (length xs) (padded 15 xs) ≡ xs
+  padded-take = ap (take (length xs)) (padded-is 15 xs h) ∙ take-append-seam xs (replicate (15 - length xs) 0)
 
-  pub filled-rest : within 0 (drop (length xs) (filled 15 xs)) ≡ true
-  filled-rest =
-      ap (λ (l : List ℕ). within 0 (drop (length xs) l)) (filled-is 15 xs h)
+  pub padded-rest : within 0 (drop (length xs) (padded 15 xs)) ≡ true
+  padded-rest =
+      ap (λ (l : List ℕ). within 0 (drop (length xs) l)) (padded-is 15 xs h)
       ∙ ap (within 0) (drop-append-seam xs (replicate (15 - length xs) 0)) ∙ none-within (15 - length xs)
 
 many-by : (b : List ℕ) (n : ℕ) (t : Bool) → ltb (length b) 30 ≡ t → length b ≡ 2 * n → n ≤ 15 → countsOf b .many ≡ n
@@ -60,11 +61,11 @@ module _ (b : List ℕ) (n : ℕ) (l : length b ≡ 2 * n) (h : n ≤ 15) where
   unfolding countsOf countsFit
   counts-fit =
       let w : length (words b) ≡ n = words-count b n l in
-      let z : within 0 (drop n (filled 15 (words b))) ≡ true = rw (← w) (filled-rest (words b) (omega arith)) in
+      let z : within 0 (drop n (padded 15 (words b))) ≡ true = rw (← w) (padded-rest (words b) (omega arith)) in
       simp (eq-eqb _ _ many-is) z
 
   pub counts-taken : take n (countsOf b .of) ≡ words b
   unfolding countsOf
   counts-taken =
       let w : length (words b) ≡ n = words-count b n l in
-      rw (← w) (filled-take (words b) (omega arith))
+      rw (← w) (padded-take (words b) (omega arith))

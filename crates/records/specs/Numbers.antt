@@ -1,5 +1,5 @@
 -- CHIP R1: every number has its low byte first. Assumes nothing.
-use Prim.Native.Nat.{ℕ, zero, suc, _+_, _-_, _*_}
+use Prim.Native.Nat.{ℕ, _+_, _-_, _*_}
 use mathlib.Core.List.{List, [], _∷_}
 use mathlib.Core.Bool.{Bool, cond}
 use lib.ListN.{length, getD}
@@ -26,12 +26,6 @@ abbrev pub words : List ℕ → List ℕ
 words (x ∷ y ∷ b) = (x + 256 * y) ∷ words b
 words (x ∷ []) = []
 words [] = []
-
--- the first n of a list, with 0 in the places that it lacks
-abbrev pub filled : ℕ → List ℕ → List ℕ
-filled zero xs = []
-filled (suc n) [] = 0 ∷ filled n []
-filled (suc n) (x ∷ xs) = x ∷ filled n xs
 
 -- the i-th number of 2 bytes, or 0 past the end
 unfoldable pub wordOr : List ℕ → ℕ → ℕ

@@ -17,7 +17,10 @@ use Rattle.events.specs.declared.BusEvent.the-variants.{Start, Out, In, Stop}
 use Rattle.events.specs.declared.Event.{Event}
 use Rattle.events.specs.declared.Event.the-variants.{Setup, Por, Boot, Scan, Temp, Count, Sense, Pin, Load, Xready, OnBus, Level, Ticks}
 use Rattle.events.specs.declared.Event.the-variants.{Soak, Wires}
-use Rattle.records.specs.Numbers.{le16, le32, signed32, bitOf, words, filled}
+use Rattle.constants.specs.Number.{DONE, «BAD_KIND», «BAD_VALUE», CUT}
+use Rattle.constants.specs.Size.{HEADER, «SETUP_PAYLOAD», «COUNT_PAYLOAD», «SENSE_PAYLOAD», «TICKS_PAYLOAD», «SOAK_PAYLOAD»}
+use Rattle.cell_counts.specs.Scan.{padded}
+use Rattle.records.specs.Numbers.{le16, le32, signed32, bitOf, words}
 use Rattle.records.specs.Kind.{SETUP, POR, BOOT, SCAN, TEMP, COUNT, SENSE, PIN, LOAD, XREADY, START, OUT, IN, STOP, LEVEL, TICKS}
 use Rattle.records.specs.Kind.{SOAK, WIRES}
 use Rattle.records.specs.declared.Payload.{Payload}
@@ -37,48 +40,49 @@ setupGood v = setupFits (v .part) (bitOf (v .crc)) (v .address) (v .«gain_code�
 
 unfoldable pub setupIn : List ℕ → Payload
 setupIn b =
-    cond (eqb (length b) 7)
+    cond (eqb (length b) «SETUP_PAYLOAD»)
     (checkedIn (checkedOf (getD b 0 0) (getD b 1 0) (getD b 2 0) (getD b 3 0) (getD b 4 0) (le16 b 5)))
-    (Unfit 2)
+    (Unfit «BAD_KIND»)
 
 -- none
 abbrev pub bareIn : Event → List ℕ → Payload
-bareIn e b = cond (eqb (length b) 0) (Whole e) (Unfit 2)
+bareIn e b = cond (eqb (length b) 0) (Whole e) (Unfit «BAD_KIND»)
 
 -- 2 bytes for each count that is wanted, 0 to 16,383
 unfoldable pub countedIn : Event → ℕ → List ℕ → Payload
-countedIn e wanted b = cond (eqb (length b) (2 * wanted)) (cond (within countMost (words b)) (Whole e) (Unfit 3)) (Unfit 2)
+countedIn e wanted b =
+    cond (eqb (length b) (2 * wanted)) (cond (within countMost (words b)) (Whole e) (Unfit «BAD_VALUE»)) (Unfit «BAD_KIND»)
 
 -- 2 bytes, raw
 abbrev pub countIn : List ℕ → Payload
-countIn b = cond (eqb (length b) 2) (Whole (Count (le16 b 0))) (Unfit 2)
+countIn b = cond (eqb (length b) «COUNT_PAYLOAD») (Whole (Count (le16 b 0))) (Unfit «BAD_KIND»)
 
 -- 4 bytes signed, within ±500,000
 unfoldable pub senseOf : ℕ → Payload
-senseOf u = cond (senseFits (signed32 u)) (Whole (Sense (signed32 u))) (Unfit 3)
+senseOf u = cond (senseFits (signed32 u)) (Whole (Sense (signed32 u))) (Unfit «BAD_VALUE»)
 
 abbrev pub senseIn : List ℕ → Payload
-senseIn b = cond (eqb (length b) 4) (senseOf (le32 b 0)) (Unfit 2)
+senseIn b = cond (eqb (length b) «SENSE_PAYLOAD») (senseOf (le32 b 0)) (Unfit «BAD_KIND»)
 
 -- TICKS and SOAK: a value as SENSE has it, and a repeat number of 2 or of 4 bytes
 unfoldable pub repeatOf : (ℤ → ℕ → Event) → ℕ → ℕ → ℕ → Payload
-repeatOf e most u n = cond (ticksFit most (signed32 u) n) (Whole (e (signed32 u) n)) (Unfit 3)
+repeatOf e most u n = cond (ticksFit most (signed32 u) n) (Whole (e (signed32 u) n)) (Unfit «BAD_VALUE»)
 
 abbrev pub ticksOf : ℤ → ℕ → Event
 ticksOf v n = Ticks v n
 
 abbrev pub ticksIn : List ℕ → Payload
-ticksIn b = cond (eqb (length b) 6) (repeatOf ticksOf ticksMost (le32 b 0) (le16 b 4)) (Unfit 2)
+ticksIn b = cond (eqb (length b) «TICKS_PAYLOAD») (repeatOf ticksOf ticksMost (le32 b 0) (le16 b 4)) (Unfit «BAD_KIND»)
 
 abbrev pub soakOf : ℤ → ℕ → Event
 soakOf v n = Soak v n
 
 abbrev pub soakIn : List ℕ → Payload
-soakIn b = cond (eqb (length b) 8) (repeatOf soakOf soakMost (le32 b 0) (le32 b 4)) (Unfit 2)
+soakIn b = cond (eqb (length b) «SOAK_PAYLOAD») (repeatOf soakOf soakMost (le32 b 0) (le32 b 4)) (Unfit «BAD_KIND»)
 
 -- 1 byte, 0 or 1: LOAD, LEVEL, and IN, where 1 says that the host does not acknowledge
 abbrev pub switchIn : (Bool → Event) → List ℕ → Payload
-switchIn e b = cond (eqb (length b) 1) (cond (leb (getD b 0 0) 1) (Whole (e (eqb (getD b 0 0) 1))) (Unfit 3)) (Unfit 2)
+switchIn e b = cond (eqb (length b) 1) (cond (leb (getD b 0 0) 1) (Whole (e (eqb (getD b 0 0) 1))) (Unfit «BAD_VALUE»)) (Unfit «BAD_KIND»)
 
 abbrev pub loadOf : Bool → Event
 loadOf level = Load level
@@ -91,11 +95,11 @@ inOf refused = OnBus (In refused)
 
 -- 1 byte
 abbrev pub outIn : List ℕ → Payload
-outIn b = cond (eqb (length b) 1) (Whole (OnBus (Out (getD b 0 0)))) (Unfit 2)
+outIn b = cond (eqb (length b) 1) (Whole (OnBus (Out (getD b 0 0)))) (Unfit «BAD_KIND»)
 
 -- 1 byte: the number of cells, of any value
 abbrev pub wiresIn : List ℕ → Payload
-wiresIn b = cond (eqb (length b) 1) (Whole (Wires (getD b 0 0))) (Unfit 2)
+wiresIn b = cond (eqb (length b) 1) (Whole (Wires (getD b 0 0))) (Unfit «BAD_KIND»)
 
 -- ── the kinds ──
 -- the inputs, and the groups of five, of the part that stands
@@ -127,11 +131,11 @@ laterOf kind part b =
     (cond (eqb kind LEVEL) (switchIn levelOf b)
     (cond (eqb kind TICKS) (ticksIn b)
     (cond (eqb kind SOAK) (soakIn b)
-    (cond (eqb kind WIRES) (wiresIn b) (Unfit 2)))))))))))))))))
+    (cond (eqb kind WIRES) (wiresIn b) (Unfit «BAD_KIND»)))))))))))))))))
 
 -- part 0: none stands yet, and SETUP alone is first
 unfoldable pub payloadOf : ℕ → ℕ → List ℕ → Payload
-payloadOf kind part b = cond (eqb part 0) (cond (eqb kind SETUP) (setupIn b) (Unfit 2)) (laterOf kind part b)
+payloadOf kind part b = cond (eqb part 0) (cond (eqb kind SETUP) (setupIn b) (Unfit «BAD_KIND»)) (laterOf kind part b)
 
 -- ── a record: the payload's length, its kind, the payload (CHIP R1) ──
 abbrev pub asRead : ℕ → Payload → Read
@@ -141,15 +145,15 @@ asRead next (Unfit k) = Refused k next
 -- the record that bytes begin with; 9 comes before all (CHIP N30)
 unfoldable pub readOf : ℕ → List ℕ → Read
 readOf part r =
-    cond (ltb (length r) 4) Cut
-    (cond (ltb (length r - 4) (le16 r 0)) Cut
-    (asRead (4 + le16 r 0) (payloadOf (le16 r 2) part (take (le16 r 0) (drop 4 r)))))
+    cond (ltb (length r) HEADER) Cut
+    (cond (ltb (length r - HEADER) (le16 r 0)) Cut
+    (asRead (HEADER + le16 r 0) (payloadOf (le16 r 2) part (take (le16 r 0) (drop HEADER r)))))
 
 -- the number of each answer (CHIP O4)
 abbrev pub numberOf : Read → ℕ
-numberOf (Record e next) = 0
+numberOf (Record e next) = DONE
 numberOf (Refused k next) = k
-numberOf Cut = 9
+numberOf Cut = CUT
 
 -- ── the counts beside an event ──
 abbrev pub noCounts : Counts
@@ -157,7 +161,7 @@ noCounts = record { many = 0; of = replicate 15 0 }
 
 -- the numbers of a payload, at most 15
 unfoldable pub countsOf : List ℕ → Counts
-countsOf b = record { many = cond (ltb (length b) 30) (length b / 2) 15; of = filled 15 (words b) }
+countsOf b = record { many = cond (ltb (length b) 30) (length b / 2) 15; of = padded 15 (words b) }
 
 -- SCAN and TEMP alone have counts
 abbrev pub countsAs : Beside → List ℕ → Counts
@@ -170,7 +174,7 @@ countsIn e b = countsAs (besideOf e) b
 
 -- the counts beside what was read at the start of r
 abbrev pub countsBeside : List ℕ → Read → Counts
-countsBeside r (Record e next) = countsIn e (take (next - 4) (drop 4 r))
+countsBeside r (Record e next) = countsIn e (take (next - HEADER) (drop HEADER r))
 countsBeside r (Refused k next) = noCounts
 countsBeside r Cut = noCounts
 

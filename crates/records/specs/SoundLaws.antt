@@ -18,6 +18,9 @@ use Rattle.events.specs.Event.{meantOf}
 use Rattle.events.specs.declared.Setup.{Setup as SetupValues}
 use Rattle.events.specs.declared.Counts.{Counts}
 use Rattle.events.specs.declared.BusEvent.the-variants.{Start, Out, In, Stop}
+use Rattle.events.specs.Role.{roleOf, by-role}
+use Rattle.events.specs.declared.Role.{Role}
+use Rattle.events.specs.declared.Role.the-variants.{Makes, Rewires, Happens}
 use Rattle.events.specs.declared.Event.{Event}
 use Rattle.events.specs.declared.Event.the-variants.{Setup, Por, Boot, Scan, Temp, Count, Sense, Pin, Load, Xready, OnBus, Level, Ticks}
 use Rattle.events.specs.declared.Event.the-variants.{Soak, Wires}
@@ -54,22 +57,17 @@ crc-back p c a g f h =
 pub setup-good : (p c a g o f : ℕ) → setupFits p c a g f ≡ true → setupGood (setupOf p c a g o f) ≡ true
 setup-good p c a g o f h = ap (λ (n : ℕ). setupFits p n a g f && true) (crc-back p c a g f h) ∙ ap (λ (t : Bool). t && true) h
 
+-- a SETUP with values in range
+abbrev MakesGood : Role → Type 0
+MakesGood (Makes v) = setupGood v ≡ true
+MakesGood (Rewires n) = ⊥
+MakesGood Happens = ⊥
+
 abbrev pub IsSetup : Event → Type 0
-IsSetup (Setup v) = setupGood v ≡ true
-IsSetup Por = ⊥
-IsSetup Boot = ⊥
-IsSetup Scan = ⊥
-IsSetup Temp = ⊥
-IsSetup (Count n) = ⊥
-IsSetup (Sense v) = ⊥
-IsSetup Pin = ⊥
-IsSetup (Load l) = ⊥
-IsSetup Xready = ⊥
-IsSetup (OnBus b) = ⊥
-IsSetup (Level l) = ⊥
-IsSetup (Ticks v n) = ⊥
-IsSetup (Soak v n) = ⊥
-IsSetup (Wires n) = ⊥
+IsSetup e = MakesGood (roleOf e)
+
+pub no-setup : (e : Event) → roleOf e ≡ Happens → IsSetup e → ⊥
+no-setup e h s = subst MakesGood h s
 
 abbrev FirstOk : Payload → Type 0
 FirstOk (Whole e) = IsSetup e
@@ -99,40 +97,20 @@ abbrev pub Meaning : SetupValues → Event → Counts → Type 0
 Meaning u e k = inRange (meantOf u e k) ≡ true
 
 -- a wiring record means no event of a chip
+abbrev rewires : Role → Bool
+rewires (Makes v) = false
+rewires (Rewires n) = true
+rewires Happens = false
+
 abbrev pub isWires : Event → Bool
-isWires (Setup v) = false
-isWires Por = false
-isWires Boot = false
-isWires Scan = false
-isWires Temp = false
-isWires (Count n) = false
-isWires (Sense v) = false
-isWires Pin = false
-isWires (Load l) = false
-isWires Xready = false
-isWires (OnBus b) = false
-isWires (Level l) = false
-isWires (Ticks v n) = false
-isWires (Soak v n) = false
-isWires (Wires n) = true
+isWires e = rewires (roleOf e)
+
+pub no-wires : (e : Event) → roleOf e ≡ Happens → isWires e ≡ false
+no-wires e h = ap rewires h
 
 -- to know something of every event, it is enough to know it of a wiring record and of every other
 pub wires-by : (P : Event → Type 0) → ((n : ℕ) → P (Wires n)) → ((e : Event) → isWires e ≡ false → P e) → (e : Event) → P e
-wires-by P w f (Setup v) = f (Setup v) refl
-wires-by P w f Por = f Por refl
-wires-by P w f Boot = f Boot refl
-wires-by P w f Scan = f Scan refl
-wires-by P w f Temp = f Temp refl
-wires-by P w f (Count n) = f (Count n) refl
-wires-by P w f (Sense v) = f (Sense v) refl
-wires-by P w f Pin = f Pin refl
-wires-by P w f (Load l) = f (Load l) refl
-wires-by P w f Xready = f Xready refl
-wires-by P w f (OnBus b) = f (OnBus b) refl
-wires-by P w f (Level l) = f (Level l) refl
-wires-by P w f (Ticks v n) = f (Ticks v n) refl
-wires-by P w f (Soak v n) = f (Soak v n) refl
-wires-by P w f (Wires n) = w n
+wires-by P w f = by-role P (λ v. f (Setup v) refl) w (λ e h. f e (no-wires e h))
 
 abbrev LaterOk : SetupValues → List ℕ → Payload → Type 0
 LaterOk u b (Whole e) = isWires e ≡ false → Meaning u e (countsIn e b)

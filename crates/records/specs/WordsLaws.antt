@@ -11,7 +11,8 @@ use lib.ListN.{length, drop, length-drop}
 use lib.Seq.{drop-cons}
 use borrow.Author.Tests.{le-leb, lt-leb, leb-true, leb-false}
 use Rattle.events.specs.Event.{within, countMost}
-use Rattle.records.specs.Numbers.{le16, words, wordOr, filled}
+use Rattle.cell_counts.specs.Scan.{padded}
+use Rattle.records.specs.Numbers.{le16, words, wordOr}
 
 pub words-at : (b : List ℕ) (i : ℕ) → i + 2 ≤ length b → words (drop i b) ≡ le16 b i ∷ words (drop (i + 2) b)
 words-at b i h =
@@ -40,17 +41,17 @@ wordsFrom zero i b = []
 wordsFrom (suc n) i b = wordOr b i ∷ wordsFrom n (i + 1) b
 
 from-by : (n i : ℕ) (b : List ℕ) (t : Bool) → leb (2 * i + 2) (length b) ≡ t
-    → wordsFrom n (i + 1) b ≡ filled n (words (drop (2 * i + 2) b)) → wordsFrom (suc n) i b ≡ filled (suc n) (words (drop (2 * i) b))
+    → wordsFrom n (i + 1) b ≡ padded n (words (drop (2 * i + 2) b)) → wordsFrom (suc n) i b ≡ padded (suc n) (words (drop (2 * i) b))
 unfolding wordOr
 from-by n i b true e ih = simp (e, words-at b (2 * i) (leb-true _ _ e)) (ap (λ (l : List ℕ). le16 b (2 * i) ∷ l) ih)
 from-by n i b false e ih =
     let h : length b < 2 * i + 2 = leb-false _ _ e in
     let none : words (drop (2 * i) b) ≡ [] = words-end b (2 * i) h in
     let less : words (drop (2 * i + 2) b) ≡ [] = words-end b (2 * i + 2) (omega arith) in
-    simp (e, none) (ap (λ (l : List ℕ). 0 ∷ l) (ih ∙ ap (filled n) less))
+    simp (e, none) (ap (λ (l : List ℕ). 0 ∷ l) (ih ∙ ap (padded n) less))
 
-pub words-from : (n i : ℕ) (b : List ℕ) → wordsFrom n i b ≡ filled n (words (drop (2 * i) b))
+pub words-from : (n i : ℕ) (b : List ℕ) → wordsFrom n i b ≡ padded n (words (drop (2 * i) b))
 words-from zero i b = refl
 words-from (suc n) i b =
     let e : 2 * (i + 1) ≡ 2 * i + 2 = omega arith in
-    from-by n i b (leb (2 * i + 2) (length b)) refl (words-from n (i + 1) b ∙ ap (λ (k : ℕ). filled n (words (drop k b))) e)
+    from-by n i b (leb (2 * i + 2) (length b)) refl (words-from n (i + 1) b ∙ ap (λ (k : ℕ). padded n (words (drop k b))) e)

@@ -4,7 +4,8 @@ ghost use mathlib.Core.Bool.{true};
 ghost use Prim.Native.Nat.{_+_, _<_, _≤_};
 ghost use lib.ListN.{length};
 ghost use Rattle.events.specs.Event.{countMost, senseFits, ticksMost, soakMost, within};
-ghost use Rattle.records.specs.Numbers.{le16, le32, signed32, words, wordOr, filled};
+ghost use Rattle.cell_counts.specs.Scan.{padded};
+ghost use Rattle.records.specs.Numbers.{le16, le32, signed32, words, wordOr};
 ghost use Rattle.records.specs.Frame.{frameOf, headerOf};
 ghost use Rattle.records.specs.Record.{senseOf, repeatOf, ticksOf, ticksIn, soakOf, soakIn, setupIn, bareIn, countedIn, countIn, senseIn, switchIn, loadOf, levelOf, inOf, outIn, wiresIn, groupsAt, inputsAt, laterOf, payloadOf, readOf, numberOf, noCounts, countsOf, countsIn, takenAt};
 use constants::kind;
@@ -129,7 +130,7 @@ fn all_counts(b: &[u8]) -> bool
 fn setup_in(b: &[u8]) -> Payload
     ensures { λ r. ⌜ r ≡ setupIn (now (b .entry)) ⌝ }
 {
-    if b.len() != 7 {
+    if b.len() != size::SETUP_PAYLOAD {
         return Payload::Unfit(number::BAD_KIND);
     }
     match setup_of(b[0], b[1], b[2], b[3], b[4], get16(b, 5)) {
@@ -166,7 +167,7 @@ fn counted_in(event: Event, wanted: u8, b: &[u8]) -> Payload
 fn count_in(b: &[u8]) -> Payload
     ensures { λ r. ⌜ r ≡ countIn (now (b .entry)) ⌝ }
 {
-    if b.len() != 2 {
+    if b.len() != size::COUNT_PAYLOAD {
         return Payload::Unfit(number::BAD_KIND);
     }
     Payload::Whole(Event::Count(get16(b, 0)))
@@ -175,7 +176,7 @@ fn count_in(b: &[u8]) -> Payload
 fn sense_in(b: &[u8]) -> Payload
     ensures { λ r. ⌜ r ≡ senseIn (now (b .entry)) ⌝ }
 {
-    if b.len() != 4 {
+    if b.len() != size::SENSE_PAYLOAD {
         return Payload::Unfit(number::BAD_KIND);
     }
     sense(get32(b, 0))
@@ -184,7 +185,7 @@ fn sense_in(b: &[u8]) -> Payload
 fn ticks_in(b: &[u8]) -> Payload
     ensures { λ r. ⌜ r ≡ ticksIn (now (b .entry)) ⌝ }
 {
-    if b.len() != 6 {
+    if b.len() != size::TICKS_PAYLOAD {
         return Payload::Unfit(number::BAD_KIND);
     }
     ticks(get32(b, 0), get16(b, 4))
@@ -193,7 +194,7 @@ fn ticks_in(b: &[u8]) -> Payload
 fn soak_in(b: &[u8]) -> Payload
     ensures { λ r. ⌜ r ≡ soakIn (now (b .entry)) ⌝ }
 {
-    if b.len() != 8 {
+    if b.len() != size::SOAK_PAYLOAD {
         return Payload::Unfit(number::BAD_KIND);
     }
     soak(get32(b, 0), get32(b, 4))
@@ -261,13 +262,21 @@ fn wires_in(b: &[u8]) -> Payload
 pub fn groups_at(part: u8) -> u8
     ensures { λ r. ⌜ r ≡ groupsAt part ⌝ }
 {
-    if part < 3 { part } else { 3 }
+    if part < range::PART_MOST {
+        part
+    } else {
+        range::PART_MOST
+    }
 }
 
 pub fn inputs_at(part: u8) -> u8
     ensures { λ r. ⌜ r ≡ inputsAt part ⌝ }
 {
-    if part < 3 { 5 * part } else { 15 }
+    if part < range::PART_MOST {
+        range::GROUP_INPUTS * part
+    } else {
+        range::INPUTS_MOST
+    }
 }
 
 // The payload of a kind once a part stands.
@@ -339,7 +348,7 @@ fn word(b: &[u8], i: usize) -> u16
 }
 
 fn fifteen(b: &[u8]) -> [u16; 15]
-    ensures { λ r. ⌜ r ≡ filled 15 (words (now (b .entry))) ⌝ }
+    ensures { λ r. ⌜ r ≡ padded 15 (words (now (b .entry))) ⌝ }
 {
     [
         word(b, 0),
@@ -364,13 +373,16 @@ fn counts_of(b: &[u8]) -> Counts
     ensures { λ r. ⌜ r ≡ countsOf (now (b .entry)) ⌝ }
 {
     let of = fifteen(b);
-    if b.len() < 30 {
+    if b.len() < size::PAYLOAD_MOST {
         return Counts {
             many: (b.len() / 2) as u8,
             of,
         };
     }
-    Counts { many: 15, of }
+    Counts {
+        many: range::INPUTS_MOST,
+        of,
+    }
 }
 
 pub fn no_counts() -> Counts

@@ -6,13 +6,13 @@ use lib.Dec.{eqb, leb}
 use lib.IntN.{ℤ}
 use lib.ListN.{length, getD}
 use Rattle.wiring.specs.Rows.{linkedBits}
-use Rattle.values.specs.Values.{Said, gives, refuses}
+use Rattle.constants.specs.Answer.{Said, gives, refuses}
 use Rattle.values.specs.Forecast.{totalOf}
 use Rattle.bleed.specs.declared.Choice.{Choice}
 use Rattle.bleed.specs.Excess.{proposed}
 use Rattle.smart_battery.specs.declared.Pack.{Pack}
 use Rattle.chip.specs.declared.Chip.{Chip}
-use Rattle.chip.specs.Outward.{linkedCounts}
+use Rattle.chip_voltage.specs.Voltage.{linkedCounts}
 use Rattle.services_chip.specs.declared.Proposal.{Proposal}
 use Rattle.services_chip.specs.declared.Proposal.the-variants.{Is, No}
 

@@ -13,7 +13,7 @@ use Rattle.bits.specs.Bit.{bit, weighed}
 use Rattle.events.specs.Setup.{inputs}
 use Rattle.events.specs.FewLaws.{few-inputs}
 use Rattle.wiring.specs.Rows.{bits, connected, linkedBits}
-use Rattle.values.specs.Values.{Said, gives, refuses}
+use Rattle.constants.specs.Answer.{Said, gives, refuses}
 use Rattle.bleed.specs.declared.Choice.{Choice}
 use Rattle.bleed.specs.Choice.{excessIn, near, low, mayIn, chosen, allowed, total}
 use Rattle.bleed.specs.BestLaws.{Best as Best-, chosen-best, right-of}

@@ -2,7 +2,7 @@
 use mathlib.Core.Path.{_≡_, refl, sym, ap, _∙_}
 use mathlib.Core.List.{List}
 use Prim.Native.Nat.{ℕ}
-use Rattle.values.specs.Values.{Said, gives, refuses}
+use Rattle.constants.specs.Answer.{Said, gives, refuses}
 use Rattle.bleed.specs.declared.Choice.{Choice}
 use Rattle.smart_battery.specs.declared.Word.{Word}
 use Rattle.smart_battery.specs.declared.Word.the-variants as W

@@ -27,7 +27,7 @@ pub fn bleeding(chip: Chip, margin: u32) -> Proposal
             let registers = chip.registers;
             let measured = registers.measured;
             let cells = measured.cells;
-            let linked = chip.linked();
+            let linked = chip_voltage::linked(chip);
             if linked == 0 {
                 return Proposal::No(number::NOT_CONNECTED);
             }
@@ -46,7 +46,7 @@ fn pack_of(chip: Chip) -> Pack
     let settings = registers.settings;
     let measured = registers.measured;
     let ts = measured.ts;
-    let linked = chip.linked();
+    let linked = chip_voltage::linked(chip);
     Pack {
         normal: chip.normal,
         external: settings.temp_sel,

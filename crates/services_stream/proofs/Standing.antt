@@ -6,7 +6,7 @@ use lib.ListN.{length, set}
 use lib.IntN.{ℤ}
 use native.Mathlib.Omega.{arith}
 use borrow.Author.Tests.{eq-eqb, ne-eqb, lt-ltb, le-ltb}
-use Rattle.values.specs.Values.{Said, gives, refuses}
+use Rattle.constants.specs.Answer.{Said, gives, refuses}
 use Rattle.records.specs.Record.{readOf, numberOf}
 use Rattle.chip.specs.declared.Chip.{Chip}
 use Rattle.bleed.specs.declared.Choice.{Choice}

@@ -5,7 +5,7 @@ use mathlib.Core.List.{List, [], _∷_, _++_}
 use Prim.Native.Nat.{ℕ}
 use lib.Dec.{ltb}
 use lib.ListN.{length, drop}
-use Rattle.values.specs.Values.{Said, gives, refuses}
+use Rattle.constants.specs.Answer.{Said, gives, refuses}
 use Rattle.bleed.specs.declared.Choice.{Choice}
 use Rattle.smart_battery.specs.Words.{wordFor}
 use Rattle.smart_battery.specs.Reply.{repliedNumber}

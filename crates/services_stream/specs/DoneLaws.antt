@@ -8,7 +8,7 @@ use lib.Dec.{eqb, leb, ltb}
 use lib.IntN.{ℤ, pos, negsuc}
 use lib.ListN.{length, drop}
 use borrow.Author.Tests.{eqb-true, eq-eqb}
-use Rattle.values.specs.Values.{Said, gives, refuses}
+use Rattle.constants.specs.Answer.{Said, gives, refuses}
 use Rattle.bleed.specs.declared.Choice.{Choice}
 use Rattle.bleed.specs.Excess.{proposed}
 use Rattle.smart_battery.specs.declared.Pack.{Pack}

@@ -1,5 +1,5 @@
 // What workshops and chargers ask of the chip that a stream leaves, for C.
-ghost use Rattle.values.specs.Values.{gives};
+ghost use Rattle.constants.specs.Answer.{gives};
 ghost use Rattle.smart_battery.specs.Reply.{Replied};
 ghost use Rattle.services_stream.specs.Asks.{proposalAt, wordAt, Bled};
 use bleed::Choice;

@@ -6,6 +6,13 @@ ghost use Rattle.settings.specs.Read.{settingsByte};
 use constants::address;
 use constants::weight;
 
+// What the registers hold on entering SHIP that is not 0, beside ADC_EN.
+const OV_TRIP_RESET: u8 = 0xAC;
+
+const UV_TRIP_RESET: u8 = 0x97;
+
+const CC_CFG_RESET: u8 = 0x17;
+
 pub struct Settings {
     // ADC_EN, TEMP_SEL and whether the pair (0,1) is held.
     pub adc_en: bool,
@@ -61,9 +68,9 @@ pub fn reset() -> Settings
         protect1: 0,
         protect2: 0,
         protect3: 0,
-        ov_trip: 0xAC,
-        uv_trip: 0x97,
-        cc_cfg: 0x17,
+        ov_trip: OV_TRIP_RESET,
+        uv_trip: UV_TRIP_RESET,
+        cc_cfg: CC_CFG_RESET,
     }
 }
 

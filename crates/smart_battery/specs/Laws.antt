@@ -7,7 +7,7 @@ use native.Mathlib.Omega.{arith}
 use lib.IntN.{ℤ, pos, negsuc, negℤ, _+ℤ_, +ℤ-assoc, +ℤ-comm}
 use lib.ListN.{length, set, drop}
 use borrow.Author.Tests.{lt-ltb, le-ltb, lt-leb, le-leb}
-use Rattle.values.specs.Values.{gives, refuses}
+use Rattle.constants.specs.Answer.{gives, refuses}
 use Rattle.smart_battery.specs.Words.{kelvins, milliamps, toward, unsignedSaid, signedSaid}
 
 -- ── Temperature ──

@@ -6,7 +6,7 @@ use Prim.Native.Nat.{ℕ, _/_, _%_}
 use lib.Dec.{ltb}
 use lib.ListN.{length, drop}
 use Rattle.crc8.specs.Crc.{crcOn}
-use Rattle.values.specs.Values.{Said, gives, refuses}
+use Rattle.constants.specs.Answer.{Said, gives, refuses}
 
 -- the PEC (CHIP C2)
 abbrev pub pecOf : ℕ → ℕ → ℕ → ℕ

@@ -3,7 +3,8 @@ use mathlib.Core.Bool.{Bool, _&&_, _||_, cond}
 use Prim.Native.Nat.{ℕ, suc, _+_, _-_, _*_, _/_}
 use lib.Dec.{eqb, leb}
 use lib.IntN.{ℤ, pos, negsuc, negℤ, _+ℤ_}
-use Rattle.values.specs.Values.{Said, gives, refuses, floor, dieTemperature, ccHundredths}
+use Rattle.constants.specs.Answer.{Said, gives, refuses}
+use Rattle.values.specs.Values.{floor, dieTemperature, ccHundredths}
 use Rattle.smart_battery.specs.declared.Word.{Word}
 use Rattle.smart_battery.specs.declared.Word.the-variants.{Is, No}
 use Rattle.smart_battery.specs.declared.Pack.{Pack}

@@ -1,7 +1,7 @@
 // Smart Battery words: the replies that a charger is given to Temperature(), Voltage() and Current().
 ghost use mathlib.Core.Path.{_≡_};
 ghost use Prim.Native.Nat.{_<_, _≤_};
-ghost use Rattle.values.specs.Values.{gives};
+ghost use Rattle.constants.specs.Answer.{gives};
 ghost use Rattle.smart_battery.specs.Words.{saidWord, unsignedSaid, signedSaid, kelvins, millivolts, milliamps, askedFor, wordFor};
 ghost use Rattle.smart_battery.specs.Reply.{pecOf, Replied};
 use constants::number;

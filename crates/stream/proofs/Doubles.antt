@@ -14,11 +14,11 @@ use Rattle.chip.specs.declared.Chip.{Chip}
 use types.Run.{OneOf}
 use denote.Enum.Declared.{tagOf}
 use mathlib.Core.Logic.{⊎-elim}
-use Rattle.values.specs.Values.{numberSaid}
+use Rattle.constants.specs.Answer.{numberSaid}
 use Rattle.chip.proofs.outward.ForecastAnswer.{the-type as answer-type}
-use Rattle.chip.specs.declared.outward.ForecastAnswer.{ForecastAnswer}
-use Rattle.chip.specs.declared.outward.ForecastAnswer.the-variants.{Is, Asleep, NotConnected}
-use Rattle.chip.specs.Outward.{Reads, forecastNumber, saidForecast, Forecasts}
+use Rattle.chip_voltage.specs.declared.ForecastAnswer.{ForecastAnswer}
+use Rattle.chip_voltage.specs.declared.ForecastAnswer.the-variants.{Is, Asleep, NotConnected}
+use Rattle.chip_voltage.specs.Voltage.{Reads, forecastNumber, saidForecast, Forecasts}
 use Rattle.turn.specs.Entries.{lastChip}
 use Rattle.stream.specs.Forecast.{readingNumber, isGiven, Contents, Read4}
 

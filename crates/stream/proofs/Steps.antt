@@ -11,6 +11,8 @@ use types.Run.{OneOf}
 use denote.Enum.Declared.{tagOf}
 use Rattle.events.specs.declared.Counts.{Counts}
 use Rattle.events.specs.declared.BusEvent.{BusEvent}
+use Rattle.events.specs.Role.{roleOf, by-role}
+use Rattle.events.specs.declared.Role.the-variants.{Happens}
 use Rattle.events.specs.declared.Event.{Event}
 use Rattle.events.specs.declared.Event.the-variants.{Setup, Por, Boot, Scan, Temp, Count, Sense, Pin, Load, Xready, OnBus, Level, Ticks, Soak, Wires}
 use Rattle.events.specs.Event.{Event as Happening, Boot as Booted, Scan as Scanned, Sense as Ticked, OnBus as Signalled, Level as Leveled, Meant, means, ticks, unfit, fits, inRange, eventOf, meantOf, countsFit, countsWanted}
@@ -20,7 +22,7 @@ use Rattle.records.specs.Record.{readOf, countsBeside}
 use Rattle.events.specs.Setup.{inputs}
 use lib.ListN.{take}
 use lib.IntN.{ℤ}
-use Rattle.records.specs.SoundLaws.{IsSetup, first-setup, Meaning, isWires, later-means}
+use Rattle.records.specs.SoundLaws.{first-setup, no-setup, no-wires, Meaning, later-means}
 use Rattle.chip.specs.declared.Chip.{Chip}
 use Rattle.chip.specs.declared.Stepped.{Stepped}
 use Rattle.protection.specs.declared.Judged.{Judged}
@@ -38,7 +40,7 @@ use Rattle.stream.specs.Stream.{unanswered, answerOf, answerHeard, faceO
 use Rattle.turn.specs.Turn.{entryOf, acted, staysFresh, turn, turned, turnOf}
 use Rattle.stream.specs.declared.Answer.{Answer}
 use Rattle.turn.specs.declared.Entry.{Entry}
-use Rattle.turn.proofs.Cases.{Later, other-acted}
+use Rattle.turn.proofs.Cases.{acted-as}
 use Rattle.stream.specs.declared.Face.{Face}
 use Rattle.stream.specs.Often.{often, awakeWork, registersMoved}
 use Rattle.stream.specs.declared.Work.the-variants.{Other}
@@ -61,74 +63,27 @@ checked : (c : Chip) (e : Event) (k : Counts) → Meaning (c .setup) e k → hap
 unfolding meantOf
 checked c e k m = counts-by (countsFit (countsWanted (c .setup) e) k) (eventOf (c .setup) e (k .of)) c m
 
--- no SETUP
-other-first : (e : Event) → IsSetup e → Later e → ⊥
-other-first (Setup v) f o = ⊎-elim (λ h. omega arith) (⊎-elim (λ h. omega arith) (⊎-elim (λ h. omega arith) (⊎-elim (λ h. omega arith) (⊎-elim (λ h. omega arith) (⊎-elim (λ h. omega arith) (⊎-elim (λ h. omega arith) (⊎-elim (λ h. omega arith) (⊎-elim (λ h. omega arith) (⊎-elim (λ h. omega arith) (⊎-elim (λ h. omega arith) (⊎-elim (λ h. omega arith) (λ h. omega arith)))))))))))) o
-other-first Por f o = f
-other-first Boot f o = f
-other-first Scan f o = f
-other-first Temp f o = f
-other-first (Count n) f o = f
-other-first (Sense v) f o = f
-other-first Pin f o = f
-other-first (Load l) f o = f
-other-first Xready f o = f
-other-first (OnBus b) f o = f
-other-first (Level l) f o = f
-other-first (Ticks v n) f o = f
-other-first (Soak v n) f o = f
-other-first (Wires n) f o = f
-
--- and no wiring record
-other-wires : (e : Event) → Later e → isWires e ≡ false
-other-wires (Setup v) o = refl
-other-wires Por o = refl
-other-wires Boot o = refl
-other-wires Scan o = refl
-other-wires Temp o = refl
-other-wires (Count n) o = refl
-other-wires (Sense v) o = refl
-other-wires Pin o = refl
-other-wires (Load l) o = refl
-other-wires Xready o = refl
-other-wires (OnBus b) o = refl
-other-wires (Level l) o = refl
-other-wires (Ticks v n) o = refl
-other-wires (Soak v n) o = refl
-other-wires (Wires n) o = absurd (⊎-elim (λ h. omega arith) (⊎-elim (λ h. omega arith) (⊎-elim (λ h. omega arith) (⊎-elim (λ h. omega arith) (⊎-elim (λ h. omega arith) (⊎-elim (λ h. omega arith) (⊎-elim (λ h. omega arith) (⊎-elim (λ h. omega arith) (⊎-elim (λ h. omega arith) (⊎-elim (λ h. omega arith) (⊎-elim (λ h. omega arith) (⊎-elim (λ h. omega arith) (λ h. omega arith)))))))))))) o)
-
-meaning : (c : Chip) (r : List ℕ) (e : Event) (next : ℕ) (t : Bool) → eqb (c .setup .part) 0 ≡ t → readOf (c .setup .part) r ≡ Record e next → Later e
+meaning : (c : Chip) (r : List ℕ) (e : Event) (next : ℕ) (t : Bool) → eqb (c .setup .part) 0 ≡ t → readOf (c .setup .part) r ≡ Record e next → roleOf e ≡ Happens
     → Meaning (c .setup) e (countsBeside r (Record e next))
 meaning c r e next true t q o =
-    absurd (other-first e (first-setup r e next (subst (λ (p : ℕ). readOf p r ≡ Record e next) (eqb-true (c .setup .part) 0 t) q)) o)
-meaning c r e next false t q o = later-means (c .setup) r e next (eqb-false (c .setup .part) 0 t) q (other-wires e o)
+    absurd (no-setup e o (first-setup r e next (subst (λ (p : ℕ). readOf p r ≡ Record e next) (eqb-true (c .setup .part) 0 t) q)))
+meaning c r e next false t q o = later-means (c .setup) r e next (eqb-false (c .setup .part) 0 t) q (no-wires e o)
 
-pub other-is : {s : Stepped} (op : Bool) (c : Chip) (r : List ℕ) (e : Event) (next : ℕ) (xs : List ℕ) → readOf (c .setup .part) r ≡ Record e next → Later e
+happens-acted : (o : Bool) (c : Chip) (e : Event) (k : Counts) → roleOf e ≡ Happens → steppedBy e k c ≡ acted o e k c
+happens-acted o c e k h = acted-as o c e k Happens refl h refl
+
+pub other-is : {s : Stepped} (op : Bool) (c : Chip) (r : List ℕ) (e : Event) (next : ℕ) (xs : List ℕ) → readOf (c .setup .part) r ≡ Record e next → roleOf e ≡ Happens
     → xs ≡ countsBeside r (Record e next) .of → s ≡ happenedBy e xs c → s ≡ acted op e (countsBeside r (Record e next)) c
 other-is op c r e next xs q o b h =
     h ∙ ap (λ (xs : List ℕ). happenedBy e xs c) b ∙ checked c e (countsBeside r (Record e next)) (meaning c r e next (eqb (c .setup .part) 0) refl q o)
-    ∙ other-acted op c e (countsBeside r (Record e next)) o
+    ∙ happens-acted op c e (countsBeside r (Record e next)) o
 
 -- what is often done, found to be e′
 clash : false ≡ true → ⊥
 clash q = let z : _≡_ {A = ℕ} 0 1 = cc in omega (arith, z)
 
-other-often : (e : Event) → often e ≡ true → Later e
-other-often (Setup v) q = absurd (clash q)
-other-often Por q = absurd (clash q)
-other-often Boot q = absurd (clash q)
-other-often Scan q = inr (inr (inl refl))
-other-often Temp q = absurd (clash q)
-other-often (Count n) q = absurd (clash q)
-other-often (Sense v) q = inr (inr (inr (inr (inr (inl refl)))))
-other-often Pin q = absurd (clash q)
-other-often (Load l) q = absurd (clash q)
-other-often Xready q = absurd (clash q)
-other-often (OnBus b) q = inr (inr (inr (inr (inr (inr (inr (inr (inr (inl refl)))))))))
-other-often (Level l) q = absurd (clash q)
-other-often (Ticks v n) q = absurd (clash q)
-other-often (Soak v n) q = absurd (clash q)
-other-often (Wires n) q = absurd (clash q)
+other-often : (e : Event) → often e ≡ true → roleOf e ≡ Happens
+other-often = by-role (λ (e : Event). often e ≡ true → roleOf e ≡ Happens) (λ v q. absurd (clash q)) (λ n q. absurd (clash q)) (λ e h q. h)
 
 pub as-event : {s : Stepped} {e e′ : Event} (xs : List ℕ) (c : Chip) → e ≡ e′ → s ≡ happenedBy e′ xs c → s ≡ happenedBy e xs c
 as-event xs c q h = h ∙ ap (λ (e : Event). happenedBy e xs c) (sym q)
@@ -227,7 +182,7 @@ closes o c r e e′ next s q t f z =
     by o (eqb (c .setup .part) 0) refl (eqb (s .number) 0) (eq-eqb (s .number) 0 z)
   where
     by : (o b : Bool) → eqb (c .setup .part) 0 ≡ b → (n : Bool) → n ≡ true → false ≡ b || (o && not n)
-    by o true h n m = absurd (other-first e (first-setup r e next (subst (λ (p : ℕ). readOf p r ≡ Record e next) (eqb-true (c .setup .part) 0 h) q)) (other-often e (ap often t ∙ f)))
+    by o true h n m = absurd (no-setup e (other-often e (ap often t ∙ f)) (first-setup r e next (subst (λ (p : ℕ). readOf p r ≡ Record e next) (eqb-true (c .setup .part) 0 h) q)))
     by true false h true m = refl
     by true false h false m = absurd (clash m)
     by false false h n m = refl

@@ -9,7 +9,7 @@ use lib.ListN.{length, drop}
 use Rattle.records.specs.Record.{readOf, numberOf}
 use Rattle.values.specs.declared.Reading.{Reading}
 use Rattle.chip.specs.declared.Chip.{Chip}
-use Rattle.chip.specs.Outward.{Reads, forecastNumber}
+use Rattle.chip_voltage.specs.Voltage.{Reads, forecastNumber}
 use Rattle.turn.specs.Entries.{lastChip}
 
 -- where no chip stands the first record's number, 9 for an empty stream; 4 asleep, 10 where no cell is connected; then 5 for room below 4

@@ -8,7 +8,7 @@ use native.Mathlib.Omega.{arith}
 use lib.Dec.{eqb, ltb}
 use borrow.Author.Tests.{eqb-true, ne-eqb}
 use Rattle.records.specs.Record.{readOf, numberOf}
-use Rattle.chip.specs.Outward.{forecastNumber}
+use Rattle.chip_voltage.specs.Voltage.{forecastNumber}
 use Rattle.turn.specs.Entries.{lastChip}
 use Rattle.turn.specs.StandingLaws.{no-chip}
 use Rattle.stream.specs.Forecast.{readingNumber, isGiven}

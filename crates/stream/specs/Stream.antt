@@ -6,7 +6,10 @@ use mathlib.Core.List.{List, _++_}
 use mathlib.Core.Bool.{Bool, false, cond}
 use lib.ListN.{length, drop}
 use lib.Dec.{eqb, leb}
-use lib.IntN.{ℤ, pos, negsuc}
+use lib.IntN.{ℤ, pos}
+use Rattle.constants.specs.Number.{DONE, «NO_ROOM»}
+use Rattle.constants.specs.Size.{ENTRY}
+use Rattle.constants.specs.Answer.{minus}
 use Rattle.records.specs.declared.Read.{Read}
 use Rattle.records.specs.declared.Read.the-variants.{Record, Refused, Cut}
 use Rattle.bits.specs.Bit.{weighed}
@@ -29,7 +32,7 @@ abbrev pub answerOf : Stepped → Answer
 answerOf s = record { number = s .number; flag = s .flag; byte = s .byte }
 
 abbrev pub answerHeard : Heard → Answer
-answerHeard h = record { number = 0; flag = h .flag; byte = h .byte }
+answerHeard h = record { number = DONE; flag = h .flag; byte = h .byte }
 
 abbrev pub faceOf : Chip → Face
 faceOf c = record { stat = statusByte (c .registers .shown .status); pins = pinsOf c }
@@ -54,5 +57,6 @@ pub record Ran (o : Bool) (c : Chip) (s old : List ℕ) (left : Left) (new : Lis
 
 -- the answer of the C call: the count of entries, or −5 where the buffer is too short for all of them, which then keeps every byte
 pub record Played (s old : List ℕ) (r : ℤ) (new : List ℕ) : Type 0 where
-  pub answer : r ≡ cond (leb (5 * length (entries s)) (length old)) (pos (length (entries s))) (negsuc 4)
-  pub contents : new ≡ cond (leb (5 * length (entries s)) (length old)) (bytesOf (entries s) ++ drop (5 * length (entries s)) old) old
+  pub answer : r ≡ cond (leb (ENTRY * length (entries s)) (length old)) (pos (length (entries s))) (minus «NO_ROOM»)
+  pub contents : new
+      ≡ cond (leb (ENTRY * length (entries s)) (length old)) (bytesOf (entries s) ++ drop (ENTRY * length (entries s)) old) old

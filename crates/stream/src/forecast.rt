@@ -1,10 +1,10 @@
 // Forecasting's call: a stream's reading in doubles.
 ghost use mathlib.Core.Path.{_≡_};
-ghost use Rattle.values.specs.Values.{numberSaid};
-ghost use Rattle.chip.specs.Outward.{saidForecast};
+ghost use Rattle.constants.specs.Answer.{numberSaid};
+ghost use Rattle.chip_voltage.specs.Voltage.{saidForecast};
 ghost use Rattle.stream.specs.Forecast.{Read4};
 use crate::last_chip;
-use chip::ForecastAnswer;
+use chip_voltage::ForecastAnswer;
 use constants::number;
 use constants::size;
 
@@ -30,7 +30,7 @@ pub extern "C" fn toralinge_reading(stream: &[u8], reading: &mut [f64]) -> u8
     if setup.part == 0 {
         return records::first_number(stream);
     }
-    let answer = chip.forecast();
+    let answer = chip_voltage::forecast(chip);
     let ForecastAnswer::Is(given) = answer else {
         return refusal_of(answer);
     };

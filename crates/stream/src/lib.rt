@@ -26,6 +26,7 @@ use constants::size;
 use constants::weight;
 use events::BusEvent;
 use events::Event;
+use events::Role;
 use records::Read;
 use registers::Registers;
 use turn::Entry;
@@ -260,22 +261,10 @@ fn act(chip: Chip, fresh: bool, event: Event, rest: &[u8], next: usize) -> Stepp
     requires { ⌜ Calmed chip ⌝ }
     ensures { λ r. ⌜ r ≡ acted fresh event (countsBeside (now (rest .entry)) (Record event next)) chip ⌝ }
 {
-    match event {
-        Event::Setup(setup) => born(setup),
-        Event::Wires(cells) => rewired(chip, fresh, cells),
-        Event::Por
-        | Event::Boot
-        | Event::Scan
-        | Event::Temp
-        | Event::Count(_)
-        | Event::Sense(_)
-        | Event::Pin
-        | Event::Load(_)
-        | Event::Xready
-        | Event::OnBus(_)
-        | Event::Level(_)
-        | Event::Ticks(_, _)
-        | Event::Soak(_, _) => {
+    match events::role_of(event) {
+        Role::Makes(setup) => born(setup),
+        Role::Rewires(cells) => rewired(chip, fresh, cells),
+        Role::Happens => {
             let setup = chip.setup;
             let counts = counted(setup.part, event, rest, next);
             seldom(chip, event, counts)

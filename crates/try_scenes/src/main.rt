@@ -121,7 +121,7 @@ fn microvolts(v: i64) {
 fn voltage(chip: Chip, cell: u8) {
     text(b"cell ");
     digit(cell);
-    let answer = chip.voltage(cell);
+    let answer = chip_voltage::voltage(chip, cell);
     match answer {
         CellAnswer::Is(v) => microvolts(v.0),
         CellAnswer::Asleep => text(b" refused 4"),
@@ -134,7 +134,7 @@ fn voltage(chip: Chip, cell: u8) {
 // And the connected inputs, as bits.
 fn voltages(chip: Chip) {
     text(b"linked ");
-    io::print_hex(STDOUT_FILENO, chip.linked() as u64, 4);
+    io::print_hex(STDOUT_FILENO, chip_voltage::linked(chip) as u64, 4);
     text(b"\n");
     voltage(chip, 0);
     voltage(chip, 1);

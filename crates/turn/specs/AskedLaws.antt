@@ -4,7 +4,7 @@ use mathlib.Core.Bool.{true, false, cond}
 use mathlib.Core.List.{List}
 use Prim.Native.Nat.{ℕ}
 use lib.Dec.{eqb}
-use Rattle.values.specs.Values.{Said, refuses}
+use Rattle.constants.specs.Answer.{Said, refuses}
 use Rattle.records.specs.Record.{readOf, numberOf}
 use Rattle.turn.specs.Entries.{lastChip}
 

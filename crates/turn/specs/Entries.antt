@@ -5,6 +5,7 @@ use mathlib.Core.Bool.{Bool, false, cond}
 use lib.ListN.{length, take, drop}
 use lib.Seq.{sets}
 use lib.Dec.{leb}
+use Rattle.constants.specs.Size.{ENTRY}
 use Rattle.chip.specs.declared.Chip.{Chip}
 use Rattle.turn.specs.declared.Entry.{Entry}
 use Rattle.turn.specs.Turn.{none, turnOf}
@@ -60,8 +61,8 @@ bytesOf (e ∷ es) = entryBytes e ++ bytesOf es
 
 -- an entry written at its place, where it fits
 abbrev pub noted : List ℕ → ℕ → Entry → List ℕ
-noted out n e = cond (leb (5 * n + 5) (length out)) (sets out (5 * n) (entryBytes e)) out
+noted out n e = cond (leb (ENTRY * n + ENTRY) (length out)) (sets out (ENTRY * n) (entryBytes e)) out
 
 -- entries written from a buffer's start on, as many as fit
 abbrev pub entered : List ℕ → List Entry → List ℕ
-entered old es = bytesOf (take (length old / 5) es) ++ drop (5 * length (take (length old / 5) es)) old
+entered old es = bytesOf (take (length old / ENTRY) es) ++ drop (ENTRY * length (take (length old / ENTRY) es)) old

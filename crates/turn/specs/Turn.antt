@@ -3,11 +3,13 @@ use Prim.Native.Nat.{ℕ}
 use mathlib.Core.List.{List}
 use mathlib.Core.Bool.{Bool, true, false, cond, not, _&&_, _||_}
 use lib.Dec.{eqb}
+use Rattle.constants.specs.Number.{DONE, «BAD_KIND», CUT}
 use Rattle.events.specs.declared.Setup.{Setup as SetupValues}
 use Rattle.events.specs.declared.Counts.{Counts}
+use Rattle.events.specs.Role.{roleOf}
+use Rattle.events.specs.declared.Role.{Role}
+use Rattle.events.specs.declared.Role.the-variants.{Makes, Rewires, Happens}
 use Rattle.events.specs.declared.Event.{Event}
-use Rattle.events.specs.declared.Event.the-variants.{Setup, Por, Boot, Scan, Temp, Count, Sense, Pin, Load, Xready, OnBus, Level, Ticks}
-use Rattle.events.specs.declared.Event.the-variants.{Soak, Wires}
 use Rattle.records.specs.declared.Read.{Read}
 use Rattle.records.specs.declared.Read.the-variants.{Record, Refused, Cut}
 use Rattle.records.specs.Record.{standing, readOf, countsBeside}
@@ -39,7 +41,7 @@ entryOf s =
 
 -- the chip that SETUP makes
 abbrev pub bornOf : SetupValues → Stepped
-bornOf v = numbered 0 (inShip v)
+bornOf v = numbered DONE (inShip v)
 
 -- a wiring record makes the chip anew, with its cells, where it is taken (CHIP W1)
 abbrev pub wiredAs : Wiring → Chip → Stepped
@@ -47,30 +49,21 @@ wiredAs (With u) c = bornOf u
 wiredAs NoRow c = numbered (wiredNumber NoRow) c
 
 abbrev pub wires : Bool → ℕ → Chip → Stepped
-wires fresh n c = cond fresh (wiredAs (wiredWith (c .setup) n) c) (numbered 2 c)
+wires fresh n c = cond fresh (wiredAs (wiredWith (c .setup) n) c) (numbered «BAD_KIND» c)
 
 -- SETUP, which the reader gives only first, makes the chip; every other event happens to it. `fresh` says that only SETUP and refused
 -- records stand before
+abbrev pub actedAs : Bool → Role → Event → Counts → Chip → Stepped
+actedAs o (Makes v) e k c = bornOf v
+actedAs o (Rewires n) e k c = wires o n c
+actedAs o Happens e k c = steppedBy e k c
+
 unfoldable pub acted : Bool → Event → Counts → Chip → Stepped
-acted o (Setup v) k c = bornOf v
-acted o Por k c = steppedBy Por k c
-acted o Boot k c = steppedBy Boot k c
-acted o Scan k c = steppedBy Scan k c
-acted o Temp k c = steppedBy Temp k c
-acted o (Count n) k c = steppedBy (Count n) k c
-acted o (Sense v) k c = steppedBy (Sense v) k c
-acted o Pin k c = steppedBy Pin k c
-acted o (Load l) k c = steppedBy (Load l) k c
-acted o Xready k c = steppedBy Xready k c
-acted o (OnBus b) k c = steppedBy (OnBus b) k c
-acted o (Level l) k c = steppedBy (Level l) k c
-acted o (Ticks v n) k c = steppedBy (Ticks v n) k c
-acted o (Soak v n) k c = steppedBy (Soak v n) k c
-acted o (Wires n) k c = wires o n c
+acted o e k c = actedAs o (roleOf e) e k c
 
 -- .. and after a record: after SETUP, which alone meets no part, and after a refused one
 abbrev pub staysFresh : Bool → Chip → Stepped → Bool
-staysFresh o c s = eqb (c .setup .part) 0 || (o && not (eqb (s .number) 0))
+staysFresh o c s = eqb (c .setup .part) 0 || (o && not (eqb (s .number) DONE))
 
 -- ── what a record makes of a chip: its entry, the next chip and place, whether a wiring record may follow, and whether it is the last ──
 pub record Turn : Type 0 where
@@ -88,7 +81,7 @@ abbrev pub turned : Bool → Chip → List ℕ → Read → Turn
 turned o c rest (Record e next) =
     turn (acted o e (countsBeside rest (Record e next)) c) (staysFresh o c (acted o e (countsBeside rest (Record e next)) c)) next false
 turned o c rest (Refused k next) = turn (numbered k c) o next (eqb (c .setup .part) 0)
-turned o c rest Cut = turn (numbered 9 c) o 0 true
+turned o c rest Cut = turn (numbered CUT c) o 0 true
 
 unfoldable pub turnOf : Bool → Chip → List ℕ → Turn
 turnOf o c rest = turned o c rest (readOf (c .setup .part) rest)

@@ -10,6 +10,7 @@ use constants::number;
 use constants::size;
 use events::Counts;
 use events::Event;
+use events::Role;
 use events::Setup;
 use records::Read;
 use wiring::Wiring;
@@ -99,22 +100,10 @@ fn entry_of(s: Stepped) -> Entry
 fn act(chip: Chip, fresh: bool, event: Event, counts: Counts) -> Stepped
     ensures { λ r. ⌜ r ≡ acted fresh event counts chip ⌝ }
 {
-    match event {
-        Event::Setup(setup) => born(setup),
-        Event::Wires(cells) => rewired(chip, fresh, cells),
-        Event::Por
-        | Event::Boot
-        | Event::Scan
-        | Event::Temp
-        | Event::Count(_)
-        | Event::Sense(_)
-        | Event::Pin
-        | Event::Load(_)
-        | Event::Xready
-        | Event::OnBus(_)
-        | Event::Level(_)
-        | Event::Ticks(_, _)
-        | Event::Soak(_, _) => chip.step(event, counts),
+    match events::role_of(event) {
+        Role::Makes(setup) => born(setup),
+        Role::Rewires(cells) => rewired(chip, fresh, cells),
+        Role::Happens => chip.step(event, counts),
     }
 }
 

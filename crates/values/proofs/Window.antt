@@ -10,7 +10,8 @@ use lib.Signed.{ltZ, nonNeg}
 use mir.Syntax.{w8, w64}
 use mir.Val.{Fits}
 use borrow.Author.Tests.{le-leb, lt-leb, ltb-true, ltb-false}
-use Rattle.values.specs.Values.{gives, refuses, inWindow, floor, full, up, gain, offsetMicrovolts}
+use Rattle.constants.specs.Answer.{gives, refuses}
+use Rattle.values.specs.Values.{inWindow, floor, full, up, gain, offsetMicrovolts}
 use Rattle.values.proofs.Within.{Within, abs-neg, lit, times, signed}
 
 up-cond : (P : ℕ → Type 0) (t : Bool) (x y : ℤ) → (T t → P (up x)) → (T (not t) → P (up y)) → P (up (cond t x y))

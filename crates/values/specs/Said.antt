@@ -1,7 +1,7 @@
 -- What each answer of the code says, as number and value (CHIP O4). Assumes nothing.
 use Prim.Native.Nat.{ℕ}
 use lib.IntN.{ℤ}
-use Rattle.values.specs.Values.{Said, gives, refuses}
+use Rattle.constants.specs.Answer.{Said, gives, refuses}
 use Rattle.values.specs.declared.Refusal.{Refusal}
 use Rattle.values.specs.declared.Refusal.the-variants.{GainCode, Count, Thermistor, Window}
 use Rattle.values.specs.declared.CellVoltage.{CellVoltage}

@@ -5,7 +5,7 @@ use mathlib.Core.List.{List}
 use Prim.Native.Nat.{ℕ}
 use lib.Dec.{eqb}
 use lib.IntN.{ℤ}
-use Rattle.values.specs.Values.{Said, gives, refuses}
+use Rattle.constants.specs.Answer.{Said, gives, refuses}
 use Rattle.values.specs.Said.{numberOf, saidVoltage, saidOhms, saidDie, saidCode}
 use Rattle.values.specs.Forecast.{IsReading}
 use Rattle.values.specs.declared.Reading.{Reading}

@@ -3,7 +3,8 @@ use Prim.Native.Nat.{ℕ}
 use mathlib.Core.Path.{_≡_, refl}
 use mathlib.Core.List.{List, [], _∷_, map}
 use lib.IntN.{ℤ, pos, negℤ}
-use Rattle.values.specs.Values.{Said, gives, refuses, cellSaid, ccHundredths, ohmsSaid, overSaid, underSaid, thresholdSaid}
+use Rattle.constants.specs.Answer.{Said, gives, refuses}
+use Rattle.values.specs.Values.{cellSaid, ccHundredths, ohmsSaid, overSaid, underSaid, thresholdSaid}
 use Rattle.crc8.specs.Crc.{crc}
 
 -- what is asked. A gain is given by its code: 354 is 344 + 10

@@ -1,7 +1,7 @@
 -- What a conversion gives C, from what its answer says. Assumes nothing.
 use mathlib.Core.Path.{_≡_, sym, ap, _∙_}
 use Prim.Native.Nat.{ℕ}
-use Rattle.values.specs.Values.{Said, numberSaid, valueSaid}
+use Rattle.constants.specs.Answer.{Said, numberSaid, valueSaid}
 use Rattle.values_c.specs.Convert.{Gives}
 
 -- the answer r says what was asked, and was found to be a

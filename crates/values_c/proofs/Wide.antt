@@ -6,7 +6,8 @@ use native.Mathlib.Omega.{arith}
 use lib.Dec.{ltb}
 use lib.IntN.{ℤ}
 use borrow.Author.Tests.{ltb-false, lt-ltb, le-leb}
-use Rattle.values.specs.Values.{Said, gives, cellMicrovolts, dieTemperature, codeFirst, countThen, cellSaid, dieSaid, ohmsSaid, full, inWindow, thresholdSaid}
+use Rattle.constants.specs.Answer.{Said, gives}
+use Rattle.values.specs.Values.{cellMicrovolts, dieTemperature, codeFirst, countThen, cellSaid, dieSaid, ohmsSaid, full, inWindow, thresholdSaid}
 use Rattle.values_c.specs.Convert.{clipped}
 
 code-by : {A : Type 0} (g : ℕ) (f : ℕ → Said A) (t : Bool) → ltb g 255 ≡ t → codeFirst (cond t g 255) (f (cond t g 255)) ≡ codeFirst g (f g)

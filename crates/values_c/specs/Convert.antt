@@ -3,7 +3,7 @@ use mathlib.Core.Path.{_≡_}
 use mathlib.Core.Bool.{cond}
 use Prim.Native.Nat.{ℕ}
 use lib.Dec.{ltb}
-use Rattle.values.specs.Values.{Said, numberSaid, valueSaid}
+use Rattle.constants.specs.Answer.{Said, numberSaid, valueSaid}
 
 -- a number, or the most where it is larger
 abbrev pub clipped : ℕ → ℕ → ℕ

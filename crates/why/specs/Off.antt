@@ -4,8 +4,12 @@ use mathlib.Core.Bool.{Bool, cond, _||_}
 use mathlib.Core.List.{List, [], _∷_, _++_}
 use Prim.Native.Nat.{ℕ, suc, _+_}
 use lib.Dec.{eqb, leb, ltb}
-use lib.IntN.{ℤ, pos, negℤ}
+use lib.IntN.{ℤ}
 use lib.ListN.{length, drop}
+use Rattle.constants.specs.Weight.{OV, UV, SCD, OCD, XREADY, «OVRD_ALERT», «PIN_CHG», «PIN_DSG»}
+use Rattle.constants.specs.Number.{DONE, «NO_ROOM», «NO_RECORD», «NOT_SO»}
+use Rattle.constants.specs.Size.{«OFF_ROW»}
+use Rattle.constants.specs.Answer.{minus}
 use Rattle.bits.specs.Bit.{bit, weighed}
 use Rattle.turn.specs.Entries.{entries}
 use Rattle.writer.specs.Write.{wordBytes}
@@ -19,8 +23,8 @@ heldBit stat w = weighed (bit stat w) w
 
 abbrev pub heldBy : ℕ → ℕ → ℕ
 heldBy stat d =
-    cond (eqb d 2) (heldBit stat 16 + heldBit stat 32 + heldBit stat 4)
-    (heldBit stat 16 + heldBit stat 32 + heldBit stat 8 + heldBit stat 2 + heldBit stat 1)
+    cond (eqb d «PIN_CHG») (heldBit stat «OVRD_ALERT» + heldBit stat XREADY + heldBit stat OV)
+    (heldBit stat «OVRD_ALERT» + heldBit stat XREADY + heldBit stat UV + heldBit stat SCD + heldBit stat OCD)
 
 -- ── the row: 12 bytes, the low ones first ──
 abbrev pub offWords : ℕ → ℕ → List ℕ
@@ -34,14 +38,14 @@ offRow s n d = offBytes (risen s 0 d (suc n)) d
 
 -- ── the call: 27, 28, then 5 ──
 abbrev pub isDrive : ℕ → Bool
-isDrive d = eqb d 1 || eqb d 2
+isDrive d = eqb d «PIN_DSG» || eqb d «PIN_CHG»
 
 abbrev pub offNumber : List ℕ → ℕ → ℕ → ℕ → ℕ
 offNumber s n d room =
-    cond (leb (length (entries s)) n) 27
-    (cond (isDrive d) (cond (bit (risen s 0 d (suc n) .last .pins) d) 28 (cond (ltb room 12) 5 0)) 28)
+    cond (leb (length (entries s)) n) «NO_RECORD»
+    (cond (isDrive d) (cond (bit (risen s 0 d (suc n) .last .pins) d) «NOT_SO» (cond (ltb room «OFF_ROW») «NO_ROOM» DONE)) «NOT_SO»)
 
 -- 0 and the row, or minus a number and nothing written
 pub record Held (s : List ℕ) (n d : ℕ) (old : List ℕ) (r : ℤ) (new : List ℕ) : Type 0 where
-  pub answer : r ≡ negℤ (pos (offNumber s n d (length old)))
-  pub contents : new ≡ cond (eqb (offNumber s n d (length old)) 0) (offRow s n d ++ drop 12 old) old
+  pub answer : r ≡ minus (offNumber s n d (length old))
+  pub contents : new ≡ cond (eqb (offNumber s n d (length old)) DONE) (offRow s n d ++ drop «OFF_ROW» old) old

@@ -5,8 +5,12 @@ use mathlib.Core.Bool.{Bool, cond, _||_}
 use mathlib.Core.List.{List, [], _∷_, _++_}
 use Prim.Native.Nat.{ℕ, suc, _+_, _-_, _/_, _%_}
 use lib.Dec.{eqb, leb, ltb}
-use lib.IntN.{ℤ, pos, negℤ}
+use lib.IntN.{ℤ}
 use lib.ListN.{length, drop}
+use Rattle.constants.specs.Weight.{OV, UV, SCD, OCD, XREADY, «OVRD_ALERT», «CC_READY»}
+use Rattle.constants.specs.Number.{DONE, «NO_ROOM», «TOO_LONG», «NO_RECORD», «NOT_SO»}
+use Rattle.constants.specs.Size.{«WHY_ROW»}
+use Rattle.constants.specs.Answer.{minus}
 use Rattle.bits.specs.Bit.{bit}
 use Rattle.events.specs.Fault.{Ov, Uv, Scd, Ocd}
 use Rattle.settings.specs.declared.Settings.{Settings}
@@ -21,18 +25,38 @@ use Rattle.why.specs.Rise.{risen, searched}
 
 -- ── by the bit's weight ──
 abbrev pub isJudged : ℕ → Bool
-isJudged b = eqb b 4 || eqb b 8 || eqb b 2 || eqb b 1
+isJudged b = eqb b OV || eqb b UV || eqb b SCD || eqb b OCD
 
--- scans 1, ticks 2, PIN 3, the outside level 4, XREADY 5, a count 6
+-- ── what raises a bit, as a number ──
+abbrev pub byScans : ℕ
+byScans = 1
+
+abbrev pub byTicks : ℕ
+byTicks = 2
+
+abbrev pub byPin : ℕ
+byPin = 3
+
+abbrev pub byLevel : ℕ
+byLevel = 4
+
+abbrev pub byXready : ℕ
+byXready = 5
+
+abbrev pub byCount : ℕ
+byCount = 6
+
 abbrev pub causeOf : ℕ → Bool → ℕ
 causeOf b pin =
-    cond (eqb b 4 || eqb b 8) 1 (cond (eqb b 2 || eqb b 1) 2 (cond (eqb b 32) 5 (cond (eqb b 128) 6 (cond pin 3 4))))
+    cond (eqb b OV || eqb b UV) byScans
+    (cond (eqb b SCD || eqb b OCD) byTicks (cond (eqb b XREADY) byXready (cond (eqb b «CC_READY») byCount (cond pin byPin byLevel))))
 
 abbrev pub needOf : ℕ → Settings → ℕ
-needOf b s = cond (eqb b 4) (rule Ov s .need) (cond (eqb b 8) (rule Uv s .need) (cond (eqb b 2) (rule Scd s .need) (rule Ocd s .need)))
+needOf b s = cond (eqb b OV) (rule Ov s .need) (cond (eqb b UV) (rule Uv s .need) (cond (eqb b SCD) (rule Scd s .need) (rule Ocd s .need)))
 
 abbrev pub limitOf : ℕ → Settings → ℕ
-limitOf b s = cond (eqb b 4) (rule Ov s .limit) (cond (eqb b 8) (rule Uv s .limit) (cond (eqb b 2) (rule Scd s .limit) (rule Ocd s .limit)))
+limitOf b s =
+    cond (eqb b OV) (rule Ov s .limit) (cond (eqb b UV) (rule Uv s .limit) (cond (eqb b SCD) (rule Scd s .limit) (rule Ocd s .limit)))
 
 -- the streak before the first of the newest verdicts, as many as are needed, where the next one is true
 abbrev pub leastOf : ℕ → ℕ → ℕ
@@ -81,7 +105,7 @@ abbrev pub streamMost : ℕ
 streamMost = 4294967295
 
 abbrev pub isKnown : ℕ → Bool
-isKnown b = eqb b 1 || eqb b 2 || eqb b 4 || eqb b 8 || eqb b 16 || eqb b 32 || eqb b 128
+isKnown b = eqb b OCD || eqb b SCD || eqb b OV || eqb b UV || eqb b «OVRD_ALERT» || eqb b XREADY || eqb b «CC_READY»
 
 abbrev pub knownBit : ℕ → ℕ
 knownBit b = cond (isKnown b) b 0
@@ -91,11 +115,11 @@ whyRow s n b = whyBytes (whyOf s (knownBit b) (risen s (knownBit b) 0 (suc n)))
 
 abbrev pub whyNumber : List ℕ → ℕ → ℕ → ℕ → ℕ
 whyNumber s n b room =
-    cond (ltb streamMost (length s)) 24
-    (cond (leb (length (entries s)) n) 27
-    (cond (bit (risen s (knownBit b) 0 (suc n) .last .stat) (knownBit b)) (cond (ltb room 36) 5 0) 28))
+    cond (ltb streamMost (length s)) «TOO_LONG»
+    (cond (leb (length (entries s)) n) «NO_RECORD»
+    (cond (bit (risen s (knownBit b) 0 (suc n) .last .stat) (knownBit b)) (cond (ltb room «WHY_ROW») «NO_ROOM» DONE) «NOT_SO»))
 
 -- 0 and the row, or minus a number and nothing written
 pub record Explained (s : List ℕ) (n b : ℕ) (old : List ℕ) (r : ℤ) (new : List ℕ) : Type 0 where
-  pub answer : r ≡ negℤ (pos (whyNumber s n b (length old)))
-  pub contents : new ≡ cond (eqb (whyNumber s n b (length old)) 0) (whyRow s n b ++ drop 36 old) old
+  pub answer : r ≡ minus (whyNumber s n b (length old))
+  pub contents : new ≡ cond (eqb (whyNumber s n b (length old)) DONE) (whyRow s n b ++ drop «WHY_ROW» old) old

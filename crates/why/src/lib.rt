@@ -7,12 +7,44 @@ ghost use Rattle.writer.specs.Write.{wordBytes};
 ghost use Rattle.why.specs.Rise.{isSuch, roseOn, risen, searchedOn, searched, Few};
 ghost use Rattle.why.specs.Why.{isJudged, causeOf, needOf, limitOf, leastOf, whyOf, whyWords, knownBit, Explained};
 ghost use Rattle.why.specs.Off.{heldBit, heldBy, offWords, isDrive, Held};
+use constants::answer;
+use constants::size;
 use constants::weight;
 use settings::Settings;
 use why_walk::Standing;
 
+mod cause;
+
 // Streams that are longer are refused by `toralinge_why`: its streaks are counted in 64 bits.
 const STREAM_MOST: usize = 4294967295;
+
+// The weights of bits and pins as C hands them over.
+const BIT_OCD: u32 = weight::OCD as u32;
+
+const BIT_SCD: u32 = weight::SCD as u32;
+
+const BIT_OV: u32 = weight::OV as u32;
+
+const BIT_UV: u32 = weight::UV as u32;
+
+const BIT_OVRD_ALERT: u32 = weight::OVRD_ALERT as u32;
+
+const BIT_XREADY: u32 = weight::XREADY as u32;
+
+const BIT_CC_READY: u32 = weight::CC_READY as u32;
+
+const DRIVE_DSG: u32 = weight::PIN_DSG as u32;
+
+const DRIVE_CHG: u32 = weight::PIN_CHG as u32;
+
+// How many numbers of 16 bits there are, and of 32 and 48: a row is put in numbers of two bytes.
+const TO_16: u64 = 65536;
+
+const HALF: u32 = 65536;
+
+const TO_32: u64 = 4294967296;
+
+const TO_48: u64 = 281474976710656;
 
 // No record.
 const NEVER: u64 = 18446744073709551615;
@@ -136,26 +168,26 @@ fn is_judged(bit: u8) -> bool
     (bit == weight::OV) | (bit == weight::UV) | (bit == weight::SCD) | (bit == weight::OCD)
 }
 
-// Scans 1, ticks 2, PIN 3, the outside level 4, XREADY 5, a count 6.
+// What raised a bit: of OVRD_ALERT a PIN or the outside level.
 fn cause_of(bit: u8, pin: bool) -> u32
     ensures { λ r. ⌜ r ≡ causeOf bit pin ⌝ }
 {
     if (bit == weight::OV) | (bit == weight::UV) {
-        return 1;
+        return cause::SCANS;
     }
     if (bit == weight::SCD) | (bit == weight::OCD) {
-        return 2;
+        return cause::TICKS;
     }
     if bit == weight::XREADY {
-        return 5;
+        return cause::XREADY;
     }
     if bit == weight::CC_READY {
-        return 6;
+        return cause::COUNT;
     }
     if pin {
-        return 3;
+        return cause::PIN;
     }
-    4
+    cause::LEVEL
 }
 
 // The delay that is set, in scans or ticks.
@@ -245,24 +277,24 @@ fn why_words(why: Why) -> [u16; 18]
     ensures { λ r. ⌜ r ≡ whyWords why ⌝ }
 {
     [
-        (why.rose % 65536) as u16,
-        (why.rose / 65536 % 65536) as u16,
-        (why.rose / 4294967296 % 65536) as u16,
-        (why.rose / 281474976710656 % 65536) as u16,
-        (why.first % 65536) as u16,
-        (why.first / 65536 % 65536) as u16,
-        (why.first / 4294967296 % 65536) as u16,
-        (why.first / 281474976710656 % 65536) as u16,
-        (why.cause % 65536) as u16,
-        (why.cause / 65536) as u16,
-        (why.many % 65536) as u16,
-        (why.many / 65536) as u16,
-        (why.limit % 65536) as u16,
-        (why.limit / 65536) as u16,
-        (why.input % 65536) as u16,
-        (why.input / 65536) as u16,
-        (why.value % 65536) as u16,
-        (why.value / 65536) as u16,
+        (why.rose % TO_16) as u16,
+        (why.rose / TO_16 % TO_16) as u16,
+        (why.rose / TO_32 % TO_16) as u16,
+        (why.rose / TO_48 % TO_16) as u16,
+        (why.first % TO_16) as u16,
+        (why.first / TO_16 % TO_16) as u16,
+        (why.first / TO_32 % TO_16) as u16,
+        (why.first / TO_48 % TO_16) as u16,
+        (why.cause % HALF) as u16,
+        (why.cause / HALF) as u16,
+        (why.many % HALF) as u16,
+        (why.many / HALF) as u16,
+        (why.limit % HALF) as u16,
+        (why.limit / HALF) as u16,
+        (why.input % HALF) as u16,
+        (why.input / HALF) as u16,
+        (why.value % HALF) as u16,
+        (why.value / HALF) as u16,
     ]
 }
 
@@ -284,13 +316,13 @@ fn put_words(out: &mut [u8], words: &[u16])
 fn known_bit(bit: u32) -> u8
     ensures { λ r. ⌜ r ≡ knownBit bit ⌝ }
 {
-    if (bit == 1)
-        | (bit == 2)
-        | (bit == 4)
-        | (bit == 8)
-        | (bit == 16)
-        | (bit == 32)
-        | (bit == 128)
+    if (bit == BIT_OCD)
+        | (bit == BIT_SCD)
+        | (bit == BIT_OV)
+        | (bit == BIT_UV)
+        | (bit == BIT_OVRD_ALERT)
+        | (bit == BIT_XREADY)
+        | (bit == BIT_CC_READY)
     {
         return bit as u8;
     }
@@ -304,19 +336,19 @@ pub extern "C" fn toralinge_why(bytes: &[u8], number: u64, bit: u32, row: &mut [
     ensures { λ r. ⌜ Explained (now (bytes .entry)) number bit (now (row .entry)) r (now (row .exit)) ⌝ }
 {
     if STREAM_MOST < bytes.len() {
-        return -24;
+        return answer::TOO_LONG;
     }
     if stream::count(bytes) as u64 <= number {
-        return -27;
+        return answer::NO_RECORD;
     }
     let weight = known_bit(bit);
     let found = rise(bytes, number + 1, weight, 0);
     let last = found.last;
     if !bits::bit(last.stat, weight) {
-        return -28;
+        return answer::NOT_SO;
     }
-    if row.len() < 36 {
-        return -5;
+    if row.len() < size::WHY_ROW {
+        return answer::NO_ROOM;
     }
     let words = why_words(why_of(bytes, weight, found));
     put_words(row, &words);
@@ -344,10 +376,10 @@ fn off_words(since: u64, held: u8) -> [u16; 6]
     ensures { λ r. ⌜ r ≡ offWords since held ⌝ }
 {
     [
-        (since % 65536) as u16,
-        (since / 65536 % 65536) as u16,
-        (since / 4294967296 % 65536) as u16,
-        (since / 281474976710656 % 65536) as u16,
+        (since % TO_16) as u16,
+        (since / TO_16 % TO_16) as u16,
+        (since / TO_32 % TO_16) as u16,
+        (since / TO_48 % TO_16) as u16,
         held as u16,
         0,
     ]
@@ -356,7 +388,7 @@ fn off_words(since: u64, held: u8) -> [u16; 6]
 fn is_drive(drive: u32) -> bool
     ensures { λ r. ⌜ r ≡ isDrive drive ⌝ }
 {
-    (drive == 1) | (drive == 2)
+    (drive == DRIVE_DSG) | (drive == DRIVE_CHG)
 }
 
 // Since when a drive is off that is off after a record, and which bits of SYS_STAT hold it. Answers 0, or with nothing written -27 no such record, -28 the drive is
@@ -366,19 +398,19 @@ pub extern "C" fn toralinge_off(bytes: &[u8], number: u64, drive: u32, row: &mut
     ensures { λ r. ⌜ Held (now (bytes .entry)) number drive (now (row .entry)) r (now (row .exit)) ⌝ }
 {
     if stream::count(bytes) as u64 <= number {
-        return -27;
+        return answer::NO_RECORD;
     }
     if !is_drive(drive) {
-        return -28;
+        return answer::NOT_SO;
     }
     let pin = drive as u8;
     let found = rise(bytes, number + 1, 0, pin);
     let last = found.last;
     if bits::bit(last.pins, pin) {
-        return -28;
+        return answer::NOT_SO;
     }
-    if row.len() < 12 {
-        return -5;
+    if row.len() < size::OFF_ROW {
+        return answer::NO_ROOM;
     }
     let words = off_words(found.rose, held_by(last.stat, pin));
     put_words(row, &words);

@@ -5,6 +5,7 @@ ghost use Rattle.wiring.specs.Linked.{aboveFloor};
 ghost use mathlib.Core.Bool.{cond};
 ghost use Prim.Native.Nat.{_≤_};
 ghost use Rattle.wiring.specs.Kept.{kept, countsOf, picked};
+use constants::part;
 use events::Counts;
 use events::Setup;
 
@@ -31,6 +32,13 @@ const WIRED: [u16; 16] = [
 // All inputs of no part, and of parts 1 to 3.
 const INPUTS: [u16; 4] = [0, 0x001F, 0x03FF, 0x7FFF];
 
+// The fewest cells that the parts of 5, 10 and 15 inputs may have.
+const FEWEST_OF_5: u8 = 3;
+
+const FEWEST_OF_10: u8 = 6;
+
+const FEWEST_OF_15: u8 = 11;
+
 pub enum Wiring {
     With(Setup),
     // Number 13.
@@ -41,9 +49,9 @@ pub enum Wiring {
 pub fn has_row(part: u8, cells: u8) -> bool
     ensures { λ r. ⌜ r ≡ hasRow part cells ⌝ }
 {
-    ((part == 1) & (3 <= cells) & (cells <= 5))
-        | ((part == 2) & (6 <= cells) & (cells <= 10))
-        | ((part == 3) & (11 <= cells) & (cells <= 15))
+    ((part == part::MS9920T) & (FEWEST_OF_5 <= cells) & (cells <= 5))
+        | ((part == part::MS9930T) & (FEWEST_OF_10 <= cells) & (cells <= 10))
+        | ((part == part::MS9940T) & (FEWEST_OF_15 <= cells) & (cells <= 15))
 }
 
 // The setup with a wiring record's number of cells.

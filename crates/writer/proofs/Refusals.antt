@@ -12,13 +12,16 @@ use Rattle.events.specs.declared.Setup.{Setup}
 use Rattle.events.specs.declared.Counts.{Counts}
 use Rattle.events.specs.declared.BusEvent.{BusEvent}
 use Rattle.events.specs.declared.BusEvent.the-variants.{Start, Out, In, Stop}
+use Rattle.events.specs.Role.{roleOf, makes-is, rewires-is}
+use Rattle.events.specs.declared.Role.{Role}
+use Rattle.events.specs.declared.Role.the-variants.{Makes, Rewires, Happens}
 use Rattle.events.specs.declared.Event.{Event}
 use Rattle.events.specs.declared.Event.the-variants.{Setup as SetupEvent, OnBus, Wires}
 use Rattle.wiring.specs.Rows.{hasRow}
 use Rattle.records.specs.Numbers.{bitOf}
 use Rattle.records.specs.Record.{setupGood, noCounts}
 use Rattle.writer.specs.Write.{recordOf, recordFor, bytes32, bits32, valueRefusal, refusalFor, Writes, Puts}
-use Rattle.writer.specs.CheckedLaws.{refusalAt, other, refusal-is}
+use Rattle.writer.specs.CheckedLaws.{refusalAt, refusal-is}
 use Rattle.writer.specs.declared.Wrote.{Wrote}
 use Rattle.writer.specs.declared.Wrote.the-variants.{Refused}
 
@@ -57,15 +60,18 @@ bus-any Stop k = refl
 pub at-bus : (b : BusEvent) (k : Counts) (old : List ℕ) {r : Wrote} {new : List ℕ} → Writes (recordFor (OnBus b) noCounts) old r new → Writes (recordFor (OnBus b) k) old r new
 at-bus b k old {r} {new} p = subst (λ (l : List ℕ). Writes l old r new) (bus-any b k) p
 
-pub at-refusal : (k : Counts) (part : ℕ) {r : ℕ} {e e′ : Event} → e ≡ e′ → other e′ ≡ true → r ≡ refusalAt e k part → r ≡ refusalFor e k part
-at-refusal k part {r} {e} {e′} q o p =
-    let d : other e ≡ true = ap other q ∙ o in
-    p ∙ refusal-is e k part d
+-- by what the event's record does, which was found to be x
+module _ (e : Event) (k : Counts) (part : ℕ) {x : Role} (q : x ≡ roleOf e) where
+  pub at-refusal : {r : ℕ} → x ≡ Happens → r ≡ refusalAt e k part → r ≡ refusalFor e k part
+  at-refusal w p = p ∙ refusal-is e k part (sym q ∙ w)
 
--- SETUP's number says nothing of the part that stands
-pub at-setup : (k : Counts) (part : ℕ) {r : ℕ} {e : Event} (v : Setup) → e ≡ SetupEvent v → r ≡ refusalFor (SetupEvent v) k 0 → r ≡ refusalFor e k part
-unfolding refusalFor valueRefusal
-at-setup k part v q p = p ∙ ap (λ (e : Event). refusalFor e k part) (sym q)
+  -- SETUP's number says nothing of the part that stands
+  pub at-setup : {r : ℕ} (v : Setup) → x ≡ Makes v → r ≡ refusalFor (SetupEvent v) k 0 → r ≡ refusalFor e k part
+  unfolding refusalFor valueRefusal
+  at-setup v w p = p ∙ ap (λ (e : Event). refusalFor e k part) (sym (makes-is e v (sym q ∙ w)))
+
+  pub at-wires : {r : ℕ} (n : ℕ) → x ≡ Rewires n → r ≡ refusalFor (Wires n) k part → r ≡ refusalFor e k part
+  at-wires n w p = p ∙ ap (λ (e : Event). refusalFor e k part) (sym (rewires-is e n (sym q ∙ w)))
 
 -- SETUP's number from the answers of the three looks
 pub setup-number : (v : Setup) (k : Counts) (p f g : Bool) → leb 1 (v .part) && leb (v .part) 3 ≡ p → f ≡ countsFit 0 k → g ≡ setupGood v → cond p (cond f (cond g 0 1) 2) 1 ≡ refusalFor (SetupEvent v) k 0
@@ -86,9 +92,6 @@ wires-number n part k p f g hp hf hg =
   where
     number : Bool → Bool → Bool → ℕ
     number p f g = cond p (cond f (cond g 0 13) 2) 1
-
-pub at-wires : (k : Counts) (part : ℕ) {r : ℕ} {e : Event} (n : ℕ) → e ≡ Wires n → r ≡ refusalFor (Wires n) k part → r ≡ refusalFor e k part
-at-wires k part n q p = p ∙ ap (λ (e : Event). refusalFor e k part) (sym q)
 
 -- an event that is refused, and one that is not
 pub refused-puts : (k j : ℕ) (bytes old : List ℕ) → j ≡ k → (j ≡ 0 → ⊥) → Puts k bytes old (Refused j) old

@@ -8,6 +8,8 @@ use lib.Dec.{leb}
 use lib.ListN.{take}
 use Rattle.events.specs.Event.{within, countMost, fits, countsWanted, countsFit, Meant, unfit, eventOf, meantOf}
 use Rattle.events.specs.declared.Counts.{Counts}
+use Rattle.events.specs.Role.{roleOf}
+use Rattle.events.specs.declared.Role.the-variants.{Happens}
 use Rattle.events.specs.declared.Event.{Event}
 use Rattle.events.specs.declared.Event.the-variants.{Setup, Por, Boot, Scan, Temp, Count, Sense, Pin, Load, Xready, OnBus, Level, Ticks}
 use Rattle.events.specs.declared.Event.the-variants.{Soak, Wires}
@@ -19,23 +21,6 @@ use Rattle.writer.specs.Write.{valueRefusal, refusalFor}
 -- 1 for a part that is not 1 to 3, and what the event is refused with where that part stands
 unfoldable pub refusalAt : Event → Counts → ℕ → ℕ
 refusalAt e k part = cond (leb 1 part && leb part 3) (refusalOf (meantOf (standing part) e k)) 1
-
-abbrev pub other : Event → Bool
-other (Setup v) = false
-other Por = true
-other Boot = true
-other Scan = true
-other Temp = true
-other (Count n) = true
-other (Sense v) = true
-other Pin = true
-other (Load l) = true
-other Xready = true
-other (OnBus b) = true
-other (Level l) = true
-other (Ticks v n) = true
-other (Soak v n) = true
-other (Wires n) = false
 
 by-counts : (t : Bool) (m : Meant) → refusalOf (cond t m unfit) ≡ cond t (refusalOf m) 2
 by-counts true m = refl
@@ -50,7 +35,7 @@ as-many : (n : ℕ) (k : Counts) (t : Bool) → countsFit n k ≡ t
 as-many n k true f = ap (λ (n : ℕ). number (take n (k .of))) (sym (fit-is n k f .0))
 as-many n k false f = refl
 
-numbers-same : (e : Event) (k : Counts) (part : ℕ) → other e ≡ true
+numbers-same : (e : Event) (k : Counts) (part : ℕ) → roleOf e ≡ Happens
     → cond (leb 1 part && leb part 3)
     (cond (countsFit (countsWanted (standing part) e) k) (refusalOf (eventOf (standing part) e (k .of))) 2) 1 ≡ refusalFor e k part
 unfolding fits valueRefusal refusalFor
@@ -74,7 +59,7 @@ numbers-same (Ticks v n) k part o = refl
 numbers-same (Soak v n) k part o = refl
 numbers-same (Wires n) k part o = cc
 
-pub refusal-is : (e : Event) (k : Counts) (part : ℕ) → other e ≡ true → refusalAt e k part ≡ refusalFor e k part
+pub refusal-is : (e : Event) (k : Counts) (part : ℕ) → roleOf e ≡ Happens → refusalAt e k part ≡ refusalFor e k part
 unfolding refusalAt meantOf
 refusal-is e k part o =
     ap (λ (n : ℕ). cond (leb 1 part && leb part 3) n 1)

@@ -20,7 +20,8 @@ use Rattle.events.specs.declared.BusEvent.the-variants.{Start, Out, In, Stop}
 use Rattle.events.specs.declared.Event.{Event}
 use Rattle.events.specs.declared.Event.the-variants.{Setup, Por, Boot, Scan, Temp, Count, Sense, Pin, Load, Xready, OnBus, Level, Ticks}
 use Rattle.events.specs.declared.Event.the-variants.{Soak, Wires}
-use Rattle.records.specs.Numbers.{bitOf, filled}
+use Rattle.cell_counts.specs.Scan.{padded}
+use Rattle.records.specs.Numbers.{bitOf}
 use Rattle.records.specs.Record.{setupGood, checkedIn, setupIn, countedIn, ticksOf, soakOf, groupsAt, inputsAt, laterOf, payloadOf}
 use Rattle.records.specs.Record.{asRead, readOf, noCounts, countsOf, countsIn, countsBeside, takenFrom, takenAt}
 use Rattle.records.specs.CountedLaws.{many-is}
@@ -183,16 +184,16 @@ zero-head : (x : ℕ) (l : Bool) (t : Bool) → leb x 0 ≡ t → t && l ≡ tru
 zero-head x l true e h = (omega (arith, leb-true x 0 e), h)
 zero-head x l false e h = absurd (let z : _≡_ {A = ℕ} 0 1 = cc in omega arith)
 
-zeros-filled : (xs : List ℕ) → within 0 xs ≡ true → filled (length xs) [] ≡ xs
-zeros-filled [] h = refl
-zeros-filled (x ∷ xs) h =
+zeros-padded : (xs : List ℕ) → within 0 xs ≡ true → padded (length xs) [] ≡ xs
+zeros-padded [] h = refl
+zeros-padded (x ∷ xs) h =
     let z : (0 ≡ x) × (within 0 xs ≡ true) = zero-head x (within 0 xs) (leb x 0) refl h in
-    ap₂ _∷_ (z .0) (zeros-filled xs (z .1))
+    ap₂ _∷_ (z .0) (zeros-padded xs (z .1))
 
-filled-back : (n : ℕ) (xs : List ℕ) → within 0 (drop n xs) ≡ true → filled (length xs) (take n xs) ≡ xs
-filled-back zero xs h = zeros-filled xs h
-filled-back (suc n) [] h = refl
-filled-back (suc n) (x ∷ xs) h = ap (λ (l : List ℕ). x ∷ l) (filled-back n xs h)
+padded-back : (n : ℕ) (xs : List ℕ) → within 0 (drop n xs) ≡ true → padded (length xs) (take n xs) ≡ xs
+padded-back zero xs h = zeros-padded xs h
+padded-back (suc n) [] h = refl
+padded-back (suc n) (x ∷ xs) h = ap (λ (l : List ℕ). x ∷ l) (padded-back n xs h)
 
 counts-same : (k : Counts) (n : ℕ) (l : List ℕ) → n ≡ k .many → l ≡ k .of → record { many = n; of = l } ≡ k
 counts-same k n l p q = ap₂ (λ (n : ℕ) (l : List ℕ). counts-with n l) p q
@@ -200,19 +201,19 @@ counts-same k n l p q = ap₂ (λ (n : ℕ) (l : List ℕ). counts-with n l) p q
     counts-with : ℕ → List ℕ → Counts
     counts-with n l = record { many = n; of = l }
 
-of-back : (xs : List ℕ) → countsOf (wordBytes xs) .of ≡ filled 15 xs
+of-back : (xs : List ℕ) → countsOf (wordBytes xs) .of ≡ padded 15 xs
 unfolding countsOf
-of-back xs = ap (filled 15) (words-back xs)
+of-back xs = ap (padded 15) (words-back xs)
 
 module _ (k : Counts) (n : ℕ) (f : countsFit n k ≡ true) (fifteen : length (k .of) ≡ 15) where
-  fill : filled 15 (take (k .many) (k .of)) ≡ k .of
-  fill = subst (λ (m : ℕ). filled m (take (k .many) (k .of)) ≡ k .of) fifteen
-      (filled-back (k .many) (k .of) (subst (λ (i : ℕ). within 0 (drop i (k .of)) ≡ true) (sym (fit-is n k f .0)) (fit-is n k f .1)))
+  fill : padded 15 (take (k .many) (k .of)) ≡ k .of
+  fill = subst (λ (m : ℕ). padded m (take (k .many) (k .of)) ≡ k .of) fifteen
+      (padded-back (k .many) (k .of) (subst (λ (i : ℕ). within 0 (drop i (k .of)) ≡ true) (sym (fit-is n k f .0)) (fit-is n k f .1)))
 
   none-back : n ≡ 0 → noCounts ≡ k
   none-back z =
       let m : k .many ≡ 0 = fit-is n k f .0 ∙ z in
-      counts-same k 0 (filled 15 []) (sym m) (ap (λ (i : ℕ). filled 15 (take i (k .of))) (sym m) ∙ fill)
+      counts-same k 0 (padded 15 []) (sym m) (ap (λ (i : ℕ). padded 15 (take i (k .of))) (sym m) ∙ fill)
 
   some-back : n ≤ 15 → countsOf (countBytes k) ≡ k
   some-back few =

@@ -10,6 +10,9 @@ use Rattle.events.specs.Event.{within, countMost, senseFits, ticksMost, soakMos
 use Rattle.events.specs.declared.Setup.{Setup as SetupValues}
 use Rattle.events.specs.declared.Counts.{Counts}
 use Rattle.events.specs.declared.BusEvent.the-variants.{Start, Out, In, Stop}
+use Rattle.events.specs.Role.{roleOf}
+use Rattle.events.specs.declared.Role.{Role}
+use Rattle.events.specs.declared.Role.the-variants.{Makes, Rewires, Happens}
 use Rattle.events.specs.declared.Event.{Event}
 use Rattle.events.specs.declared.Event.the-variants.{Setup, Por, Boot, Scan, Temp, Count, Sense, Pin, Load, Xready, OnBus, Level, Ticks}
 use Rattle.events.specs.declared.Event.the-variants.{Soak, Wires}
@@ -96,22 +99,13 @@ recordFor e k = recordOf (kindFor e) (payloadFor e k)
 
 -- ── refusals: 1, 2, then 1, 3 or 13 (CHIP R9) ──
 -- the part that counts: SETUP's own for SETUP
+abbrev partAs : Role → ℕ → ℕ
+partAs (Makes v) part = v .part
+partAs (Rewires n) part = part
+partAs Happens part = part
+
 abbrev pub partFor : Event → ℕ → ℕ
-partFor (Setup v) part = v .part
-partFor Por part = part
-partFor Boot part = part
-partFor Scan part = part
-partFor Temp part = part
-partFor (Count n) part = part
-partFor (Sense v) part = part
-partFor Pin part = part
-partFor (Load l) part = part
-partFor Xready part = part
-partFor (OnBus b) part = part
-partFor (Level l) part = part
-partFor (Ticks v n) part = part
-partFor (Soak v n) part = part
-partFor (Wires n) part = part
+partFor e part = partAs (roleOf e) part
 
 -- the number of a value out of range
 unfoldable pub valueRefusal : Event → Counts → ℕ → ℕ

@@ -16,10 +16,8 @@ use constants::size;
 use events::BusEvent;
 use events::Counts;
 use events::Event;
+use events::Role;
 use events::Setup;
-
-// A record's longest payload.
-const PAYLOAD_MOST: usize = 30;
 
 // What writing gives: how many bytes it wrote, or the number it is refused with.
 pub enum Wrote {
@@ -102,7 +100,7 @@ fn write_words(out: &mut [u8], kind: u16, words: &[u16]) -> Wrote
     ensures { λ r. ⌜ Writes (recordOf kind (wordBytes (now (words .entry)))) (now (out .entry)) r (now (out .exit)) ⌝ }
 {
     let n = 2 * words.len();
-    let mut bytes = [0u8; PAYLOAD_MOST];
+    let mut bytes = [0u8; size::PAYLOAD_MOST];
     put_words(&mut bytes, words);
     write_bytes(out, kind, &bytes[..n])
 }
@@ -248,22 +246,10 @@ fn refusal_at(event: Event, counts: Counts, part: u8) -> u8
 fn refusal(event: Event, counts: Counts, part: u8) -> u8
     ensures { λ r. ⌜ r ≡ refusalFor event counts part ⌝ }
 {
-    match event {
-        Event::Setup(setup) => setup_refusal(setup, counts),
-        Event::Por => refusal_at(event, counts, part),
-        Event::Boot => refusal_at(event, counts, part),
-        Event::Scan => refusal_at(event, counts, part),
-        Event::Temp => refusal_at(event, counts, part),
-        Event::Count(_) => refusal_at(event, counts, part),
-        Event::Sense(_) => refusal_at(event, counts, part),
-        Event::Pin => refusal_at(event, counts, part),
-        Event::Load(_) => refusal_at(event, counts, part),
-        Event::Xready => refusal_at(event, counts, part),
-        Event::OnBus(_) => refusal_at(event, counts, part),
-        Event::Level(_) => refusal_at(event, counts, part),
-        Event::Ticks(_, _) => refusal_at(event, counts, part),
-        Event::Soak(_, _) => refusal_at(event, counts, part),
-        Event::Wires(cells) => wires_refusal(cells, counts, part),
+    match events::role_of(event) {
+        Role::Makes(setup) => setup_refusal(setup, counts),
+        Role::Rewires(cells) => wires_refusal(cells, counts, part),
+        Role::Happens => refusal_at(event, counts, part),
     }
 }
 

@@ -2,7 +2,7 @@
 use mathlib.Core.Path.{subst, sym, _∙_}
 use native.Mathlib.Omega.{arith}
 use lib.ListN.{length-set}
-use Rattle.chip.specs.Outward.{Forecasts}
+use Rattle.chip_voltage.specs.Voltage.{Forecasts}
 use Rattle.stream.proofs.Doubles.{refused-as}
 use Rattle.chip_c.proofs.Standing.{read-none, read-refused, read-short, read-given}
 use borrow.Author.Needs.{needs}

@@ -1,7 +1,7 @@
 -- By whether a chip stands, then by what it answers; a cell above 255 is no cell, as 0 is none.
 use mathlib.Core.Path.{refl, sym, ap, _∙_}
 use Rattle.values.proofs.Within.{result}
-use Rattle.chip.specs.Outward.{saidCell, voltageSaid}
+use Rattle.chip_voltage.specs.Voltage.{saidCell, voltageSaid}
 use Rattle.chip_c.proofs.Standing.{none-said, some-said, given-as, cell-wide}
 use borrow.Author.Needs.{needs}
 use Rattle.chip_c.proofs.toralinge_voltage.Statement.{statement}

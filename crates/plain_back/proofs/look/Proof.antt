@@ -1,7 +1,7 @@
 -- At most 65,536 bytes, then the walk.
 use mathlib.Core.Path.{ap}
 use borrow.Author.Tests.{le-leb, lt-leb}
-use Rattle.values.specs.Values.{gives}
+use Rattle.constants.specs.Answer.{gives}
 use Rattle.plain_back.specs.declared.Streaks.{Streaks}
 use borrow.Author.Needs.{needs}
 use Rattle.plain_back.proofs.look.Statement.{statement}

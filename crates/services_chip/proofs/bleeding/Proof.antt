@@ -10,7 +10,7 @@ use native.Mathlib.Omega.{arith}
 use mir.Syntax.{w16}
 use mir.Val.{Fits}
 use Rattle.bleed.specs.BestLaws.{right-of}
-use Rattle.values.specs.Values.{Said, gives, refuses}
+use Rattle.constants.specs.Answer.{Said, gives, refuses}
 use Rattle.bleed.specs.declared.Choice.{Choice}
 use Rattle.bleed.specs.Excess.{proposed}
 use Rattle.chip.specs.declared.Chip.{Chip}

@@ -12,7 +12,7 @@ use Rattle.wiring.specs.Rows.{linkedInputs}
 use Rattle.wiring.specs.Kept.{countsOf, take-padded, picked-many}
 use Rattle.wiring.specs.Linked.{few-linked}
 use Rattle.chip.specs.declared.Chip.{Chip}
-use Rattle.chip.specs.Outward.{linkedCounts}
+use Rattle.chip_voltage.specs.Voltage.{linkedCounts}
 use Rattle.values.specs.Values.{microvoltsBy}
 use Rattle.services_chip.specs.Care.{linkedTotal}
 use Rattle.services_chip.specs.TotalLaws.{total-by}

@@ -8,7 +8,7 @@ use mir.Syntax.{w64}
 use mir.Facts.{toZ-ofZ}
 use borrow.Author.Needs.{needs}
 use borrow.Author.Tests.{eq-eqb, ne-eqb}
-use Rattle.values.specs.Values.{refuses}
+use Rattle.constants.specs.Answer.{refuses}
 use Rattle.smart_battery.specs.declared.Pack.{Pack}
 use Rattle.smart_battery.specs.Words.{askedFor, unsignedSaid, signedSaid, kelvins, millivolts, milliamps}
 use Rattle.smart_battery.proofs.asked.Statement.{statement}

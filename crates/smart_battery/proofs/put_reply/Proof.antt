@@ -6,7 +6,7 @@ use native.Mathlib.Omega.{arith}
 use lib.ListN.{length, length-set, set}
 use borrow.Author.Needs.{needs}
 use borrow.Author.Tests.{lt-ltb, le-ltb}
-use Rattle.values.specs.Values.{gives}
+use Rattle.constants.specs.Answer.{gives}
 use Rattle.smart_battery.specs.Laws.{three-set}
 use Rattle.smart_battery.specs.Reply.{Replied, pecOf}
 use Rattle.smart_battery.proofs.put_reply.Statement.{statement}

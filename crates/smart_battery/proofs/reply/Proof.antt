@@ -6,7 +6,7 @@ use lib.IntN.{ℤ}
 use mir.Syntax.{w64}
 use mir.Facts.{toZ-ofZ}
 use borrow.Author.Needs.{needs}
-use Rattle.values.specs.Values.{Said, gives, refuses}
+use Rattle.constants.specs.Answer.{Said, gives, refuses}
 use Rattle.smart_battery.specs.Words.{saidWord, wordFor}
 use Rattle.smart_battery.specs.Reply.{Replied}
 use Rattle.smart_battery.proofs.reply.Statement.{statement}

@@ -11,7 +11,7 @@ use mir.Val.{Fits, SFits, toZ, ofZ}
 use mir.Facts.{toZ-ofZ}
 use borrow.Author.Needs.{needs}
 use borrow.Author.Tests.{le-leb, lt-leb, ltb-true}
-use Rattle.values.specs.Values.{gives, refuses}
+use Rattle.constants.specs.Answer.{gives, refuses}
 use Rattle.smart_battery.specs.Words.{unsignedSaid, millivolts}
 use Rattle.smart_battery.proofs.voltage.Statement.{statement}
 use Rattle.smart_battery.proofs.voltage.Tie as tie

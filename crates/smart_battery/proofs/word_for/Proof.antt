@@ -7,7 +7,7 @@ use lib.IntN.{ℤ}
 use mir.Syntax.{w64}
 use mir.Facts.{toZ-ofZ}
 use borrow.Author.Tests.{leb-true}
-use Rattle.values.specs.Values.{refuses}
+use Rattle.constants.specs.Answer.{refuses}
 use Rattle.smart_battery.specs.declared.Pack.{Pack}
 use Rattle.smart_battery.specs.Words.{askedFor, wordFor, known}
 use Rattle.smart_battery.proofs.word_for.Statement.{statement}

@@ -3,7 +3,8 @@ use borrow.Author.Needs.{needs}
 use borrow.Author.Tests.{lt-ltb, le-ltb}
 use mathlib.Core.Path.{ap}
 use Rattle.values.proofs.Within.{result}
-use Rattle.values.specs.Values.{gives, cellSaid}
+use Rattle.constants.specs.Answer.{gives}
+use Rattle.values.specs.Values.{cellSaid}
 use Rattle.values.proofs.cell_voltage.Statement.{statement}
 use Rattle.values.proofs.cell_voltage.Tie as tie
 

@@ -7,7 +7,8 @@ use mathlib.Core.Path.{ap}
 use lib.IntN.{pos, _*ℤ_}
 use mir.Syntax.{w64}
 use mir.Val.{toZ}
-use Rattle.values.specs.Values.{gives, dieSaid}
+use Rattle.constants.specs.Answer.{gives}
+use Rattle.values.specs.Values.{dieSaid}
 use Rattle.values.proofs.Within.{Within, lit, nat, minus, times, fits, back}
 use Rattle.values.proofs.die_temperature.Statement.{statement}
 use Rattle.values.proofs.die_temperature.Tie as tie

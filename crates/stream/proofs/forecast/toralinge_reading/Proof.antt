@@ -2,7 +2,7 @@
 use mathlib.Core.Path.{subst, sym, _∙_}
 use native.Mathlib.Omega.{arith}
 use lib.ListN.{length-set}
-use Rattle.chip.specs.Outward.{Forecasts}
+use Rattle.chip_voltage.specs.Voltage.{Forecasts}
 use Rattle.stream.proofs.Doubles.{read-none, refused-as, read-refused, read-short, read-given}
 use borrow.Author.Needs.{needs}
 use Rattle.stream.proofs.forecast.toralinge_reading.Statement.{statement}

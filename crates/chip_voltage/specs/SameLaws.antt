@@ -4,14 +4,14 @@ use mathlib.Core.Bool.{cond}
 use native.Mathlib.Omega.{arith}
 use lib.Dec.{eqb}
 use lib.IntN.{ℤ}
-use Rattle.values.specs.Values.{Said, gives, refuses}
+use Rattle.constants.specs.Answer.{Said, gives, refuses}
 use Rattle.values.specs.SameLaws.{settled, same-reading}
 use Rattle.chip.specs.declared.Chip.{Chip}
-use Rattle.chip.specs.declared.outward.CellAnswer.{CellAnswer}
-use Rattle.chip.specs.declared.outward.CellAnswer.the-variants as Cell
-use Rattle.chip.specs.declared.outward.ForecastAnswer.{ForecastAnswer}
-use Rattle.chip.specs.declared.outward.ForecastAnswer.the-variants as Forecast
-use Rattle.chip.specs.Outward.{saidCell, Forecasts}
+use Rattle.chip_voltage.specs.declared.CellAnswer.{CellAnswer}
+use Rattle.chip_voltage.specs.declared.CellAnswer.the-variants as Cell
+use Rattle.chip_voltage.specs.declared.ForecastAnswer.{ForecastAnswer}
+use Rattle.chip_voltage.specs.declared.ForecastAnswer.the-variants as Forecast
+use Rattle.chip_voltage.specs.Voltage.{saidCell, Forecasts}
 
 -- the answer that says this
 cell : Said ℤ → CellAnswer

@@ -12,9 +12,10 @@ use Rattle.wiring.specs.Rows.{packCells, inputOf, connected, converts}
 use Rattle.wiring.specs.Numbered.{numbers}
 use Rattle.wiring.specs.Linked.{cell-converts}
 use Rattle.registers.specs.Read.{cellAt}
-use Rattle.values.specs.Values.{Said, gives, refuses, cellMicrovolts}
+use Rattle.constants.specs.Answer.{Said, gives, refuses}
+use Rattle.values.specs.Values.{cellMicrovolts}
 use Rattle.chip.specs.declared.Chip.{Chip}
-use Rattle.chip.specs.Outward.{voltageSaid}
+use Rattle.chip_voltage.specs.Voltage.{voltageSaid}
 
 -- the two tests of a cell's number, and whether it is connected
 abbrev isLinked : Chip → ℕ → Bool

@@ -3,18 +3,18 @@ use borrow.Author.Tests.{not-true, not-false}
 use borrow.Author.Needs.{needs}
 use mathlib.Core.Path.{_≡_}
 use mathlib.Core.Bool.{true}
 use Rattle.chip.specs.declared.Chip.{Chip}
-use Rattle.chip.specs.PackedLaws.{pack-reads, asleep-number, none-number, given-number}
-use Rattle.chip.proofs.Chip.forecast.Statement.{statement}
-use Rattle.chip.proofs.Chip.forecast.Tie as tie
+use Rattle.chip_voltage.specs.PackedLaws.{pack-reads, asleep-number, none-number, given-number}
+use Rattle.chip_voltage.proofs.forecast.Statement.{statement}
+use Rattle.chip_voltage.proofs.forecast.Tie as tie
 
 returns : tie.Need-returns
-returns c = asleep-number (c .before .before .args .self) (not-true _ (c .if1 .taken))
+returns c = asleep-number (c .before .before .args .chip) (not-true _ (c .if1 .taken))
 
 -- the chip, which is normal, and what its connected cells hold
 module _ (l : tie.After-link) where
   abbrev chip : Chip
-  chip = l .before .before .before .before .before .before .before .args .self
+  chip = l .before .before .before .before .before .before .before .args .chip
 
   normal : chip .normal ≡ true
   normal = not-false _ (l .before .before .before .before .before .if1 .left)

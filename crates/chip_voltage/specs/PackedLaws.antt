@@ -18,8 +18,8 @@ use Rattle.values.specs.Values.{cellMicrovolts}
 use Rattle.values.specs.Double.{IsDouble}
 use Rattle.values.specs.Forecast.{IsReading, fold, lesser, greater, voltages}
 use Rattle.values.specs.declared.Reading.{Reading}
 use Rattle.chip.specs.declared.Chip.{Chip}
-use Rattle.chip.specs.Outward.{linkedCounts, Reads, forecastNumber}
+use Rattle.chip_voltage.specs.Voltage.{linkedCounts, Reads, forecastNumber}
 
 module _ (code offset : ℕ) (xs : List ℕ) (few : length xs ≤ 15) where
   counts : take (length xs) (padded 15 xs) ≡ take (length xs) xs

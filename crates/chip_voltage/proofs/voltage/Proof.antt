@@ -2,29 +2,30 @@
 use mathlib.Core.Path.{_≡_, sym, ap, _∙_}
 use mathlib.Core.Bool.{true}
 use borrow.Author.Tests.{not-true, not-false}
-use Rattle.chip.specs.VoltageLaws.{asleep-said, zero-said, above-said, apart-said, cell-said, holds-linked}
-use Rattle.values.specs.Values.{gives, cellMicrovolts}
+use Rattle.chip_voltage.specs.VoltageLaws.{asleep-said, zero-said, above-said, apart-said, cell-said, holds-linked}
+use Rattle.constants.specs.Answer.{gives}
+use Rattle.values.specs.Values.{cellMicrovolts}
 use Rattle.registers.specs.Read.{cellAt}
 use lib.IntN.{ℤ}
 use native.Mathlib.Omega.{arith}
 use Prim.Native.Nat.{ℕ, _-_, _≤_}
 use Rattle.wiring.specs.Rows.{packCells, inputOf, connected, converts}
 use Rattle.wiring.specs.Numbered.{numbers}
 use Rattle.chip.specs.declared.Chip.{Chip}
 use borrow.Author.Needs.{needs}
-use Rattle.chip.proofs.Chip.voltage.Statement.{statement}
-use Rattle.chip.proofs.Chip.voltage.Tie as tie
+use Rattle.chip_voltage.proofs.voltage.Statement.{statement}
+use Rattle.chip_voltage.proofs.voltage.Tie as tie
 
 returns : tie.Need-returns
-returns c = asleep-said (c .before .before .args .cell) (c .before .before .args .self) (not-true _ (c .if1 .taken))
+returns c = asleep-said (c .before .before .args .cell) (c .before .before .args .chip) (not-true _ (c .if1 .taken))
 
 returns-2 : tie.Need-returns-2
-returns-2 c = zero-said (c .before .before .before .before .before .args .cell) (c .before .before .before .before .before .args .self) (not-false _ (c .before .before .before .if1 .left)) (c .if2 .taken)
+returns-2 c = zero-said (c .before .before .before .before .before .args .cell) (c .before .before .before .before .before .args .chip) (not-false _ (c .before .before .before .if1 .left)) (c .if2 .taken)
 
 returns-3 : tie.Need-returns-3
 returns-3 c =
     let a = c .before .before .before .before .before .before .args in
-    above-said (a .cell) (a .self) (not-false _ (c .before .before .before .before .if1 .left)) (c .before .if2 .left) (rw (c .before .before .cells .ensures) at (c .if3 .taken))
+    above-said (a .cell) (a .chip) (not-false _ (c .before .before .before .before .if1 .left)) (c .before .if2 .left) (rw (c .before .before .cells .ensures) at (c .if3 .taken))
 
 -- a cell that the pack has
 module _ (c : tie.After-input-of) where
@@ -32,7 +33,7 @@ module _ (c : tie.After-input-of) where
   tested = c .before .before .before .before .before
 
   abbrev chip : Chip
-  chip = tested .before .before .before .before .args .self
+  chip = tested .before .before .before .before .args .chip
 
   abbrev n : ℕ
   n = tested .before .before .before .before .args .cell

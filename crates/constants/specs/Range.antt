@@ -1,0 +1,24 @@
+-- The least and the most that the values of a setup may be, and how many scans a report and bytes a stream for the programs have at most.
+-- The ranges of events stand with these (events/Event). Assumes nothing.
+use Prim.Native.Nat.{ℕ}
+
+abbrev pub «PART_MOST» : ℕ
+«PART_MOST» = 3
+
+abbrev pub «ADDRESS_LEAST» : ℕ
+«ADDRESS_LEAST» = 0x08
+
+abbrev pub «ADDRESS_MOST» : ℕ
+«ADDRESS_MOST» = 0x77
+
+abbrev pub «GAIN_CODE_MOST» : ℕ
+«GAIN_CODE_MOST» = 31
+
+abbrev pub «FLOOR_MOST» : ℕ
+«FLOOR_MOST» = 4095
+
+abbrev pub «SCANS_MOST» : ℕ
+«SCANS_MOST» = 65535
+
+abbrev pub «STREAM_MOST» : ℕ
+«STREAM_MOST» = 65536
