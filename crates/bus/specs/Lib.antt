@@ -1,2 +1,3 @@
 pub mod Bus
 pub mod Laws
+pub mod LineLaws

@@ -3,7 +3,7 @@
 use mathlib.Core.Path.{_≡_, refl, sym, ap, _∙_}
 use mathlib.Core.Bool.{Bool, true, false, _&&_, _||_, true≢false, or-true}
 use mathlib.Core.List.{List, [], _∷_}
-use Prim.Native.Nat.{ℕ, zero, suc, _+_, _*_, _/_, _≤_, _<_}
+use Prim.Native.Nat.{ℕ, zero, suc, _*_, _/_, _≤_, _<_}
 use native.Mathlib.Omega.{arith}
 use lib.Dec.{leb, ltb}
 use lib.ListN.{getD, length}
@@ -86,7 +86,3 @@ sum-most (x ∷ xs) h =
 
 pub bat-is : (xs : List ℕ) → within 16383 xs ≡ true → length xs ≤ 15 → batOf (total xs) ≡ total xs / 4
 bat-is xs h n = let s : total xs ≤ 16383 * length xs = sum-most xs h in omega arith
-
--- and the sum is that of all counts, one by one
-pub sum-more : (x : ℕ) (xs : List ℕ) → total (x ∷ xs) ≡ x + total xs
-sum-more x xs = refl

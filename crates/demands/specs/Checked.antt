@@ -13,13 +13,11 @@ use Rattle.crc8.specs.DivisionLaws.{crc-is}
 use Rattle.events.specs.declared.BusEvent.the-variants.{Start, Out}
 use Rattle.events.specs.Event.{Event, OnBus, fits}
 use Rattle.bus.specs.declared.Line.{Line}
-use Rattle.bus.specs.declared.Store.{Store}
 use Rattle.bus.specs.declared.Outed.{Outed}
 use Rattle.bus.specs.declared.Phase.{Phase}
 use Rattle.bus.specs.declared.Phase.the-variants.{Idle, Address, Pointing, Writing, Checking}
-use Rattle.bus.specs.declared.Store.the-variants.{Nothing, At}
 use Rattle.bus.specs.Bus.{addressed, fed, checked, lineOf, outed, grown, goes, refuses, stores}
-use Rattle.bus.specs.Laws.{store-only, wrong-crc}
+use Rattle.bus.specs.Laws.{wrong-crc}
 use Rattle.chip.specs.declared.Chip.{Chip}
 use Rattle.chip.specs.Chip.{answered, lineMoved, storedAt, stored, sent, watched, settled, stepped, next}
 use Rattle.chip.specs.Calm.{Calmed, calm-watched, settles}
@@ -29,19 +27,6 @@ use Rattle.chip.specs.MovesLaws.{normal-is}
 abbrev pub ran : Chip → List Event → Chip
 ran c [] = c
 ran c (e ∷ es) = ran (next e c) es
-
--- ── any OUT ──
--- with CRC on an OUT changes no register but as the CRC for which a data byte waits
-pub out-keeps : (c : Chip) (b : ℕ) → Calmed c → c .setup .crc ≡ true → c .normal ≡ true → ((v : ℕ) → c .bus .line .phase ≡ Checking v b → ⊥)
-    → next (OnBus (Out b)) c .registers ≡ c .registers
-unfolding fits outed
-out-keeps c b m k a h =
-    ap (λ s. s .chip .registers) (normal-is (OnBus (Out b)) c refl a) ∙ by (outed (c .setup) (c .bus .line) b .store) refl
-  where
-    by : (t : Store) → outed (c .setup) (c .bus .line) b .store ≡ t
-        → watched (stored (outed (c .setup) (c .bus .line) b .line) t c) .registers ≡ c .registers
-    by Nothing e = ap (λ (d : Chip). d .registers) (calm-watched c m)
-    by (At x v) e = absurd (h v (store-only (c .setup) (c .bus .line .phase) (c .bus .line .pointer) b x v k e))
 
 -- a wrong CRC: not acknowledged, the bus idle, the pointer unmoved, and nothing else
 pub wrong : (c : Chip) (v s a b : ℕ) → Calmed c → c .normal ≡ true → c .bus .line ≡ lineOf (Checking v s) a → eqb b s ≡ false

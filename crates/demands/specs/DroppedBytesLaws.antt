@@ -37,7 +37,7 @@ use Rattle.turn.specs.Entries.{freshFrom, entries}
 use Rattle.turn.specs.StandingLaws.{setup-turn}
 use Rattle.turn.specs.CountedLaws.{Framed, framed}
 use Rattle.turn.specs.PrefixLaws.{Whole-records, none-left, one-more}
-use Rattle.turn.specs.Pieces.{In-two, fed-in-two, joined}
+use Rattle.turn.specs.Pieces.{fed-in-two, joined}
 use Rattle.demands.specs.Spoiled.{Whole, phased}
 use Rattle.demands.specs.Streams.{a-part}
 use Rattle.demands.specs.Dropped.{answerIn, freshIn, sortAt, answerAt, freshAt, spoiledAt, stay, picked, Seen, playedAt}

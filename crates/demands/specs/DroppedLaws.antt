@@ -1,7 +1,7 @@
 -- CHIP H8 of records, the proof: the records that stay, played by themselves, give the entries that they gave in the full stream, and leave
 -- the same chip after each, but for the bus's phase. Assumes nothing.
 use mathlib.Core.Path.{_≡_, refl, sym, ap, subst, subst₂, _∙_}
-use mathlib.Core.Bool.{Bool, true, false, not, _&&_, cond, true≢false, and-false}
+use mathlib.Core.Bool.{Bool, true, false, not, cond, true≢false, and-false}
 use mathlib.Core.List.{List, [], _∷_}
 use Prim.Native.Nat.{ℕ, zero, suc}
 use lib.Dec.{eqb}
@@ -18,23 +18,22 @@ use Rattle.events.specs.declared.Event.the-variants.{Setup, Wires}
 use Rattle.events.specs.declared.Event.the-variants.{Por as Por-, Boot as Boot-, Scan as Scan-, Temp as Temp-, Count as Count-}
 use Rattle.events.specs.declared.Event.the-variants.{Sense as Sense-, Pin as Pin-, Load as Load-, Xready as Xready-, OnBus as OnBus-}
 use Rattle.events.specs.declared.Event.the-variants.{Level as Level-, Ticks as Ticks-, Soak as Soak-}
-use Rattle.events.specs.Event.{Event, Por, Boot, Pin, Xready, Scan, Temp, Count, Sense, Load, OnBus, Level, Meant, means, ticks, unfit}
-use Rattle.events.specs.Event.{ticksMost, soakMost, ticksFit, countsFit, eventOf, meantOf}
+use Rattle.events.specs.Event.{Boot, Pin, Xready, Scan, Temp, Count, Sense, Load, OnBus, Level, Meant, means, ticks, unfit}
+use Rattle.events.specs.Event.{ticksMost, soakMost, ticksFit, countsFit, meantOf}
 use Rattle.events.specs.Setup.{groups, inputs, withCells}
 use Rattle.bus.specs.declared.Phase.{Phase}
 use Rattle.bus.specs.declared.Phase.the-variants.{Idle, Address, Writing, Checking}
-use Rattle.bus.specs.Bus.{checked, outed, taken, byteGiven, owing, refuses, stores}
+use Rattle.bus.specs.Bus.{outed, taken, byteGiven, owing}
 use Rattle.wiring.specs.Rows.{hasRow, wiredWith}
 use Rattle.wiring.specs.declared.Wiring.the-variants.{With, NoRow}
 use Rattle.records.specs.declared.Read.{Read}
 use Rattle.records.specs.declared.Read.the-variants.{Record, Refused, Cut}
-use Rattle.records.specs.Record.{readOf, noCounts, countsIn, countsBeside}
+use Rattle.records.specs.Record.{readOf, countsIn, countsBeside}
 use Rattle.bits.specs.BoolLaws.{and-left, and-right}
 use Rattle.chip.specs.declared.Chip.{Chip}
 use Rattle.chip.specs.declared.Stepped.{Stepped}
-use Rattle.chip.specs.Chip.{numbered, answered, inShip, sent, onBus, settled, normally, asleep, happened, stepped, next, ticking, steppedAs}
-use Rattle.chip.specs.Chip.{steppedBy}
-use Rattle.chip.specs.Calm.{Calmed, ship-calm, settles}
+use Rattle.chip.specs.Chip.{numbered, answered, inShip, onBus, settled, normally, asleep, happened, stepped, next, ticking, steppedAs}
+use Rattle.chip.specs.Calm.{Calmed, ship-calm}
 use Rattle.chip.specs.RepeatLaws.{ticking-mode}
 use Rattle.turn.specs.Turn.{wiredAs, acted}
 use Rattle.turn.specs.CalmLaws.{acted-calm}
@@ -42,7 +41,7 @@ use Rattle.demands.specs.Refused.{refused-as}
 use Rattle.demands.specs.Spoiled.{Sort, Chips, Resets, Frames, Sends, Takes, sortOf, isSends, waiting, Mode, Whole, Open, Lost}
 use Rattle.demands.specs.Spoiled.{drops, then, phased}
 use Rattle.demands.specs.NoTrace.{denied}
-use Rattle.demands.specs.Opened.{mapped, apart, bus-is, bus-still, reset-is, opens}
+use Rattle.demands.specs.Opened.{mapped, apart, bus-still, reset-is, opens}
 use Rattle.demands.specs.Dropped.{busSort, codeSort, sortIn, answerIn, freshIn, sortAt, answerAt, freshAt, spoiledAt, stay}
 use Rattle.demands.specs.Dropped.{picked, seenBy, playedAt}
 

@@ -63,9 +63,6 @@ status u es = statusByte (ran (inShip u) es .registers .shown .status)
 abbrev plain : Setup
 plain = record { part = 1; crc = false; address = 8; «gain_code» = 10; offset = 30; floor = 1000; cells = 0 }
 
-abbrev guarded : Setup
-guarded = record { part = 1; crc = true; address = 8; «gain_code» = 10; offset = 30; floor = 1000; cells = 0 }
-
 abbrev out : ℕ → Event
 out b = OnBus (Out b)
 
@@ -200,14 +197,6 @@ levels =
 pub spells-hold : found (spells ++ delays ++ pins ++ levels) ≡ wanted (spells ++ delays ++ pins ++ levels)
 unfolding stepped happened fits outed settingsWith shownWith cellbalWith addressed fed checked storedAt rule over under beyond
 spells-hold = refl
-
--- ── with CRC on: EA is the CRC of 10 05 03, and with another nothing is driven ──
-abbrev charges : List Event → Bool
-charges es = ran (inShip guarded) (Boot ∷ write 0x05 0x03 ++ es) .registers .shown .«chg_on»
-
-pub guarded-writes : (charges (out 0xEA ∷ []) ≡ true) × (charges (out 0xEB ∷ []) ≡ false) × (charges [] ≡ false)
-unfolding stepped happened fits outed settingsWith shownWith cellbalWith byteOn addressed fed checked storedAt
-guarded-writes = (refl, refl, refl)
 
 -- ── a pair's low byte is of the value whose high byte was given: 1F 10, though 0 is stored between ──
 pub pairs : entries (ran (inShip plain) (Boot ∷ cell 0x1F10 ∷ OnBus Start ∷ out 0x10 ∷ out 0x0C ∷ OnBus Start ∷ out 0x11 ∷ []))

@@ -34,7 +34,6 @@ pub mod MovesLaws
 pub mod ShownLaws
 pub mod Table
 pub mod TableLaws
-pub mod LineLaws
 pub mod RefusalLaws
 pub mod CellLaws
 pub mod BytesLaws

@@ -8,8 +8,6 @@ use Rattle.crc8.specs.Crc.{byteOn}
 use Rattle.events.specs.declared.Setup.{Setup}
 use Rattle.events.specs.declared.BusEvent.the-variants.{Start, Stop, Out, In}
 use Rattle.events.specs.Event.{Event, Por, Boot, Pin, Xready, Scan, Temp, Count, Sense, Load, OnBus, Level}
-use Rattle.bus.specs.declared.Line.{Line}
-use Rattle.bus.specs.declared.Outed.{Outed}
 use Rattle.bus.specs.declared.Phase.the-variants.{Idle, Address, Writing, Checking}
 use Rattle.bus.specs.Bus.{checked, outed, taken, byteGiven, owing, refuses, stores}
 use Rattle.chip.specs.declared.Chip.{Chip}

@@ -33,11 +33,6 @@ use Rattle.demands.specs.Latch.{when-true, wrote-unfit}
 use Rattle.demands.specs.Moves.{is, moved, heard, leveled, rose}
 use Rattle.demands.specs.MovesLaws.{apart, normal-by}
 
--- no event and no write that shows: what was shown
-nothing-heard : (e : Event) (en : Bool) (s : Shown) → is 0x05 e ≡ false → is 0x07 e ≡ false → is 0x09 e ≡ false
-    → heard e Nothing en (λ k. false) s ≡ s
-nothing-heard e en s five seven nine = simp (five, seven, nine, and-true)
-
 -- a write
 write-heard : (a v : ℕ) (b : ℕ) (en : Bool) (s : Shown) → shownWith a v s ≡ heard (OnBus (Out b)) (At a v) en (λ k. false) s
 unfolding shownWith

@@ -9,7 +9,7 @@ use Rattle.events.specs.Event.{Event, OnBus, fits}
 use Rattle.events.specs.Fault.{Fault, Ov, Uv, Scd, Ocd}
 use Rattle.registers.specs.State.{dark}
 use Rattle.registers.specs.Fault.{bitOf}
-use Rattle.protection.specs.Streak.{lastAll-is}
+use Rattle.protection.specs.StreakLaws.{lastAll-is}
 use Rattle.protection.specs.Rule.{Rule, rule, opinion, someOpinion}
 use Rattle.chip.specs.declared.Chip.{Chip}
 use Rattle.chip.specs.Chip.{next}

@@ -14,7 +14,8 @@ use Rattle.registers.specs.Fault.{bitOf, raised}
 use Rattle.bus.specs.Bus.{outed}
 use Rattle.registers.specs.declared.Shown.{Shown}
 use Rattle.registers.specs.LevelLaws.{level-bit}
-use Rattle.protection.specs.Streak.{lastAll, streak, bumps, bumps-streak}
+use Rattle.protection.specs.Streak.{lastAll, streak, bumps}
+use Rattle.protection.specs.StreakLaws.{bumps-streak}
 use Rattle.protection.specs.Fault.{runOf, runsOf}
 use Rattle.protection.specs.Rule.{Rule, cap, rule, opinion, someOpinion, runAfter, risen}
 use Rattle.protection.specs.TablesLaws.{run-tells}

@@ -71,10 +71,6 @@ module _ (n : ℕ) where
       by true = refl
       by false = refl
 
-  reads-cells : (c : Chip) (a : ℕ) → reads (celled n c) a ≡ reads c a
-  unfolding readAt controlByte cellbalByte wordAt fixedByte groups inputs
-  reads-cells c a = refl
-
   bus-cells : (b : BusEvent) (c : Chip) → onBus b (celled n c) ≡ celledIn n (onBus b c)
   unfolding outed taken readAt controlByte cellbalByte wordAt fixedByte groups inputs
   bus-cells Start c = refl

@@ -3,3 +3,5 @@ pub mod Event
 pub mod Fault
 pub mod FewLaws
 pub mod Role
+pub mod RangesLaws
+pub mod MeantLaws

@@ -20,7 +20,8 @@ use Rattle.registers.specs.Fault.{raised}
 use Rattle.registers.specs.Judging.{scanned}
 use Rattle.protection.specs.declared.Runs.{Runs}
 use Rattle.protection.specs.declared.Judged.{Judged}
-use Rattle.protection.specs.Streak.{lastAll, streak, bumps-streak}
+use Rattle.protection.specs.Streak.{lastAll, streak}
+use Rattle.protection.specs.StreakLaws.{bumps-streak}
 use Rattle.protection.specs.Fault.{runsOf}
 use Rattle.protection.specs.Rule.{cap, rule, over, under, beyond, risen}
 use Rattle.protection.specs.Judged.{lasts}

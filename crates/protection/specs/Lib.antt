@@ -1,4 +1,5 @@
 pub mod Streak
+pub mod StreakLaws
 pub mod Fault
 pub mod Rule
 pub mod Sag
@@ -7,3 +8,4 @@ pub mod TicksLaws
 pub mod TablesLaws
 pub mod Laws
 pub mod Repeat
+pub mod LimitsLaws

@@ -11,7 +11,8 @@ use borrow.Author.Tests.{leb-true, lt-leb}
 use Rattle.bits.specs.BoolLaws.{and-left, and-right}
 use Rattle.events.specs.Fault.{Fault, Ov, Uv, Scd, Ocd}
 use Rattle.settings.specs.declared.Settings.{Settings}
-use Rattle.protection.specs.Streak.{lastAll, streak, counts}
+use Rattle.protection.specs.Streak.{lastAll, streak}
+use Rattle.protection.specs.StreakLaws.{counts}
 use Rattle.protection.specs.Rule.{delayTable, delayCode, short, cap, rule}
 
 -- each delay is at least 1 and at most the cap

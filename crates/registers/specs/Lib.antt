@@ -9,3 +9,4 @@ pub mod NamedLaws
 pub mod DrivesLaws
 pub mod LevelLaws
 pub mod PlacesLaws
+pub mod ShownLaws

@@ -11,7 +11,8 @@ use Rattle.events.specs.declared.Setup.{Setup}
 use Rattle.events.specs.Event.{Event, Sense, Meant, means, ticks, unfit, ticksFit, eventsIn}
 use Rattle.events.specs.Fault.{Fault}
 use Rattle.registers.specs.Fault.{bitOf}
-use Rattle.protection.specs.Streak.{lastAll, lastAll-is}
+use Rattle.protection.specs.Streak.{lastAll}
+use Rattle.protection.specs.StreakLaws.{lastAll-is}
 use Rattle.protection.specs.Rule.{rule}
 use Rattle.chip.specs.declared.Chip.{Chip}
 use Rattle.chip.specs.Chip.{stepped}

@@ -16,7 +16,8 @@ use Rattle.events.specs.Fault.{Fault, Ov, Uv, Scd, Ocd}
 use Rattle.bits.specs.BoolLaws.{and-left, and-right}
 use Rattle.settings.specs.declared.Settings.{Settings}
 use Rattle.cell_counts.specs.Scan.{some}
-use Rattle.protection.specs.Streak.{lastAll, lastAll-is}
+use Rattle.protection.specs.Streak.{lastAll}
+use Rattle.protection.specs.StreakLaws.{lastAll-is}
 use Rattle.protection.specs.Rule.{rule, over, under, opinion}
 use Rattle.protection.specs.TablesLaws.{need-fair}
 use Rattle.chip.specs.Core.{bare}

@@ -1,25 +1,21 @@
--- CHIP.md, "Bus": which byte of the host is acknowledged, when the bus goes idle, where the pointer goes, and what a read takes, in
--- every phase. Assumes nothing.
-use mathlib.Core.Path.{_≡_, refl, ap}
+-- CHIP B1 to B18 as they are read: which byte of the host is acknowledged, when the bus goes idle, where the pointer goes, and what a read
+-- takes, in every phase. Addresses and answers are the paper's numbers here. Assumes nothing.
+use mathlib.Core.Path.{_≡_, refl}
 use mathlib.Core.Bool.{Bool, true, false, _&&_, _||_, cond}
 use Prim.Native.Nat.{ℕ, _+_, _*_, _%_}
 use native.Mathlib.Omega.{arith}
 use lib.Dec.{eqb, leb}
 use Rattle.crc8.specs.Crc.{byteOn}
 use Rattle.events.specs.declared.Setup.{Setup}
-use Rattle.events.specs.declared.BusEvent.the-variants.{Start, Stop, Out, In}
-use Rattle.events.specs.Event.{OnBus, fits}
 use Rattle.bus.specs.declared.Phase.{Phase}
 use Rattle.bus.specs.declared.Phase.the-variants.{Idle, Address, Pointing, Writing, Checking, Reading, Summing}
 use Rattle.bus.specs.declared.Line.{Line}
 use Rattle.bus.specs.declared.Owed.{Owed}
 use Rattle.bus.specs.declared.Store.{Store}
 use Rattle.bus.specs.declared.Store.the-variants.{Nothing, At}
 use Rattle.bus.specs.declared.Outed.{Outed}
 use Rattle.bus.specs.Bus.{started, stopped, goes, refuses, stores, addressed, fed, checked, outIn, outed}
 use Rattle.bus.specs.Bus.{afterData, afterSum, taken, byteGiven, keeps, owing, takes}
-use Rattle.chip.specs.declared.Chip.{Chip}
-use Rattle.chip.specs.Chip.{stepped, happened, settled, normally, asleep}
 
 -- ── OUT ──
 -- it is acknowledged: the address byte of this chip, the pointer, a data byte, and a CRC that is right; in no other phase
@@ -179,17 +175,3 @@ in-is u here low nack (Writing s) a o = refl
 in-is u here low nack (Checking v s) a o = refl
 in-is u here low nack (Reading s k) a o = refl
 in-is u here low nack (Summing k) a o = refl
-
--- ── ASLEEP (CHIP M6): START and STOP do nothing, no OUT is acknowledged, every IN gives 0xFF, and the chip stays as it is ──
-pub asleep-bus : (c : Chip) → c .normal ≡ false
-    → (stepped (OnBus Start) c ≡ record { chip = c; number = 0; flag = false; byte = 0 })
-    × (stepped (OnBus Stop) c ≡ record { chip = c; number = 0; flag = false; byte = 0 })
-    × ((b : ℕ) → stepped (OnBus (Out b)) c ≡ record { chip = c; number = 0; flag = true; byte = 1 })
-    × ((nack : Bool) → stepped (OnBus (In nack)) c ≡ record { chip = c; number = 0; flag = true; byte = 0xFF })
-unfolding stepped happened fits
-asleep-bus c h = (
-  ap (λ (w : Bool). cond w (settled (normally (OnBus Start) c)) (asleep (OnBus Start) c)) h,
-  ap (λ (w : Bool). cond w (settled (normally (OnBus Stop) c)) (asleep (OnBus Stop) c)) h,
-  λ b. ap (λ (w : Bool). cond w (settled (normally (OnBus (Out b)) c)) (asleep (OnBus (Out b)) c)) h,
-  λ nack. ap (λ (w : Bool). cond w (settled (normally (OnBus (In nack)) c)) (asleep (OnBus (In nack)) c)) h,
-)
