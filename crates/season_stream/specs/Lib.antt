@@ -1,5 +1,6 @@
 pub mod Scans
 pub mod SettledLaws
+pub mod PiecesLaws
 pub mod Rows
 pub mod DoneLaws
 pub mod EventsLaws

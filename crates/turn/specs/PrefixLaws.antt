@@ -28,7 +28,7 @@ suc-add m n = omega arith
 same16 : (p s : List ℕ) (i : ℕ) → i + 1 < length p → le16 (p ++ s) i ≡ le16 p i
 same16 p s i h = rw (List·getD-append p s 0 i (omega arith), List·getD-append p s 0 (i + 1) h) refl
 
-same-part : (p s : List ℕ) (n : ℕ) → 4 + n ≤ length p → take n (drop 4 (p ++ s)) ≡ take n (drop 4 p)
+pub same-part : (p s : List ℕ) (n : ℕ) → 4 + n ≤ length p → take n (drop 4 (p ++ s)) ≡ take n (drop 4 p)
 same-part p s n h =
     let d : length (drop 4 p) ≡ length p - 4 = length-drop 4 p in
     ap (take n) (drop-append-le 4 p s (omega arith)) ∙ take-append-le n (drop 4 p) s (omega arith)
@@ -77,13 +77,17 @@ last-whole o c p (Record e next) l = tt
 last-whole o c p (Refused k next) l = tt
 last-whole o c p Cut l = let z : _≡_ {A = ℕ} 0 1 = cc in absurd (omega arith)
 
+pub same-record : (o : Bool) (c : Chip) (p s : List ℕ) → turnOf o c p .last ≡ false
+    → readOf (c .setup .part) (p ++ s) ≡ readOf (c .setup .part) p
+unfolding turnOf
+same-record o c p s l =
+    let part : ℕ = c .setup .part in
+    same-read part p s (ltb (length p) 4) (ltb (length p - 4) (le16 p 0)) refl refl (last-whole o c p (readOf part p) l)
+
 pub same-turn : (o : Bool) (c : Chip) (p s : List ℕ) → turnOf o c p .last ≡ false → turnOf o c (p ++ s) ≡ turnOf o c p
 unfolding turnOf
 same-turn o c p s l =
-    let part : ℕ = c .setup .part in
-    ap (turned o c (p ++ s))
-    (same-read part p s (ltb (length p) 4) (ltb (length p - 4) (le16 p 0)) refl refl (last-whole o c p (readOf part p) l))
-    ∙ same-turned o c p s (readOf part p) (placed part p) l
+    ap (turned o c (p ++ s)) (same-record o c p s l) ∙ same-turned o c p s (readOf (c .setup .part) p) (placed (c .setup .part) p) l
 
 turned-inside : (o : Bool) (c : Chip) (p : List ℕ) (x : Read) → Placed (length p) x → turned o c p x .last ≡ false
     → turned o c p x .next ≤ length p
