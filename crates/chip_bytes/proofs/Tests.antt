@@ -1,28 +1,20 @@
 -- What bytes keep, test by test. Assumes nothing.
 use mathlib.Core.Path.{_≡_, refl, sym, ap, ap₂, _∙_}
 use mathlib.Core.Bool.{Bool, true, false, not, cond, _&&_, _||_}
-use mathlib.Core.List.{List, [], _∷_}
-use Prim.Native.Nat.{ℕ, suc, _<_, _≤_}
+use mathlib.Core.List.{List}
+use Prim.Native.Nat.{ℕ, _+_, _<_, _≤_}
 use native.Mathlib.Omega.{arith}
+use native.Mathlib.Numerals.{add-one}
 use lib.Dec.{ltb}
-use lib.IntN.{ℤ}
-use lib.ListN.{length, getD, take}
-use borrow.Author.Tests.{lt-ltb, le-ltb, le-leb, eq-eqb, ne-eqb}
-use mir.Syntax.{w8}
-use mir.Val.{Fits}
+use lib.ListN.{length, getD, take, drop, drop-of-length-le}
+use lib.Seq.{drop-cons}
+use borrow.Author.Tests.{lt-ltb, le-ltb, lt-leb, eq-eqb, ne-eqb}
 use Rattle.events.specs.Event.{within}
-use Rattle.writer.specs.BytesLaws.{Bytes}
-use Rattle.settings.specs.declared.Settings.{Settings}
-use Rattle.registers.specs.declared.Shown.{Shown}
-use Rattle.protection.specs.declared.Runs.{Runs}
-use Rattle.protection.specs.declared.Judged.{Judged}
-use Rattle.protection.specs.Judged.{tickJudged}
 use Rattle.chip.specs.declared.Chip.{Chip}
-use Rattle.chip_bytes.specs.declared.Kept.{Kept}
-use Rattle.chip_bytes.specs.Layout.{switchAt, chipAt, formed, couldStand, none, keeps, noChip, goodAt, chipIn}
-use Rattle.chip_bytes.specs.Layout.{keptOf, goodOf, chipOf, freshOf, settingsAt, runsAt, shownAt}
-use Rattle.chip_bytes.specs.Quiet.{quietBytes, judgedIn, Quieted}
-use Rattle.chip_bytes.specs.GoodLaws.{kept-as, good-keeps}
+use Rattle.chip_bytes_layout.specs.declared.Kept.{Kept}
+use Rattle.chip_bytes_layout.specs.Layout.{switchAt, chipAt, formed, couldStand, none, keeps, noChip, goodAt, chipIn}
+use Rattle.chip_bytes_layout.specs.Layout.{keptOf, goodOf, chipOf, freshOf}
+use Rattle.chip_bytes_layout.specs.GoodLaws.{kept-as, good-keeps}
 
 module _ (b : List ℕ) {t : Bool} (z : t ≡ within 0 b) where
   pub good-zero : t ≡ true → true ≡ goodAt b
@@ -62,28 +54,22 @@ module _ (b : List ℕ) {g : Bool} (q : g ≡ goodOf b) where
   pub kept-bad : {k : Kept} → g ≡ false → k ≡ noChip → k ≡ keptOf b
   kept-bad h e = e ∙ sym (kept-as b ∙ ap (λ (t : Bool). cond t (keeps (chipOf b) (freshOf b)) noChip) (sym q ∙ h))
 
--- a slice's numbers are bytes
-pub bytes-all : (b : List ℕ) → ((i : ℕ) → Fits w8 (getD b i 0)) → Bytes b
-bytes-all [] h = refl
-bytes-all (x ∷ b) h =
-    let f : Fits w8 x = h 0 in
-    ap₂ _&&_ (le-leb x 255 (omega arith)) (bytes-all b (λ i. h (suc i)))
+-- a test that another makes needless
+pub or-up : (t : Bool) {n : Bool} → n ≡ true → t ≡ (t || not n)
+or-up true h = refl
+or-up false h = ap not (sym h)
 
-pub up : (t : Bool) → not t ≡ false → t ≡ true
-up true h = refl
-up false h = sym h
+pub or-down : (t : Bool) {n : Bool} → n ≡ false → true ≡ (t || not n)
+or-down true h = refl
+or-down false h = ap not (sym h)
 
--- a tick in the bytes
-pub quieted : (b : List ℕ) (v : ℤ) {n : Bool} {s : Settings} {r : Runs} {j : Judged} {sh : Shown} {new : List ℕ} → 96 ≤ length b
-    → (n ≡ switchAt (take 96 b) 22) × Bytes (take 96 b) → not n ≡ false → r ≡ runsAt (take 96 b) → s ≡ settingsAt (take 96 b) → j ≡ tickJudged s v r
-    → (j .risen .scd || j .risen .ocd) ≡ false → sh ≡ shownAt (take 96 b) → new ≡ quietBytes b (j .runs) → Quieted b v sh new
-quieted b v {n = t} {j = j} room n normal r s q still shows moves =
-    let e : judgedIn (take 96 b) v ≡ j = sym (q ∙ ap₂ (λ (s : Settings) (r : Runs). tickJudged s v r) s r) in
-    record {
-      room = room;
-      bytes = n .1;
-      normal = sym (n .0) ∙ up t normal;
-      still = ap (λ (j : Judged). j .risen .scd || j .risen .ocd) e ∙ still;
-      shows = shows;
-      moves = moves ∙ ap (λ (j : Judged). quietBytes b (j .runs)) (sym e);
-    }
+-- a turn of the loop over bytes that may be zero
+module _ (b : List ℕ) (i : ℕ) where
+  pub zero-not : i < length b → (getD b i 0 ≡ 0 → ⊥) → within 0 (drop i b) ≡ false
+  zero-not h z = simp (drop-cons b i 0 h, lt-leb (getD b i 0) 0 (omega (arith, z)))
+
+  pub zero-next : i < length b → getD b i 0 ≡ 0 → within 0 (drop i b) ≡ within 0 (drop (i + 1) b)
+  zero-next h z = simp (drop-cons b i 0 h, z, add-one i)
+
+  pub zero-end : length b ≤ i → within 0 (drop i b) ≡ true
+  zero-end h = simp (drop-of-length-le b h)

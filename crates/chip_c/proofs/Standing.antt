@@ -18,8 +18,8 @@ use Rattle.chip_voltage.specs.Voltage.{voltageSaid, Reads, forecastNumber}
 use Rattle.values_c.specs.Convert.{Gives}
 use Rattle.stream.specs.Forecast.{Contents}
 use Rattle.stream.proofs.Doubles.{four}
-use Rattle.chip_bytes.specs.declared.Kept.{Kept}
-use Rattle.chip_bytes.specs.Layout.{keptOf}
+use Rattle.chip_bytes_layout.specs.declared.Kept.{Kept}
+use Rattle.chip_bytes_layout.specs.Layout.{keptOf}
 use Rattle.chip_c.specs.Asked.{standsNumber, keptSaid, addressSaid, byteOr, readNumber, isRead, ReadOf}
 
 -- ── whether a chip stands ──

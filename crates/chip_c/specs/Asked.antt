@@ -8,6 +8,7 @@ use lib.Dec.{eqb, ltb}
 use lib.IntN.{ℤ}
 use lib.Ieee.{Float}
 use lib.ListN.{length}
+use Rattle.constants.specs.Number.{DONE, «BAD_VALUE», CUT, «NO_ROOM», «NO_CHIP»}
 use Rattle.constants.specs.Answer.{Said, gives, refuses}
 use Rattle.registers.specs.Read.{readAt}
 use Rattle.bleed.specs.declared.Choice.{Choice}
@@ -16,17 +17,17 @@ use Rattle.chip.specs.declared.Chip.{Chip}
 use Rattle.chip_voltage.specs.Voltage.{voltageSaid, forecastNumber}
 use Rattle.services_chip.specs.Care.{proposalSaid, packOf, linkedTotal}
 use Rattle.stream.specs.Forecast.{Contents}
-use Rattle.chip_bytes.specs.declared.Kept.{Kept}
+use Rattle.chip_bytes_layout.specs.declared.Kept.{Kept}
 
 unfoldable pub standsNumber : Kept → ℕ
-standsNumber k = cond (k .good) (cond (eqb (k .chip .setup .part) 0) 9 0) 26
+standsNumber k = cond (k .good) (cond (eqb (k .chip .setup .part) 0) CUT DONE) «NO_CHIP»
 
 unfoldable pub keptSaid : {A : Type 0} → Kept → Said A → Said A
 keptSaid k said = cond (eqb (standsNumber k) 0) said (refuses (standsNumber k))
 
 -- 3 for an address above 0xFF
 abbrev pub addressSaid : ℕ → Chip → Said ℕ
-addressSaid a c = cond (ltb 255 a) (refuses 3) (gives (readAt (c .setup) (c .registers) a))
+addressSaid a c = cond (ltb 255 a) (refuses «BAD_VALUE») (gives (readAt (c .setup) (c .registers) a))
 
 abbrev pub registerSaid : Kept → ℕ → Said ℕ
 registerSaid k a = keptSaid k (addressSaid a (k .chip))
@@ -47,7 +48,7 @@ byteOr n = cond (ltb n 256) n 0
 -- 4 asleep, 10 where no cell is connected; then 5 for room below 4
 abbrev pub readNumber : Kept → ℕ → ℕ
 readNumber k room =
-    cond (eqb (standsNumber k) 0) (cond (eqb (forecastNumber (k .chip)) 0) (cond (ltb room 4) 5 0) (forecastNumber (k .chip)))
+    cond (eqb (standsNumber k) 0) (cond (eqb (forecastNumber (k .chip)) 0) (cond (ltb room 4) «NO_ROOM» DONE) (forecastNumber (k .chip)))
     (standsNumber k)
 
 abbrev pub isRead : Kept → ℕ → Bool

@@ -9,7 +9,7 @@ use Rattle.values.specs.SameLaws.{same-reading}
 use Rattle.values.specs.declared.Reading.{Reading}
 use Rattle.chip.specs.declared.Chip.{Chip}
 use Rattle.stream.specs.Forecast.{Contents}
-use Rattle.chip_bytes.specs.declared.Kept.{Kept}
+use Rattle.chip_bytes_layout.specs.declared.Kept.{Kept}
 use Rattle.chip_c.specs.Asked.{isRead, ReadOf}
 
 same-contents : (t : Bool) (c : Chip) (old new other : List Float) → Contents t c old new → Contents t c old other → new ≡ other

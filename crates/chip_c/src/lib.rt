@@ -1,16 +1,21 @@
 // A chip that is kept as bytes, for C: what its registers hold, its voltages, and what forecasting, workshops and chargers ask.
 ghost use mathlib.Core.Path.{_≡_};
-ghost use Rattle.chip_bytes.specs.Layout.{keptOf};
+ghost use Rattle.chip_bytes_layout.specs.Layout.{keptOf};
 ghost use Rattle.constants.specs.Answer.{numberSaid};
 ghost use Rattle.chip_voltage.specs.Voltage.{saidForecast};
 ghost use Rattle.values_c.specs.Convert.{Gives};
 ghost use Rattle.smart_battery.specs.Reply.{Replied};
 ghost use Rattle.services_stream.specs.Asks.{Bled};
 ghost use Rattle.chip_c.specs.Asked.{byteOr, standsNumber, registerSaid, voltageOf, proposalOf, wordOf, ReadOf};
-use chip_bytes::Kept;
+use chip_bytes_layout::Kept;
 use chip_voltage::CellAnswer;
 use chip_voltage::ForecastAnswer;
+use constants::number;
+use constants::size;
 use services_chip::Proposal;
+
+// The most that an address and a command may be.
+const MOST: u32 = 0xFF;
 
 // 0 where a chip stands, 26 for bytes that are no chip, 9 for no chip yet.
 fn stands(kept: Kept) -> u8
@@ -20,11 +25,11 @@ fn stands(kept: Kept) -> u8
         let chip = kept.chip;
         let setup = chip.setup;
         if setup.part == 0 {
-            return 9;
+            return number::CUT;
         }
-        return 0;
+        return number::DONE;
     }
-    26
+    number::NO_CHIP
 }
 
 // What an address holds, the bus undisturbed. Answers 0, or with nothing written 26 for bytes that are no chip, 9 for no chip yet, 3 for an address above 0xFF.
@@ -33,18 +38,18 @@ pub extern "C" fn toralinge_register(chip: &[u8], address: u32, value: &mut u8) 
     ensures { λ r. ⌜ Gives (registerSaid (keptOf (now (chip .entry))) address) (now (value .entry)) r (now (value .exit)) ⌝ }
 {
     let kept = chip_bytes::decode(chip);
-    let number = stands(kept);
-    if number != 0 {
-        return number;
+    let refused = stands(kept);
+    if refused != number::DONE {
+        return refused;
     }
-    if 255 < address {
-        return 3;
+    if MOST < address {
+        return number::BAD_VALUE;
     }
     let chip = kept.chip;
     let registers = chip.registers;
     let byte = registers.read(chip.setup, address as u8);
     *value = byte;
-    0
+    number::DONE
 }
 
 // A number of 32 bits as a byte; 0, which is no cell, where it is too large.
@@ -60,9 +65,9 @@ pub extern "C" fn toralinge_voltage(chip: &[u8], cell: u32, microvolts: &mut i64
     ensures { λ r. ⌜ Gives (voltageOf (keptOf (now (chip .entry))) cell) (now (microvolts .entry)) r (now (microvolts .exit)) ⌝ }
 {
     let kept = chip_bytes::decode(chip);
-    let number = stands(kept);
-    if number != 0 {
-        return number;
+    let refused = stands(kept);
+    if refused != number::DONE {
+        return refused;
     }
     let chip = kept.chip;
     let answer = chip_voltage::voltage(chip, byte_or_none(cell));
@@ -70,11 +75,11 @@ pub extern "C" fn toralinge_voltage(chip: &[u8], cell: u32, microvolts: &mut i64
         CellAnswer::Is(v) => {
             let z = v.0;
             *microvolts = z;
-            0
+            number::DONE
         }
-        CellAnswer::Asleep => 4,
-        CellAnswer::NoCell => 6,
-        CellAnswer::NotConnected => 10,
+        CellAnswer::Asleep => number::ASLEEP,
+        CellAnswer::NoCell => number::NO_CELL,
+        CellAnswer::NotConnected => number::NOT_CONNECTED,
     }
 }
 
@@ -84,9 +89,9 @@ pub extern "C" fn toralinge_bleed_of(chip: &[u8], margin: u32, cellbal: &mut [u8
     ensures { λ r. ⌜ Bled (proposalOf (keptOf (now (chip .entry))) margin) (now (cellbal .entry)) r (now (cellbal .exit)) ⌝ }
 {
     let kept = chip_bytes::decode(chip);
-    let number = stands(kept);
-    if number != 0 {
-        return number;
+    let refused = stands(kept);
+    if refused != number::DONE {
+        return refused;
     }
     let answer = services_chip::bleeding(kept.chip, margin);
     match answer {
@@ -107,12 +112,12 @@ pub extern "C" fn toralinge_reply_of(
     ensures { λ r. ⌜ Replied (wordOf (keptOf (now (chip .entry))) command milliohms) command (now (reply .entry)) r (now (reply .exit)) ⌝ }
 {
     let kept = chip_bytes::decode(chip);
-    let number = stands(kept);
-    if number != 0 {
-        return number;
+    let refused = stands(kept);
+    if refused != number::DONE {
+        return refused;
     }
-    if 255 < command {
-        return 23;
+    if MOST < command {
+        return number::BAD_COMMAND;
     }
     services_chip::reply(kept.chip, command as u8, milliohms, reply)
 }
@@ -122,9 +127,9 @@ fn unread(answer: ForecastAnswer) -> u8
     ensures { λ r. ⌜ r ≡ numberSaid (saidForecast answer) ⌝ }
 {
     match answer {
-        ForecastAnswer::Is(_) => 0,
-        ForecastAnswer::Asleep => 4,
-        ForecastAnswer::NotConnected => 10,
+        ForecastAnswer::Is(_) => number::DONE,
+        ForecastAnswer::Asleep => number::ASLEEP,
+        ForecastAnswer::NotConnected => number::NOT_CONNECTED,
     }
 }
 
@@ -134,21 +139,21 @@ pub extern "C" fn toralinge_reading_of(chip: &[u8], reading: &mut [f64]) -> u8
     ensures { λ r. ⌜ ReadOf (keptOf (now (chip .entry))) (now (reading .entry)) r (now (reading .exit)) ⌝ }
 {
     let kept = chip_bytes::decode(chip);
-    let number = stands(kept);
-    if number != 0 {
-        return number;
+    let refused = stands(kept);
+    if refused != number::DONE {
+        return refused;
     }
     let chip = kept.chip;
     let answer = chip_voltage::forecast(chip);
     let ForecastAnswer::Is(given) = answer else {
         return unread(answer);
     };
-    if reading.len() < 4 {
-        return 5;
+    if reading.len() < size::READING {
+        return number::NO_ROOM;
     }
     reading[0] = given.least;
     reading[1] = given.greatest;
     reading[2] = given.total;
     reading[3] = given.cc;
-    0
+    number::DONE
 }

@@ -18,9 +18,9 @@ use Rattle.stream.specs.Stream.{Ran}
 use Rattle.turn.specs.Frames.{framesFrom}
 use Rattle.turn.specs.CountedLaws.{entries-from-count}
 use Rattle.turn.proofs.Runs.{entered-all}
-use Rattle.chip_bytes.specs.declared.Kept.{Kept}
-use Rattle.chip_bytes.specs.Layout.{noChip, keptAt, keptOf, keptIn}
-use Rattle.chip_bytes.specs.OneLaws.{kept-stood}
+use Rattle.chip_bytes_layout.specs.declared.Kept.{Kept}
+use Rattle.chip_bytes_layout.specs.Layout.{noChip, keptAt, keptOf, keptIn}
+use Rattle.chip_bytes_layout.specs.OneLaws.{kept-stood}
 use Rattle.feed.specs.Fed.{entriesOf, allFit, answerBy, feedsBy, chipAfter, entriesAfter, Fed}
 use Rattle.feed.specs.KeptLaws.{stood-calm}
 

@@ -31,13 +31,13 @@ use Rattle.turn.specs.Turn.{Turn, acted, turn, turnOf, entryOf}
 use Rattle.stream.specs.Stream.{unanswered, saying}
 use Rattle.turn.specs.Entries.{runs, stands, stays, entriesFrom, chipFrom, freshFrom, bytesOf}
 use Rattle.stream.proofs.Steps.{often-is, tick-arm, still-arm, done-turn, closes}
-use Rattle.chip_bytes.specs.declared.Kept.{Kept}
-use Rattle.chip_bytes.specs.Layout.{keeps, keptOf, goodOf, chipOf, freshOf, keptIn}
-use Rattle.chip_bytes.specs.GoodLaws.{good-keeps}
-use Rattle.chip_bytes.specs.declared.Quiet.{Quiet}
-use Rattle.chip_bytes.specs.declared.Quiet.the-variants.{Shows, Not as Loud}
-use Rattle.chip_bytes.specs.Quiet.{Quieted, QuietAt}
-use Rattle.chip_bytes.specs.QuietLaws.{Moves, moves}
+use Rattle.chip_bytes_layout.specs.declared.Kept.{Kept}
+use Rattle.chip_bytes_layout.specs.Layout.{keeps, keptOf, goodOf, chipOf, freshOf, keptIn}
+use Rattle.chip_bytes_layout.specs.GoodLaws.{good-keeps}
+use Rattle.chip_bytes_event.specs.declared.Quiet.{Quiet}
+use Rattle.chip_bytes_event.specs.declared.Quiet.the-variants.{Shows, Not as Loud}
+use Rattle.chip_bytes_event.specs.Quiet.{Quieted, QuietAt}
+use Rattle.chip_bytes_event.specs.QuietLaws.{Moves, moves}
 use Rattle.feed.specs.Fed.{allFit, answerBy, feedsBy, chipAfter, entriesAfter, Fed}
 use Rattle.feed.specs.declared.Tick.{Tick}
 use Rattle.feed.specs.declared.Tick.the-variants.{Of}

@@ -8,26 +8,32 @@ use lib.IntN.{ℤ, pos, negsuc}
 use lib.ListN.{length, drop}
 use Rattle.turn.specs.declared.Entry.{Entry}
 use Rattle.turn.specs.Entries.{entriesFrom, chipFrom, freshFrom, bytesOf}
-use Rattle.chip_bytes.specs.declared.Kept.{Kept}
-use Rattle.chip_bytes.specs.Layout.{keptOf, keptIn}
+use Rattle.chip_bytes_layout.specs.declared.Kept.{Kept}
+use Rattle.chip_bytes_layout.specs.Place.{«KEPT_CHIP»}
+use Rattle.chip_bytes_layout.specs.Layout.{keptOf, keptIn}
+
+-- how many bytes an entry has
+abbrev pub ENTRY : ℕ
+ENTRY = 5
 
 abbrev pub entriesOf : Kept → List ℕ → List Entry
 entriesOf k s = entriesFrom (k .fresh) (k .chip) s
 
 abbrev pub allFit : Kept → List ℕ → ℕ → Bool
-allFit k s room = leb (5 * length (entriesOf k s)) room
+allFit k s room = leb (ENTRY * length (entriesOf k s)) room
 
 -- −5 for a chip buffer that is too short, −26 for bytes that are no chip, −5 for a buffer too short for all entries; else their count
 abbrev pub answerBy : Kept → List ℕ → List ℕ → ℕ → ℤ
 answerBy k b s room =
-    cond (ltb (length b) 96) (negsuc 4) (cond (k .good) (cond (allFit k s room) (pos (length (entriesOf k s))) (negsuc 4)) (negsuc 25))
+    cond (ltb (length b) «KEPT_CHIP») (negsuc 4)
+    (cond (k .good) (cond (allFit k s room) (pos (length (entriesOf k s))) (negsuc 4)) (negsuc 25))
 
 abbrev pub feedAnswer : List ℕ → List ℕ → ℕ → ℤ
 feedAnswer b s room = answerBy (keptOf b) b s room
 
 -- whether they are played; else both buffers keep every byte
 abbrev pub feedsBy : Kept → List ℕ → List ℕ → ℕ → Bool
-feedsBy k b s room = not (ltb (length b) 96) && k .good && allFit k s room
+feedsBy k b s room = not (ltb (length b) «KEPT_CHIP») && k .good && allFit k s room
 
 abbrev pub feeds : List ℕ → List ℕ → ℕ → Bool
 feeds b s room = feedsBy (keptOf b) b s room
@@ -36,7 +42,7 @@ abbrev pub chipAfter : Kept → List ℕ → List ℕ → List ℕ
 chipAfter k s b = keptIn (chipFrom (k .fresh) (k .chip) s) (freshFrom (k .fresh) (k .chip) s) b
 
 abbrev pub entriesAfter : Kept → List ℕ → List ℕ → List ℕ
-entriesAfter k s old = bytesOf (entriesOf k s) ++ drop (5 * length (entriesOf k s)) old
+entriesAfter k s old = bytesOf (entriesOf k s) ++ drop (ENTRY * length (entriesOf k s)) old
 
 pub record Fed (b s old : List ℕ) (r : ℤ) (chip new : List ℕ) : Type 0 where
   pub answer : r ≡ feedAnswer b s (length old)

@@ -21,9 +21,9 @@ use Rattle.turn.specs.Entries.{runs, stands, stays, entriesFrom, chipFrom, fres
 use Rattle.turn.specs.Entries.{entryBytes, bytesOf}
 use Rattle.stream.specs.Stream.{Played}
 use Rattle.turn.specs.Pieces.{joined, fedEntries, fedChip, fedFresh, Whole-pieces, fed-in-pieces, played-in-pieces}
-use Rattle.chip_bytes.specs.declared.Kept.{Kept}
-use Rattle.chip_bytes.specs.Layout.{keeps, noChip, keptAt, keptOf, keptBytes, keptIn}
-use Rattle.chip_bytes.specs.OneLaws.{Stood, not-yet, trip, kept-length}
+use Rattle.chip_bytes_layout.specs.declared.Kept.{Kept}
+use Rattle.chip_bytes_layout.specs.Layout.{keeps, noChip, keptAt, keptOf, keptBytes, keptIn}
+use Rattle.chip_bytes_layout.specs.OneLaws.{Stood, not-yet, trip, kept-length}
 use Rattle.feed.specs.Fed.{entriesOf, allFit, feedAnswer, feeds, chipAfter, entriesAfter, Fed}
 use Rattle.feed.specs.KeptLaws.{from-stands}
 

@@ -31,9 +31,9 @@ use Rattle.turn.specs.Turn.{none, wiredAs, acted, turned, turnOf}
 use Rattle.turn.specs.Entries.{stays, chipFrom, freshFrom}
 use Rattle.turn.specs.Entries.{stands as ends}
 use Rattle.turn.specs.StandingLaws.{acted-is}
-use Rattle.chip_bytes.specs.Layout.{setupStands, couldStand}
-use Rattle.chip_bytes.specs.TripLaws.{Sized}
-use Rattle.chip_bytes.specs.OneLaws.{Stood, not-yet, stands, part-not}
+use Rattle.chip_bytes_layout.specs.Layout.{setupStands, couldStand}
+use Rattle.chip_bytes_layout.specs.TripLaws.{Sized}
+use Rattle.chip_bytes_layout.specs.OneLaws.{Stood, not-yet, stands, part-not}
 use Rattle.feed.specs.SizeLaws.{ship-sized, sized-as}
 
 -- ── what a chip that could stand has ──

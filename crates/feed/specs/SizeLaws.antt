@@ -17,7 +17,7 @@ use Rattle.registers.specs.Judging.{cellsOf, tsOf, ccOf}
 use Rattle.chip.specs.declared.Chip.{Chip}
 use Rattle.chip.specs.Chip.{numbered, inShip, onBus, watched, settled, normally, asleep, happened, next, ticking, steppedAs}
 use Rattle.chip.specs.MovesLaws.{next-by, asleep-by, stored-by}
-use Rattle.chip_bytes.specs.TripLaws.{Sized}
+use Rattle.chip_bytes_layout.specs.TripLaws.{Sized}
 
 padded-length : (k : ℕ) (xs : List ℕ) → length (padded k xs) ≡ k
 padded-length zero xs = refl

@@ -13,7 +13,9 @@ use Rattle.bits.specs.Bit.{weighed}
 use Rattle.registers.specs.declared.Shown.{Shown}
 use Rattle.registers.specs.State.{alert}
 use Rattle.registers.specs.Read.{statusByte}
-use Rattle.chip_bytes.specs.Quiet.{Quieted}
+use Rattle.chip_bytes_layout.specs.Place.{PART}
+use Rattle.chip_bytes_event.specs.Quiet.{Quieted}
+use Rattle.feed.specs.Fed.{ENTRY}
 use Rattle.feed.specs.declared.Tick.{Tick}
 use Rattle.feed.specs.declared.Tick.the-variants.{Of, Not}
 
@@ -29,10 +31,10 @@ shownBytes s =
     ∷ (weighed (alert (s .status)) 4 + weighed (s .«chg_on») 2 + weighed (s .«dsg_on») 1) ∷ []
 
 pub record Ticked (b s old chip new : List ℕ) : Type 0 where
-  pub room : 5 ≤ length old
+  pub room : ENTRY ≤ length old
   pub value : ℤ
   pub shown : Shown
-  pub reads : readOf (getD b 1 0) s ≡ Record (Sense value) (length s)
+  pub reads : readOf (getD b PART 0) s ≡ Record (Sense value) (length s)
   pub quiet : Quieted b value shown chip
   pub wrote : new ≡ sets old 0 (shownBytes shown)
 

@@ -3,10 +3,15 @@ ghost use mathlib.Core.Path.{_≡_};
 ghost use Prim.Native.Nat.{_≤_};
 ghost use lib.ListN.{length};
 ghost use lib.Seq.{sets};
+ghost use Rattle.feed.specs.Fed.{ENTRY};
 ghost use Rattle.feed.specs.Tick.{OneTick, shownBytes, TickedBy};
 use crate::Tick;
-use chip_bytes::Quiet;
+use chip_bytes_event::Quiet;
+use chip_bytes_layout::place;
 use constants::kind;
+use constants::number;
+use constants::size;
+use constants::weight;
 use events::Event;
 use records::Framed;
 use records::Payload;
@@ -26,7 +31,7 @@ fn tick_in(part: u8, records: &[u8]) -> Tick
     if next != records.len() {
         return Tick::Not;
     }
-    let payload = records::payload_of(kind::SENSE, part, &records[4..next]);
+    let payload = records::payload_of(kind::SENSE, part, &records[size::HEADER..next]);
     let Payload::Whole(event) = payload else {
         return Tick::Not;
     };
@@ -38,15 +43,15 @@ fn tick_in(part: u8, records: &[u8]) -> Tick
 
 // The entry of a record that is done and gives no bus byte.
 fn put_entry(entries: &mut [u8], shown: Shown)
-    requires { ⌜ 5 ≤ length (now entries) ⌝ }
+    requires { ⌜ ENTRY ≤ length (now entries) ⌝ }
     ensures { λ _. ⌜ now (entries .exit) ≡ sets (now (entries .entry)) 0 (shownBytes shown) ⌝ }
 {
     let status = shown.status;
     let stat = status.byte();
-    let pins = bits::weigh(status.alert(), 4)
-        + bits::weigh(shown.chg_on, 2)
-        + bits::weigh(shown.dsg_on, 1);
-    entries[0] = 0;
+    let pins = bits::weigh(status.alert(), weight::PIN_ALERT)
+        + bits::weigh(shown.chg_on, weight::PIN_CHG)
+        + bits::weigh(shown.dsg_on, weight::PIN_DSG);
+    entries[0] = number::DONE;
     entries[1] = 0;
     entries[2] = 0;
     entries[3] = stat;
@@ -57,17 +62,17 @@ fn put_entry(entries: &mut [u8], shown: Shown)
 pub fn ticked(chip: &mut [u8], records: &[u8], entries: &mut [u8]) -> bool
     ensures { λ r. ⌜ TickedBy (now (chip .entry)) (now (records .entry)) (now (entries .entry)) r (now (chip .exit)) (now (entries .exit)) ⌝ }
 {
-    if chip.len() < 96 {
+    if chip.len() < size::KEPT_CHIP {
         return false;
     }
-    if entries.len() < 5 {
+    if entries.len() < size::ENTRY {
         return false;
     }
-    let tick = tick_in(chip[1], records);
+    let tick = tick_in(chip[place::PART], records);
     let Tick::Of(value) = tick else {
         return false;
     };
-    let quiet = chip_bytes::ticked(chip, value);
+    let quiet = chip_bytes_event::ticked(chip, value);
     let Quiet::Shows(shown) = quiet else {
         return false;
     };

@@ -3,7 +3,8 @@ ghost use mathlib.Core.Path.{_≡_};
 ghost use mathlib.Core.Bool.{true};
 ghost use Prim.Native.Nat.{_≤_};
 ghost use lib.ListN.{length};
-ghost use Rattle.chip_bytes.specs.Layout.{goodOf};
+ghost use Rattle.chip_bytes_layout.specs.Place.{«KEPT_CHIP»};
+ghost use Rattle.chip_bytes_layout.specs.Layout.{goodOf};
 ghost use Rattle.feed.specs.Fed.{Fed};
 use constants::answer;
 use constants::size;
@@ -18,7 +19,7 @@ pub enum Tick {
 
 // Records played on a chip that bytes keep: read from them, and written again.
 fn played(chip: &mut [u8], records: &[u8], entries: &mut [u8]) -> i64
-    requires { ⌜ (96 ≤ length (now chip)) × (goodOf (now chip) ≡ true) ⌝ }
+    requires { ⌜ («KEPT_CHIP» ≤ length (now chip)) × (goodOf (now chip) ≡ true) ⌝ }
     ensures { λ r. ⌜ Fed (now (chip .entry)) (now (records .entry)) (now (entries .entry)) r (now (chip .exit)) (now (entries .exit)) ⌝ }
 {
     let stood = chip_bytes::chip_of(&chip[..]);
@@ -30,7 +31,7 @@ fn played(chip: &mut [u8], records: &[u8], entries: &mut [u8]) -> i64
     }
     let left = stream::run_from(stood, fresh, records, entries);
     let after = left.chip;
-    chip_bytes::encode(after, left.fresh, chip);
+    chip_bytes_write::encode(after, left.fresh, chip);
     n as i64
 }
 

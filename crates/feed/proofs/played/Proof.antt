@@ -1,7 +1,7 @@
 -- By the room of the entries; the chip is read from good bytes.
 use mathlib.Core.Path.{refl}
 use native.Mathlib.Omega.{arith}
-use Rattle.chip_bytes.specs.Layout.{keeps}
+use Rattle.chip_bytes_layout.specs.Layout.{keeps}
 use Rattle.feed.proofs.Calls.{fed-full, fed-done}
 use Rattle.feed.proofs.Ticks.{good-calm, good-kept}
 use borrow.Author.Needs.{needs}

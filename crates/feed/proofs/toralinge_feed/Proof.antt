@@ -5,8 +5,8 @@ use mir.Val.{toZ, ofZ}
 use mathlib.Core.List.{List}
 use Prim.Native.Nat.{ℕ, _≤_}
 use lib.ListN.{length}
-use Rattle.chip_bytes.specs.Layout.{keptOf, goodOf}
-use Rattle.chip_bytes.specs.GoodLaws.{good-is}
+use Rattle.chip_bytes_layout.specs.Layout.{keptOf, goodOf}
+use Rattle.chip_bytes_layout.specs.GoodLaws.{good-is}
 use Rattle.feed.proofs.Calls.{fed-short, fed-bad}
 use Rattle.feed.proofs.Ticks.{fed-ticked, unticked, fed-as, up, down}
 use borrow.Author.Needs.{needs}

@@ -1,0 +1,229 @@
+// The bytes of a chip.
+ghost use mathlib.Core.Path.{_≡_};
+ghost use mathlib.Core.List.{_++_};
+ghost use Prim.Native.Nat.{_+_, _≤_};
+ghost use lib.ListN.{length, drop, replicate};
+ghost use lib.Seq.{sets};
+ghost use Rattle.writer.specs.Write.{wordBytes};
+ghost use Rattle.chip_bytes_layout.specs.Place.{«KEPT_CHIP», RESTS, WORDS};
+ghost use Rattle.chip_bytes_layout.specs.Layout.{tagOf, firstOf, secondOf, plainOf, switchesOf, wordsOf, chipBytes, keptIn};
+use bits::weigh;
+use bus::Phase;
+use chip::Chip;
+use chip_bytes_layout::LAYOUT;
+use chip_bytes_layout::place;
+use constants::size;
+
+fn tag_of(phase: Phase) -> u8
+    ensures { λ r. ⌜ r ≡ tagOf phase ⌝ }
+{
+    match phase {
+        Phase::Idle => 0,
+        Phase::Address => 1,
+        Phase::Pointing(_) => 2,
+        Phase::Writing(_) => 3,
+        Phase::Checking(_, _) => 4,
+        Phase::Reading(_, _) => 5,
+        Phase::Summing(_) => 6,
+    }
+}
+
+fn first_of(phase: Phase) -> u8
+    ensures { λ r. ⌜ r ≡ firstOf phase ⌝ }
+{
+    match phase {
+        Phase::Idle => 0,
+        Phase::Address => 0,
+        Phase::Pointing(sum) => sum,
+        Phase::Writing(sum) => sum,
+        Phase::Checking(byte, _) => byte,
+        Phase::Reading(sum, _) => sum,
+        Phase::Summing(kept) => weigh(kept, 1),
+    }
+}
+
+fn second_of(phase: Phase) -> u8
+    ensures { λ r. ⌜ r ≡ secondOf phase ⌝ }
+{
+    match phase {
+        Phase::Idle => 0,
+        Phase::Address => 0,
+        Phase::Pointing(_) => 0,
+        Phase::Writing(_) => 0,
+        Phase::Checking(_, sum) => sum,
+        Phase::Reading(_, kept) => weigh(kept, 1),
+        Phase::Summing(_) => 0,
+    }
+}
+
+// The version, and what is a byte.
+fn plain_of(chip: Chip) -> [u8; 21]
+    ensures { λ r. ⌜ r ≡ plainOf chip ⌝ }
+{
+    let setup = chip.setup;
+    let bus = chip.bus;
+    let line = bus.line;
+    let owed = bus.owed;
+    let registers = chip.registers;
+    let s = registers.settings;
+    let cellbal = registers.cellbal;
+    let phase = line.phase;
+    [
+        LAYOUT,
+        setup.part,
+        setup.address,
+        setup.gain_code,
+        setup.offset,
+        setup.cells,
+        line.pointer,
+        owed.sum,
+        owed.low,
+        tag_of(phase),
+        first_of(phase),
+        second_of(phase),
+        s.protect1,
+        s.protect2,
+        s.protect3,
+        s.ov_trip,
+        s.uv_trip,
+        s.cc_cfg,
+        cellbal.cellbal1,
+        cellbal.cellbal2,
+        cellbal.cellbal3,
+    ]
+}
+
+// What is 0 or 1.
+fn switches_of(chip: Chip, fresh: bool) -> [u8; 20]
+    ensures { λ r. ⌜ r ≡ switchesOf chip fresh ⌝ }
+{
+    let setup = chip.setup;
+    let registers = chip.registers;
+    let s = registers.settings;
+    let shown = registers.shown;
+    let t = shown.status;
+    [
+        weigh(setup.crc, 1),
+        weigh(chip.normal, 1),
+        weigh(fresh, 1),
+        weigh(s.adc_en, 1),
+        weigh(s.temp_sel, 1),
+        weigh(s.shut_b, 1),
+        weigh(s.delay_dis, 1),
+        weigh(s.cc_en, 1),
+        weigh(t.cc_ready, 1),
+        weigh(t.xready, 1),
+        weigh(t.ovrd_alert, 1),
+        weigh(t.uv, 1),
+        weigh(t.ov, 1),
+        weigh(t.scd, 1),
+        weigh(t.ocd, 1),
+        weigh(shown.cc_oneshot, 1),
+        weigh(shown.dsg_on, 1),
+        weigh(shown.chg_on, 1),
+        weigh(registers.load_level, 1),
+        weigh(registers.outside_level, 1),
+    ]
+}
+
+// What is two bytes.
+fn words_of(chip: Chip) -> [u16; 25]
+    ensures { λ r. ⌜ r ≡ wordsOf chip ⌝ }
+{
+    let setup = chip.setup;
+    let runs = chip.runs;
+    let registers = chip.registers;
+    let measured = registers.measured;
+    let ts = measured.ts;
+    let cells = measured.cells;
+    [
+        setup.floor,
+        runs.ov,
+        runs.uv,
+        runs.scd,
+        runs.ocd,
+        measured.bat,
+        measured.cc,
+        ts[0],
+        ts[1],
+        ts[2],
+        cells[0],
+        cells[1],
+        cells[2],
+        cells[3],
+        cells[4],
+        cells[5],
+        cells[6],
+        cells[7],
+        cells[8],
+        cells[9],
+        cells[10],
+        cells[11],
+        cells[12],
+        cells[13],
+        cells[14],
+    ]
+}
+
+// Bytes put at a place.
+fn put_bytes(out: &mut [u8], at: usize, from: &[u8])
+    requires { ⌜ at + length (now from) ≤ length (now out) ⌝ }
+    ensures { λ _. ⌜ now (out .exit) ≡ sets (now (out .entry)) at (now (from .entry)) ⌝ }
+{
+    let mut i = 0;
+    while i < from.len() {
+        out[at + i] = from[i];
+        i += 1;
+    }
+}
+
+// Numbers of two bytes put in their place.
+fn put_words(out: &mut [u8], of: [u16; 25])
+    requires { ⌜ «KEPT_CHIP» ≤ length (now out) ⌝ }
+    ensures { λ _. ⌜ now (out .exit) ≡ sets (now (out .entry)) WORDS (wordBytes of) ⌝ }
+{
+    let mut i = 0;
+    while i < place::NUMBERS {
+        out[place::WORDS + 2 * i] = (of[i] % 256) as u8;
+        out[place::WORDS_HIGH + 2 * i] = (of[i] / 256) as u8;
+        i += 1;
+    }
+}
+
+// A chip that stands, in full.
+fn put_chip(chip: Chip, fresh: bool, out: &mut [u8])
+    requires { ⌜ «KEPT_CHIP» ≤ length (now out) ⌝ }
+    ensures { λ _. ⌜ now (out .exit) ≡ chipBytes chip fresh ++ drop «KEPT_CHIP» (now (out .entry)) ⌝ }
+{
+    let plain = plain_of(chip);
+    put_bytes(out, place::VERSION, &plain);
+    let switches = switches_of(chip, fresh);
+    put_bytes(out, place::CRC, &switches);
+    let zeros = [0u8; place::RESTS];
+    put_bytes(out, place::REST1, &zeros);
+    put_words(out, words_of(chip));
+}
+
+// No chip yet.
+fn put_none(out: &mut [u8])
+    requires { ⌜ «KEPT_CHIP» ≤ length (now out) ⌝ }
+    ensures { λ _. ⌜ now (out .exit) ≡ replicate «KEPT_CHIP» 0 ++ drop «KEPT_CHIP» (now (out .entry)) ⌝ }
+{
+    let zeros = [0u8; size::KEPT_CHIP];
+    put_bytes(out, place::VERSION, &zeros);
+}
+
+// The chip as its bytes, where they have room; no chip yet is all zero.
+pub fn encode(chip: Chip, fresh: bool, out: &mut [u8])
+    ensures { λ _. ⌜ now (out .exit) ≡ keptIn chip fresh (now (out .entry)) ⌝ }
+{
+    if out.len() < size::KEPT_CHIP {
+        return;
+    }
+    let setup = chip.setup;
+    if setup.part == 0 {
+        put_none(out);
+        return;
+    }
+    put_chip(chip, fresh, out);
+}
