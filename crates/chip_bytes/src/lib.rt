@@ -2,7 +2,8 @@
 ghost use mathlib.Core.Path.{_≡_};
 ghost use lib.ListN.{length};
 ghost use Rattle.events.specs.Event.{within};
-ghost use Rattle.chip_bytes_layout.specs.Place.{«KEPT_CHIP», FRESH, SWITCHES, SWITCHED, REST1, RESTS};
+ghost use Rattle.constants.specs.Size.{«KEPT_CHIP»};
+ghost use Rattle.chip_bytes_layout.specs.Place.{FRESH, SWITCHES, SWITCHED, REST1, RESTS};
 ghost use Rattle.chip_bytes_layout.specs.Layout.{phaseGood, listed, chipAt, formed as formedSpec, setupStands, levelStands, freshStands, couldStand, switchAt, goodAt, chipIn, goodOf, chipOf, freshOf, keptOf, noChip, none};
 use chip::Chip;
 use chip_bytes_layout::Kept;

@@ -26,7 +26,8 @@ use Rattle.protection.specs.declared.Runs.{Runs}
 use Rattle.chip.specs.declared.Chip.{Chip}
 use Rattle.chip.specs.Chip.{inShip}
 use Rattle.chip_bytes_layout.specs.declared.Kept.{Kept}
-use Rattle.chip_bytes_layout.specs.Place.{«KEPT_CHIP», LAYOUT, VERSION, PART, ADDRESS, «GAIN_CODE», OFFSET, CELLS, POINTER, SUM}
+use Rattle.constants.specs.Size.{«KEPT_CHIP»}
+use Rattle.chip_bytes_layout.specs.Place.{LAYOUT, VERSION, PART, ADDRESS, «GAIN_CODE», OFFSET, CELLS, POINTER, SUM}
 use Rattle.chip_bytes_layout.specs.Place.{LOW, PHASE, FIRST, SECOND, PROTECT1, PROTECT2, PROTECT3, «OV_TRIP», «UV_TRIP», «CC_CFG»}
 use Rattle.chip_bytes_layout.specs.Place.{CELLBAL1, CELLBAL2, CELLBAL3, CRC, NORMAL, FRESH, «ADC_EN», «TEMP_SEL», «SHUT_B»}
 use Rattle.chip_bytes_layout.specs.Place.{«DELAY_DIS», «CC_EN», «CC_READY», XREADY, «OVRD_ALERT», UV, OV, SCD, OCD, «CC_ONESHOT»}

@@ -1,10 +1,7 @@
 -- The places in the bytes of a kept chip. Assumes nothing.
 use Prim.Native.Nat.{ℕ}
 
--- how many bytes it has, and what byte 0 is
-abbrev pub «KEPT_CHIP» : ℕ
-«KEPT_CHIP» = 96
-
+-- what byte 0 is
 abbrev pub LAYOUT : ℕ
 LAYOUT = 1
 

@@ -2,7 +2,8 @@
 ghost use mathlib.Core.Path.{_≡_};
 ghost use Prim.Native.Nat.{_<_};
 ghost use lib.ListN.{length};
-ghost use Rattle.chip_bytes_layout.specs.Place.{«KEPT_CHIP», NUMBERS};
+ghost use Rattle.constants.specs.Size.{«KEPT_CHIP»};
+ghost use Rattle.chip_bytes_layout.specs.Place.{NUMBERS};
 ghost use Rattle.chip_bytes_layout.specs.Layout.{phaseOf, wordIn, setupAt, busAt, settingsAt, statusAt, shownAt, cellbalAt, measuredAt, runsAt, registersAt, chipAt};
 use bus::Bus;
 use bus::Line;

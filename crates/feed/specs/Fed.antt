@@ -4,17 +4,15 @@ use mathlib.Core.Bool.{Bool, not, _&&_, cond}
 use mathlib.Core.List.{List, _++_}
 use Prim.Native.Nat.{ℕ, _*_}
 use lib.Dec.{leb, ltb}
-use lib.IntN.{ℤ, pos, negsuc}
+use lib.IntN.{ℤ, pos}
 use lib.ListN.{length, drop}
+use Rattle.constants.specs.Number.{«NO_ROOM», «NO_CHIP»}
+use Rattle.constants.specs.Answer.{minus}
 use Rattle.turn.specs.declared.Entry.{Entry}
 use Rattle.turn.specs.Entries.{entriesFrom, chipFrom, freshFrom, bytesOf}
 use Rattle.chip_bytes_layout.specs.declared.Kept.{Kept}
-use Rattle.chip_bytes_layout.specs.Place.{«KEPT_CHIP»}
+use Rattle.constants.specs.Size.{ENTRY, «KEPT_CHIP»}
 use Rattle.chip_bytes_layout.specs.Layout.{keptOf, keptIn}
-
--- how many bytes an entry has
-abbrev pub ENTRY : ℕ
-ENTRY = 5
 
 abbrev pub entriesOf : Kept → List ℕ → List Entry
 entriesOf k s = entriesFrom (k .fresh) (k .chip) s
@@ -25,8 +23,8 @@ allFit k s room = leb (ENTRY * length (entriesOf k s)) room
 -- −5 for a chip buffer that is too short, −26 for bytes that are no chip, −5 for a buffer too short for all entries; else their count
 abbrev pub answerBy : Kept → List ℕ → List ℕ → ℕ → ℤ
 answerBy k b s room =
-    cond (ltb (length b) «KEPT_CHIP») (negsuc 4)
-    (cond (k .good) (cond (allFit k s room) (pos (length (entriesOf k s))) (negsuc 4)) (negsuc 25))
+    cond (ltb (length b) «KEPT_CHIP») (minus «NO_ROOM»)
+    (cond (k .good) (cond (allFit k s room) (pos (length (entriesOf k s))) (minus «NO_ROOM»)) (minus «NO_CHIP»))
 
 abbrev pub feedAnswer : List ℕ → List ℕ → ℕ → ℤ
 feedAnswer b s room = answerBy (keptOf b) b s room

@@ -15,7 +15,7 @@ use Rattle.registers.specs.State.{alert}
 use Rattle.registers.specs.Read.{statusByte}
 use Rattle.chip_bytes_layout.specs.Place.{PART}
 use Rattle.chip_bytes_event.specs.Quiet.{Quieted}
-use Rattle.feed.specs.Fed.{ENTRY}
+use Rattle.constants.specs.Size.{ENTRY}
 use Rattle.feed.specs.declared.Tick.{Tick}
 use Rattle.feed.specs.declared.Tick.the-variants.{Of, Not}
 

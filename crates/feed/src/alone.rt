@@ -3,7 +3,7 @@ ghost use mathlib.Core.Path.{_≡_};
 ghost use Prim.Native.Nat.{_≤_};
 ghost use lib.ListN.{length};
 ghost use lib.Seq.{sets};
-ghost use Rattle.feed.specs.Fed.{ENTRY};
+ghost use Rattle.constants.specs.Size.{ENTRY};
 ghost use Rattle.feed.specs.Tick.{OneTick, shownBytes, TickedBy};
 use crate::Tick;
 use chip_bytes_event::Quiet;

@@ -3,7 +3,7 @@ ghost use mathlib.Core.Path.{_≡_};
 ghost use mathlib.Core.Bool.{true};
 ghost use Prim.Native.Nat.{_≤_};
 ghost use lib.ListN.{length};
-ghost use Rattle.chip_bytes_layout.specs.Place.{«KEPT_CHIP»};
+ghost use Rattle.constants.specs.Size.{«KEPT_CHIP»};
 ghost use Rattle.chip_bytes_layout.specs.Layout.{goodOf};
 ghost use Rattle.feed.specs.Fed.{Fed};
 use constants::answer;

@@ -6,7 +6,9 @@ use mathlib.Core.Bool.{cond}
 use lib.ListN.{length, drop}
 use lib.Seq.{sets}
 use lib.Dec.{leb}
-use lib.IntN.{ℤ, pos, negsuc}
+use lib.IntN.{ℤ, pos}
+use Rattle.constants.specs.Number.{«NO_ROOM»}
+use Rattle.constants.specs.Answer.{minus}
 
 -- `too long` and the line's end
 abbrev pub tooLong : List ℕ
@@ -21,5 +23,5 @@ pub record Puts (most : ℕ) (text : List ℕ) (at : ℕ) (old : List ℕ) (r : 
 -- a text and a lent buffer: it stands at the start, every later byte is kept, and how many bytes it has is answered; or −5 where the
 -- buffer is too short for all of it, which then keeps every byte
 pub record Written (text old : List ℕ) (r : ℤ) (new : List ℕ) : Type 0 where
-  pub answer : r ≡ cond (leb (length text) (length old)) (pos (length text)) (negsuc 4)
+  pub answer : r ≡ cond (leb (length text) (length old)) (pos (length text)) (minus «NO_ROOM»)
   pub contents : new ≡ cond (leb (length text) (length old)) (text ++ drop (length text) old) old

@@ -4,9 +4,10 @@ use mathlib.Core.Bool.{cond}
 use mathlib.Core.List.{List, _++_}
 use Prim.Native.Nat.{ℕ, _<_, _^_}
 use lib.Dec.{eqb, leb}
-use lib.IntN.{ℤ, pos, negsuc, negℤ}
+use lib.IntN.{ℤ, pos}
 use lib.ListN.{length, drop}
-use Rattle.constants.specs.Answer.{Said, gives, refuses}
+use Rattle.constants.specs.Number.{«NO_ROOM»}
+use Rattle.constants.specs.Answer.{Said, gives, refuses, minus}
 use Rattle.events.specs.declared.Counts.{Counts}
 use Rattle.events.specs.declared.Event.{Event}
 use Rattle.records.specs.Record.{readOf, countsBeside}
@@ -31,7 +32,7 @@ meantBy part vs (Unfit n) = refuses n
 -- as C takes what the writer answers; how many bytes it wrote is below 2 ^ 63
 abbrev pub wroteAnswer : Wrote → ℤ
 wroteAnswer (Done n) = pos n
-wroteAnswer (Refused- n) = negℤ (pos n)
+wroteAnswer (Refused- n) = minus n
 
 abbrev pub countedFew : Wrote → Type 0
 countedFew (Done n) = n < 2 ^ 63
@@ -43,8 +44,8 @@ recordSaid kind part vs = meantBy (partBy part) vs (eventBy kind part vs)
 
 -- how many bytes were written, or minus the number that refuses it; 5 comes last
 abbrev pub recordAnswer : Said (List ℕ) → ℕ → ℤ
-recordAnswer (refuses n) room = negℤ (pos n)
-recordAnswer (gives b) room = cond (leb (length b) room) (pos (length b)) (negsuc 4)
+recordAnswer (refuses n) room = minus n
+recordAnswer (gives b) room = cond (leb (length b) room) (pos (length b)) (minus «NO_ROOM»)
 
 -- what is laid at the start of a buffer, and then what stood there
 abbrev pub laid : {A : Type 0} → List A → List A → List A
@@ -76,8 +77,8 @@ unfoldable pub namedSaid : ℕ → List ℕ → Said Named
 namedSaid part r = cond (leb part 3) (namedRead r (readOf part r)) (refuses 1)
 
 abbrev pub namedAnswer : Said Named → ℕ → ℤ
-namedAnswer (refuses n) room = negℤ (pos n)
-namedAnswer (gives v) room = cond (leb (length (v .values)) room) (pos (length (v .values))) (negsuc 4)
+namedAnswer (refuses n) room = minus n
+namedAnswer (gives v) room = cond (leb (length (v .values)) room) (pos (length (v .values))) (minus «NO_ROOM»)
 
 abbrev pub namedKind : Said Named → ℕ → ℕ → ℕ
 namedKind (refuses n) room old = old
