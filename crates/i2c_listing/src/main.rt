@@ -5,6 +5,12 @@ use constants::range;
 use libc::STDIN_FILENO;
 use libc::STDOUT_FILENO;
 
+// A byte more than is allowed, so that too many are seen.
+const INPUT_ROOM: usize = 65537;
+
+// Two digits for each byte of the longest records, and the end of the line.
+const TEXT_ROOM: usize = 131073;
+
 // Where the line that begins at a place ends.
 fn end_of(input: &[u8], at: usize) -> usize
     requires { ⌜ at ≤ length (now input) ⌝ }
@@ -30,7 +36,7 @@ fn glyph(digit: u8) -> u8
 fn show(bytes: &[u8])
     requires { ⌜ length (now bytes) ≤ 65536 ⌝ }
 {
-    let mut text = [0u8; 131073];
+    let mut text = [0u8; TEXT_ROOM];
     let mut i = 0;
     while i < bytes.len() {
         text[2 * i] = glyph(bytes[i] / 16);
@@ -75,9 +81,6 @@ fn turn_all(text: &[u8]) {
         at = end + 1;
     }
 }
-
-// A byte more than is allowed, so that too many are seen.
-const INPUT_ROOM: usize = 65537;
 
 fn main() {
     let mut input = [0u8; INPUT_ROOM];

@@ -15,7 +15,7 @@ use types.Run.{OneOf}
 use denote.Enum.Declared.{tagOf}
 use mathlib.Core.Logic.{⊎-elim}
 use Rattle.constants.specs.Answer.{numberSaid}
-use Rattle.chip.proofs.outward.ForecastAnswer.{the-type as answer-type}
+use Rattle.chip_voltage.proofs.ForecastAnswer.{the-type as answer-type}
 use Rattle.chip_voltage.specs.declared.ForecastAnswer.{ForecastAnswer}
 use Rattle.chip_voltage.specs.declared.ForecastAnswer.the-variants.{Is, Asleep, NotConnected}
 use Rattle.chip_voltage.specs.Voltage.{Reads, forecastNumber, saidForecast, Forecasts}
