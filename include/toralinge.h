@@ -185,8 +185,11 @@ enum { TORALINGE_CHIP_SIZE = 96 };
 /*
  * A season's report that lives between calls is kept as this many bytes, likewise: byte 0 is the layout's version, 1, then
  * whose scans they are (part, gain code, offset, cells, floor), how many, and the columns. All zero: none yet. Two reports
- * that differ have different bytes, and bytes that are no report (another version, or a part, gain code, floor or number of
- * cells that no chip has) are refused with 26. Whether the columns agree with each other is not looked at.
+ * that differ have different bytes, and bytes that are no report (another version, a part, gain code, floor or number of
+ * cells that no chip has, or columns that no scans could have) are refused with 26. Of each input the columns are held
+ * against each other: a least count above the greatest, a greatest above 16,383, the number of a scan that is not there, a
+ * sum that no counts between the two come to, more scans or a greater sum connected than in all, and anything but 0 counts
+ * where the part lacks the input or there are no scans.
  */
 enum { TORALINGE_REPORT_SIZE = 309 };
 

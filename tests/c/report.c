@@ -1,7 +1,8 @@
 /*
  * Reports that are kept as bytes, through include/toralinge.h alone, with guard bytes round every buffer: grown while a chip is fed in any
  * pieces they are the report of the whole; joins of random splits equal it; their rows are toralinge_season's; 25 and 22 are reached; bytes
- * that are no report, zeroed, cut, of another version or with a setup out of range, are refused with nothing changed.
+ * that are no report, zeroed, cut, of another version, with a setup out of range or with columns that no scans could have, are refused with
+ * nothing changed.
  */
 #include "check.h"
 #include "guard.h"
@@ -235,6 +236,55 @@ static void hostile(void)
     }
 }
 
+/* Where the i-th of the ten columns has the number of an input, both counted from 0. */
+static size_t place(size_t column, size_t input)
+{
+    return 9 + 30 * column + 2 * input;
+}
+
+static void refused_with(const uint8_t *report, size_t at, uint16_t word)
+{
+    uint8_t bad[SIZE];
+    int64_t rows[ROWS];
+    memcpy(bad, report, SIZE);
+    bad[at] = (uint8_t)(word % 256);
+    bad[at + 1] = (uint8_t)(word / 256);
+    CHECK(toralinge_rows(bad, SIZE, rows, ROWS) == -TORALINGE_NO_CHIP);
+    joins(bad, report, report, TORALINGE_NO_CHIP);
+}
+
+/* Columns that no scans could have: of input 2 at 1,000 and 1,001 counts, of inputs that the part lacks, and of a report of no scans. */
+static void contradicting(void)
+{
+    static const struct { size_t column; uint16_t word; } spoiled[] = {
+        {0, 1002}, {0, 999}, {1, 0}, {1, 3}, {2, 999}, {2, 1002}, {3, 0}, {3, 3}, {4, 2000}, {4, 2002}, {5, 1},
+        {6, 3}, {6, 1}, {7, 1}, {8, 2002}, {8, 1999}, {9, 1}};
+    static const size_t zeros[] = {0, 2, 4, 5, 7, 8, 9};
+    struct stream two = asleep(1);
+    uint8_t report[SIZE], none[SIZE];
+    size_t i, input;
+    whole_of(&two, none);
+    add_bare(&two, BOOT);
+    add_five(&two, 16383, 1000, 0, 7, 8);
+    add_five(&two, 16000, 1001, 0, 7, 9);
+    whole_of(&two, report);
+    for (i = 0; i < sizeof spoiled / sizeof spoiled[0]; i++) {
+        refused_with(report, place(spoiled[i].column, 1), spoiled[i].word);
+    }
+    for (input = 5; input < 15; input++) {
+        for (i = 0; i < sizeof zeros / sizeof zeros[0]; i++) {
+            refused_with(report, place(zeros[i], input), 1);
+        }
+        refused_with(report, place(1, input), 0);
+        refused_with(report, place(3, input), 3);
+        refused_with(report, place(6, input), 3);
+    }
+    refused_with(report, place(2, 0), 16384);
+    for (i = 0; i < 150; i++) {
+        refused_with(none, place(0, i), 1);
+    }
+}
+
 int main(void)
 {
     int at;
@@ -244,6 +294,7 @@ int main(void)
     different();
     full();
     hostile();
+    contradicting();
     printf("report: %lu checks of kept reports hold\n", checks);
     return 0;
 }

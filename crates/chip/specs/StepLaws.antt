@@ -1,5 +1,5 @@
--- CHIP M4, M6, N30 and J9 as they are read, of one event and any chip: out of range 3 before asleep 4, BOOT wakes, the bus asleep, and what a
--- SCAN or a tick is judged to be is counted and shown. Assumes nothing.
+-- CHIP M4, M6, N30 and J9 as they are read, of one event and any chip: out of range 3 before asleep 4, BOOT wakes, the bus asleep, and
+-- what a SCAN or a tick is judged to be is counted and shown. Assumes nothing.
 use mathlib.Core.Path.{_≡_, refl, sym, ap, _∙_}
 use mathlib.Core.Bool.{Bool, true, false, cond, true≢false}
 use mathlib.Core.List.{List}

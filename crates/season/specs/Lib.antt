@@ -4,6 +4,7 @@ pub mod PlacesLaws
 pub mod SingleLaws
 pub mod CasesLaws
 pub mod OrderedLaws
+pub mod BoundsLaws
 pub mod JoinedLaws
 pub mod ReadingsLaws
 pub mod WorkedLaws

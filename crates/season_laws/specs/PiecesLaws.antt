@@ -25,18 +25,19 @@ use Rattle.turn.specs.Turn.{none}
 use Rattle.turn.specs.Entries.{chipFrom, freshFrom}
 use Rattle.turn.specs.PrefixLaws.{Whole-records}
 use Rattle.turn.specs.Pieces.{joined, Whole-pieces, no-piece, a-piece}
-use Rattle.chip_bytes.specs.declared.Kept.{Kept}
-use Rattle.chip_bytes.specs.Layout.{setupStands, keeps, keptOf as chipOf}
-use Rattle.chip_bytes.specs.Layout.{couldStand as chipStands}
-use Rattle.chip_bytes.specs.OneLaws.{not-yet, stands}
-use Rattle.chip_bytes.specs.OneLaws.{Stood as ChipStood}
+use Rattle.chip_bytes_layout.specs.declared.Kept.{Kept}
+use Rattle.chip_bytes_layout.specs.Layout.{setupStands, keeps, keptOf as chipOf}
+use Rattle.chip_bytes_layout.specs.Layout.{couldStand as chipStands}
+use Rattle.chip_bytes_layout.specs.OneLaws.{not-yet, stands}
+use Rattle.chip_bytes_layout.specs.OneLaws.{Stood as ChipStood}
 use Rattle.feed.specs.Fed.{Fed}
 use Rattle.feed.specs.KeptLaws.{from-stands}
 use Rattle.feed.specs.FedLaws.{Keeps, kept-is, keeps-on}
 use Rattle.season_bytes.specs.Layout.{reportBytes, couldStand, blank, keptAt, keptOf, keptIn}
-use Rattle.season_bytes.specs.TripLaws.{Stood, trip, report-length, stood-of}
+use Rattle.season_bytes.specs.TripLaws.{Stood, trip, report-length}
+use Rattle.season_bytes.specs.AgreesLaws.{stood-of}
 use Rattle.season_stream.specs.Scans.{scansFrom, seasonSaid, saidReport}
-use Rattle.season_stream.specs.PiecesLaws.{range-from}
+use Rattle.season_stream.specs.PiecesLaws.{range-from, lacks-from}
 use Rattle.season_c.specs.Calls.{grownOn, growSaid, growAnswer, keptBytes, Grows}
 use Rattle.season_c.specs.CallsLaws.{same-grown, season-grown}
 use Rattle.season_c.specs.BytesLaws.{zero-report}
@@ -81,7 +82,7 @@ stands-of u xs h =
 
 report-stood : {r : Reported} → Gave r → r .number ≡ 0 → Stood (r .season)
 report-stood none-yet e = absurd (omega (arith, e))
-report-stood (of-scans u xs v h few) e = stood-of u xs (stands-of u xs v)
+report-stood (of-scans u xs v h z few) e = stood-of u xs (stands-of u xs v) h z
 
 -- ── one call ──
 -- a report that was written
@@ -105,7 +106,7 @@ module _ {b k : List ℕ} (s : List ℕ) {r : Reported} {c : Chip} {o : Bool} (h
   gave-next : {y : Season} → growSaid r (keeps c o) s ≡ gives y → Gave (reported 0 y)
   gave-next e =
       gave-on (h .gave) (chipFrom o c s .setup) (scansFrom o c s) (setup-good (from-stands s (q .stood))) (range-from o c s)
-      (sym (grown-as (h .gave) o c s) ∙ e)
+      (lacks-from o c s) (sym (grown-as (h .gave) o c s) ∙ e)
 
   module _ {m : ℕ} {new : List ℕ} (g : Grows (growSaid (keptOf b) (chipOf k) s) b (pos m) new) where
     bytes-by : (y : Season) → growSaid r (keeps c o) s ≡ gives y → new ≡ reportBytes y ++ drop 309 b
