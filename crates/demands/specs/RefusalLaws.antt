@@ -1,5 +1,5 @@
--- CHIP.md, "Numbers given back", of a chip that stands: which number each kind of event gives, asleep and awake, and which kinds have no value
--- out of range. Assumes nothing.
+-- CHIP.md, "Numbers given back", of a chip that stands: which number each kind of event gives, asleep and awake, and which kinds have no
+-- value out of range. Assumes nothing.
 use mathlib.Core.Path.{_≡_, refl, _∙_}
 use mathlib.Core.Bool.{Bool, true, false, not, _&&_, _||_, cond}
 use Prim.Native.Nat.{ℕ}
