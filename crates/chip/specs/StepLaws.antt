@@ -1,20 +1,22 @@
--- CHIP M4, M6, N30 and J9 as they are read, of one event and any chip: out of range 3 before asleep 4, BOOT wakes, the bus asleep, and
--- what a SCAN or a tick is judged to be is counted and shown. Assumes nothing.
+-- CHIP M4, M6, N30, J9 and B18 as they are read, of one event and any chip: out of range 3 before asleep 4, BOOT, the bus asleep, what a
+-- SCAN or a tick is judged to be is counted and shown, and what a read keeps. Assumes nothing.
 use mathlib.Core.Path.{_≡_, refl, sym, ap, _∙_}
 use mathlib.Core.Bool.{Bool, true, false, cond, true≢false}
 use mathlib.Core.List.{List}
-use Prim.Native.Nat.{ℕ}
+use Prim.Native.Nat.{ℕ, _+_, _%_}
 use lib.IntN.{ℤ}
 use Rattle.events.specs.declared.BusEvent.the-variants.{Start, Stop, Out, In}
 use Rattle.events.specs.Event.{Event, Boot, Scan, Sense, OnBus, fits, ticksFit, ticks}
 use Rattle.events.specs.Fault.{Fault}
+use Rattle.bus.specs.declared.Phase.the-variants.{Reading}
+use Rattle.bus.specs.Bus.{isHigh, keeps, owing}
 use Rattle.registers.specs.Fault.{bitOf}
 use Rattle.registers.specs.DrivesLaws.{rises}
 use Rattle.registers.specs.LevelLaws.{level-bit}
 use Rattle.protection.specs.Rule.{counted, risen}
 use Rattle.chip.specs.declared.Chip.{Chip}
 use Rattle.chip.specs.declared.Stepped.{Stepped}
-use Rattle.chip.specs.Chip.{numbered, settled, normally, asleep, happened, stepped, next, ticking, steppedAs}
+use Rattle.chip.specs.Chip.{reads, onBus, numbered, watched, settled, normally, asleep, happened, stepped, next, ticking, steppedAs}
 
 -- ── NUMBERS ──
 -- out of range: 3, and the chip as it was
@@ -33,14 +35,16 @@ ticks-number most v n c = by (ticksFit most v n) (c .normal)
     by false a = refl
 
 -- ── ASLEEP ──
--- BOOT wakes
-pub boot-wakes : (c : Chip) → next Boot c .normal ≡ true
+-- BOOT wakes; awake it does nothing, but that the outside level is looked at (CHIP M4, L2)
+boot-by : (c : Chip) (t : Bool) → c .normal ≡ t → next Boot c ≡ cond t (settled (normally Boot c)) (asleep Boot c) .chip
 unfolding stepped happened fits
-boot-wakes c = by (c .normal) refl
-  where
-    by : (t : Bool) → c .normal ≡ t → cond t (settled (normally Boot c)) (asleep Boot c) .chip .normal ≡ true
-    by true e = e
-    by false e = refl
+boot-by c t h = ap (λ (w : Bool). cond w (settled (normally Boot c)) (asleep Boot c) .chip) h
+
+pub boot-wakes : (c : Chip) → c .normal ≡ false → next Boot c .normal ≡ true
+boot-wakes c h = ap (λ (d : Chip). d .normal) (boot-by c false h)
+
+pub boot-awake : (c : Chip) → c .normal ≡ true → next Boot c ≡ watched c
+boot-awake c h = boot-by c true h
 
 -- CHIP M6: START and STOP do nothing, no OUT is acknowledged, every IN gives 0xFF, and the chip stays as it is
 pub asleep-bus : (c : Chip) → c .normal ≡ false
@@ -86,3 +90,9 @@ risen-shown (tick v) k c f a r =
     ap (λ (d : Chip). bitOf k (d .registers .shown .status)) (awake (Sense v) c f a)
     ∙ level-bit k (c .registers .«outside_level») (normally (Sense v) c .chip .registers .shown)
     ∙ rises k (risen (c .setup .floor) (c .registers .settings) (c .runs) (Sense v)) (c .registers .shown) r
+
+-- ── READING: the high byte of a pair keeps what the address after it reads then (CHIP B18) ──
+pub low-kept : (nack k : Bool) (s a : ℕ) (c : Chip) → c .bus .line .phase ≡ Reading s k → c .bus .line .pointer ≡ a → isHigh a ≡ true
+    → onBus (In nack) c .chip .bus .owed .low ≡ reads c ((a + 1) % 256)
+unfolding owing keeps
+low-kept nack k s a c p q h = simp (p, q, h)

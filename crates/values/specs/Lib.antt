@@ -6,3 +6,4 @@ pub mod SameLaws
 pub mod Laws
 pub mod RoundingLaws
 pub mod WorkedLaws
+pub mod LinesLaws
