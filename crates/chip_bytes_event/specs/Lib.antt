@@ -1,2 +1,2 @@
-pub mod Quiet
-pub mod QuietLaws
+pub mod Did
+pub mod DidLaws

@@ -176,3 +176,16 @@ TS1 = 7
 
 abbrev pub VC1 : ℕ
 VC1 = 10
+
+-- the low bytes of those that events move
+abbrev pub «OV_LOW» : ℕ
+«OV_LOW» = 48
+
+abbrev pub «SCD_LOW» : ℕ
+«SCD_LOW» = 52
+
+abbrev pub «BAT_LOW» : ℕ
+«BAT_LOW» = 56
+
+abbrev pub «VC1_LOW» : ℕ
+«VC1_LOW» = 66

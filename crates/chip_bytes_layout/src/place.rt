@@ -151,3 +151,18 @@ pub const VC13: usize = 22;
 pub const VC14: usize = 23;
 
 pub const VC15: usize = 24;
+
+// The low and the high bytes of the numbers that events move.
+pub const OV_LOW: usize = 48;
+
+pub const SCD_LOW: usize = 52;
+
+pub const SCD_HIGH: usize = 53;
+
+pub const OCD_LOW: usize = 54;
+
+pub const OCD_HIGH: usize = 55;
+
+pub const BAT_LOW: usize = 56;
+
+pub const VC1_LOW: usize = 66;

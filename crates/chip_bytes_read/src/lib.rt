@@ -135,7 +135,7 @@ pub fn cellbal_at(b: &[u8]) -> Cellbal
     }
 }
 
-fn measured_at(b: &[u8]) -> Measured
+pub fn measured_at(b: &[u8]) -> Measured
     requires { ⌜ length (now b) ≡ «KEPT_CHIP» ⌝ }
     ensures { λ r. ⌜ r ≡ measuredAt (now (b .entry)) ⌝ }
 {

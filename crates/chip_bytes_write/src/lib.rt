@@ -1,12 +1,11 @@
 // The bytes of a chip.
 ghost use mathlib.Core.Path.{_≡_};
 ghost use mathlib.Core.List.{_++_};
-ghost use Prim.Native.Nat.{_+_, _≤_};
+ghost use Prim.Native.Nat.{_+_, _*_, _≤_};
 ghost use lib.ListN.{length, drop, replicate};
 ghost use lib.Seq.{sets};
 ghost use Rattle.writer.specs.Write.{wordBytes};
 ghost use Rattle.constants.specs.Size.{«KEPT_CHIP»};
-ghost use Rattle.chip_bytes_layout.specs.Place.{RESTS, WORDS};
 ghost use Rattle.chip_bytes_layout.specs.Layout.{tagOf, firstOf, secondOf, plainOf, switchesOf, wordsOf, chipBytes, keptIn};
 use bits::weigh;
 use bus::Phase;
@@ -15,7 +14,7 @@ use chip_bytes_layout::LAYOUT;
 use chip_bytes_layout::place;
 use constants::size;
 
-fn tag_of(phase: Phase) -> u8
+pub fn tag_of(phase: Phase) -> u8
     ensures { λ r. ⌜ r ≡ tagOf phase ⌝ }
 {
     match phase {
@@ -29,7 +28,7 @@ fn tag_of(phase: Phase) -> u8
     }
 }
 
-fn first_of(phase: Phase) -> u8
+pub fn first_of(phase: Phase) -> u8
     ensures { λ r. ⌜ r ≡ firstOf phase ⌝ }
 {
     match phase {
@@ -43,7 +42,7 @@ fn first_of(phase: Phase) -> u8
     }
 }
 
-fn second_of(phase: Phase) -> u8
+pub fn second_of(phase: Phase) -> u8
     ensures { λ r. ⌜ r ≡ secondOf phase ⌝ }
 {
     match phase {
@@ -178,15 +177,15 @@ fn put_bytes(out: &mut [u8], at: usize, from: &[u8])
     }
 }
 
-// Numbers of two bytes put in their place.
-fn put_words(out: &mut [u8], of: [u16; 25])
-    requires { ⌜ «KEPT_CHIP» ≤ length (now out) ⌝ }
-    ensures { λ _. ⌜ now (out .exit) ≡ sets (now (out .entry)) WORDS (wordBytes of) ⌝ }
+// Numbers of two bytes put at a place, the low byte first.
+pub fn put_words(out: &mut [u8], at: usize, of: &[u16])
+    requires { ⌜ at + 2 * length (now of) ≤ length (now out) ⌝ }
+    ensures { λ _. ⌜ now (out .exit) ≡ sets (now (out .entry)) at (wordBytes (now (of .entry))) ⌝ }
 {
     let mut i = 0;
-    while i < place::NUMBERS {
-        out[place::WORDS + 2 * i] = (of[i] % 256) as u8;
-        out[place::WORDS_HIGH + 2 * i] = (of[i] / 256) as u8;
+    while i < of.len() {
+        out[at + 2 * i] = (of[i] % 256) as u8;
+        out[at + 2 * i + 1] = (of[i] / 256) as u8;
         i += 1;
     }
 }
@@ -202,7 +201,8 @@ fn put_chip(chip: Chip, fresh: bool, out: &mut [u8])
     put_bytes(out, place::CRC, &switches);
     let zeros = [0u8; place::RESTS];
     put_bytes(out, place::REST1, &zeros);
-    put_words(out, words_of(chip));
+    let words = words_of(chip);
+    put_words(out, place::WORDS, &words);
 }
 
 // No chip yet.

@@ -1,5 +1,5 @@
 pub mod Fed
-pub mod Tick
+pub mod Alone
 pub mod SizeLaws
 pub mod KeptLaws
 pub mod FedLaws

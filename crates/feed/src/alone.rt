@@ -1,12 +1,11 @@
-// One tick fed to a kept chip.
+// One record fed to a kept chip.
 ghost use mathlib.Core.Path.{_≡_};
 ghost use Prim.Native.Nat.{_≤_};
 ghost use lib.ListN.{length};
 ghost use lib.Seq.{sets};
 ghost use Rattle.constants.specs.Size.{ENTRY};
-ghost use Rattle.feed.specs.Tick.{OneTick, shownBytes, TickedBy};
-use crate::Tick;
-use chip_bytes_event::Quiet;
+ghost use Rattle.feed.specs.Alone.{doneBytes, BareBy, RecordBy, Signal, AloneBy};
+use chip_bytes_event::Done;
 use chip_bytes_layout::place;
 use constants::kind;
 use constants::number;
@@ -17,34 +16,10 @@ use records::Framed;
 use records::Payload;
 use registers::Shown;
 
-// Whether records are one tick, and with which value.
-fn tick_in(part: u8, records: &[u8]) -> Tick
-    ensures { λ r. ⌜ OneTick part (now (records .entry)) r ⌝ }
-{
-    let framed = records::header_of(records);
-    let Framed::Header { kind, next } = framed else {
-        return Tick::Not;
-    };
-    if kind != kind::SENSE {
-        return Tick::Not;
-    }
-    if next != records.len() {
-        return Tick::Not;
-    }
-    let payload = records::payload_of(kind::SENSE, part, &records[size::HEADER..next]);
-    let Payload::Whole(event) = payload else {
-        return Tick::Not;
-    };
-    let Event::Sense(value) = event else {
-        return Tick::Not;
-    };
-    Tick::Of(value)
-}
-
-// The entry of a record that is done and gives no bus byte.
-fn put_entry(entries: &mut [u8], shown: Shown)
+// The entry of a record that is done.
+fn put_entry(entries: &mut [u8], flag: bool, byte: u8, shown: Shown)
     requires { ⌜ ENTRY ≤ length (now entries) ⌝ }
-    ensures { λ _. ⌜ now (entries .exit) ≡ sets (now (entries .entry)) 0 (shownBytes shown) ⌝ }
+    ensures { λ _. ⌜ now (entries .exit) ≡ sets (now (entries .entry)) 0 (doneBytes flag byte shown) ⌝ }
 {
     let status = shown.status;
     let stat = status.byte();
@@ -52,15 +27,64 @@ fn put_entry(entries: &mut [u8], shown: Shown)
         + bits::weigh(shown.chg_on, weight::PIN_CHG)
         + bits::weigh(shown.dsg_on, weight::PIN_DSG);
     entries[0] = number::DONE;
-    entries[1] = 0;
-    entries[2] = 0;
+    entries[1] = bits::weigh(flag, 1);
+    entries[2] = byte;
     entries[3] = stat;
     entries[4] = pins;
 }
 
-// Does records that are one tick, on a chip in NORMAL, where the tick raises nothing; else it changes nothing.
-pub fn ticked(chip: &mut [u8], records: &[u8], entries: &mut [u8]) -> bool
-    ensures { λ r. ⌜ TickedBy (now (chip .entry)) (now (records .entry)) (now (entries .entry)) r (now (chip .exit)) (now (entries .exit)) ⌝ }
+// A tick.
+fn tick_by(chip: &mut [u8], payload: Payload) -> Done
+    ensures { λ r. ⌜ BareBy (now (chip .entry)) payload r (now (chip .exit)) ⌝ }
+{
+    let Payload::Whole(event) = payload else {
+        return Done::Not;
+    };
+    let Event::Sense(value) = event else {
+        return Done::Not;
+    };
+    chip_bytes_tick::ticked(chip, value)
+}
+
+// START, OUT, IN and STOP.
+fn bus_by(chip: &mut [u8], payload: Payload) -> Done
+    ensures { λ r. ⌜ BareBy (now (chip .entry)) payload r (now (chip .exit)) ⌝ }
+{
+    let Payload::Whole(event) = payload else {
+        return Done::Not;
+    };
+    let Event::OnBus(signal) = event else {
+        return Done::Not;
+    };
+    chip_bytes_bus::heard(chip, signal)
+}
+
+// The payload of a kind of the bus; each kind by itself, so that the compiler keeps of the reader only what it needs.
+fn signal_of(kind: u16, part: u8, b: &[u8]) -> Payload
+    ensures { λ r. ⌜ Signal kind part (now (b .entry)) r ⌝ }
+{
+    match kind {
+        kind::START => records::payload_of(kind::START, part, b),
+        kind::OUT => records::payload_of(kind::OUT, part, b),
+        kind::IN => records::payload_of(kind::IN, part, b),
+        kind::STOP => records::payload_of(kind::STOP, part, b),
+        _ => Payload::Unfit(number::BAD_KIND),
+    }
+}
+
+// A record by its kind and payload.
+fn done_by(chip: &mut [u8], part: u8, kind: u16, b: &[u8]) -> Done
+    ensures { λ r. ⌜ RecordBy (now (chip .entry)) part kind (now (b .entry)) r (now (chip .exit)) ⌝ }
+{
+    if kind == kind::SENSE {
+        return tick_by(chip, records::payload_of(kind::SENSE, part, b));
+    }
+    bus_by(chip, signal_of(kind, part, b))
+}
+
+// Does records that are one tick that raises nothing, or one event of the bus that stores nothing, on a chip in NORMAL; else it changes nothing.
+pub fn done(chip: &mut [u8], records: &[u8], entries: &mut [u8]) -> bool
+    ensures { λ r. ⌜ AloneBy (now (chip .entry)) (now (records .entry)) (now (entries .entry)) r (now (chip .exit)) (now (entries .exit)) ⌝ }
 {
     if chip.len() < size::KEPT_CHIP {
         return false;
@@ -68,14 +92,18 @@ pub fn ticked(chip: &mut [u8], records: &[u8], entries: &mut [u8]) -> bool
     if entries.len() < size::ENTRY {
         return false;
     }
-    let tick = tick_in(chip[place::PART], records);
-    let Tick::Of(value) = tick else {
+    let framed = records::header_of(records);
+    let Framed::Header { kind, next } = framed else {
         return false;
     };
-    let quiet = chip_bytes_event::ticked(chip, value);
-    let Quiet::Shows(shown) = quiet else {
+    if next != records.len() {
+        return false;
+    }
+    let part = chip[place::PART];
+    let done = done_by(chip, part, kind, &records[size::HEADER..next]);
+    let Done::Shows(flag, byte, shown) = done else {
         return false;
     };
-    put_entry(entries, shown);
+    put_entry(entries, flag, byte, shown);
     true
 }

@@ -11,12 +11,6 @@ use constants::size;
 
 mod alone;
 
-// The value of a tick, where records are one tick and nothing else.
-pub enum Tick {
-    Of(i32),
-    Not,
-}
-
 // Records played on a chip that bytes keep: read from them, and written again.
 fn played(chip: &mut [u8], records: &[u8], entries: &mut [u8]) -> i64
     requires { ⌜ («KEPT_CHIP» ≤ length (now chip)) × (goodOf (now chip) ≡ true) ⌝ }
@@ -37,7 +31,7 @@ fn played(chip: &mut [u8], records: &[u8], entries: &mut [u8]) -> i64
 
 // Plays records on the kept chip, zeroed bytes being no chip yet. Each record gives five bytes, as toralinge_play's. Answers how many records there are, or with neither
 // buffer changed -5 for a chip buffer below 96 bytes, -26 for bytes that are no chip, -5 where the entries do not all fit.
-// One tick that raises nothing, which is mostly what is fed by itself, is done in the bytes.
+// One record of the kinds that are mostly fed by themselves is done in the bytes.
 #[no_mangle]
 pub extern "C" fn toralinge_feed(chip: &mut [u8], records: &[u8], entries: &mut [u8]) -> i64
     ensures { λ r. ⌜ Fed (now (chip .entry)) (now (records .entry)) (now (entries .entry)) r (now (chip .exit)) (now (entries .exit)) ⌝ }
@@ -48,7 +42,7 @@ pub extern "C" fn toralinge_feed(chip: &mut [u8], records: &[u8], entries: &mut 
     if !chip_bytes::good(&chip[..]) {
         return answer::NO_CHIP;
     }
-    if alone::ticked(chip, records, entries) {
+    if alone::done(chip, records, entries) {
         return 1;
     }
     played(chip, records, entries)

@@ -3,7 +3,7 @@ use mathlib.Core.Path.{refl}
 use native.Mathlib.Omega.{arith}
 use Rattle.chip_bytes_layout.specs.Layout.{keeps}
 use Rattle.feed.proofs.Calls.{fed-full, fed-done}
-use Rattle.feed.proofs.Ticks.{good-calm, good-kept}
+use Rattle.feed.proofs.Ones.{good-calm, good-kept}
 use borrow.Author.Needs.{needs}
 use Rattle.feed.proofs.played.Statement.{statement}
 use Rattle.feed.proofs.played.Tie as tie

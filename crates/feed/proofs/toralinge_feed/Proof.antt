@@ -1,4 +1,4 @@
--- Test by test: the room, the bytes, one tick by itself; else it is played.
+-- Test by test: the room, the bytes, one record by itself; else it is played.
 use mathlib.Core.Path.{_≡_, refl, sym, ap, _∙_, subst}
 use mir.Syntax.{w64}
 use mir.Val.{toZ, ofZ}
@@ -8,7 +8,7 @@ use lib.ListN.{length}
 use Rattle.chip_bytes_layout.specs.Layout.{keptOf, goodOf}
 use Rattle.chip_bytes_layout.specs.GoodLaws.{good-is}
 use Rattle.feed.proofs.Calls.{fed-short, fed-bad}
-use Rattle.feed.proofs.Ticks.{fed-ticked, unticked, fed-as, up, down}
+use Rattle.feed.proofs.Ones.{fed-alone, undone, fed-as, up, down}
 use borrow.Author.Needs.{needs}
 use Rattle.feed.proofs.toralinge_feed.Statement.{statement}
 use Rattle.feed.proofs.toralinge_feed.Tie as tie
@@ -30,8 +30,8 @@ returns-3 c =
     let i = t .before .before .before in
     let g = i .before in
     let a = g .before .before .before .before .before .before .args in
-    fed-ticked (a .chip .now) (a .records .now) (a .entries .now) (t .ticked .result) (t .ticked .last .0) (t .ticked .last .1 .1 .0)
-    (sym (g .good2 .ensures) ∙ up (g .good2 .result) (i .if2 .left)) (c .if3 .taken) (t .ticked .ensures)
+    fed-alone (a .chip .now) (a .records .now) (a .entries .now) (t .done .result) (t .done .last .0) (t .done .last .1 .1 .0)
+    (sym (g .good2 .ensures) ∙ up (g .good2 .result) (i .if2 .left)) (c .if3 .taken) (t .done .ensures)
 
 played-requires : tie.Need-played-requires
 played-requires c κs =
@@ -41,7 +41,7 @@ played-requires c κs =
     let g = i .before in
     let w = g .before .before in
     let a = w .before .before .before .before .args in
-    let e = unticked (a .chip .now) (a .records .now) (a .entries .now) (t .ticked .result) (t .ticked .last .0) (t .ticked .last .1 .1 .0) (l .if3 .left) (t .ticked .ensures) in
+    let e = undone (a .chip .now) (a .records .now) (a .entries .now) (t .done .result) (t .done .last .0) (t .done .last .1 .1 .0) (l .if3 .left) (t .done .ensures) in
     (subst (λ (l : List ℕ). 96 ≤ length l) (sym (e .0)) (w .if1 .left), ap goodOf (e .0) ∙ sym (g .good2 .ensures) ∙ up (g .good2 .result) (i .if2 .left))
 
 returns-4 : tie.Need-returns-4
@@ -51,7 +51,7 @@ returns-4 c =
     let t = l .before .before .before .before .before in
     let a = t .before .before .before .before .before .before .before .before .before .before .args in
     let y : toZ w64 (ofZ w64 (p .played .result)) ≡ p .played .result = search needs in
-    fed-as (unticked (a .chip .now) (a .records .now) (a .entries .now) (t .ticked .result) (t .ticked .last .0) (t .ticked .last .1 .1 .0) (l .if3 .left) (t .ticked .ensures))
+    fed-as (undone (a .chip .now) (a .records .now) (a .entries .now) (t .done .result) (t .done .last .0) (t .done .last .1 .1 .0) (l .if3 .left) (t .done .ensures))
     (sym y) (p .played .ensures)
 
 pub toralinge-feed-spec : {M : Type 1} → statement M

@@ -19,8 +19,8 @@ slice-write-entries-5 c = simp length-set (omega arith)
 
 returns : tie.Need-returns
 returns c =
-    let a = c .before .before .before in
-    simp (c .weigh3 .ensures .0, c .before .weigh2 .ensures .0, c .before .before .weigh .ensures .0, a .alert .ensures, a .before .byte .ensures)
+    let a = c .before .before .before .before in
+    simp (c .weigh4 .ensures .0, c .before .weigh3 .ensures .0, c .before .before .weigh2 .ensures .0, c .before .before .before .weigh .ensures .0, a .alert .ensures, a .before .byte .ensures)
 
 pub put-entry-spec : {M : Type 1} → statement M
 put-entry-spec =
@@ -34,6 +34,7 @@ put-entry-spec =
     (λ c κs. search needs)
     (λ c. search needs)
     (λ c. search needs)
+    (λ c κs. search needs)
     slice-write-entries-2
     slice-write-entries-3
     slice-write-entries-4

@@ -1,0 +1,54 @@
+-- A tick in NORMAL that raises nothing moves its runs, in the bytes as in the chip. Assumes nothing.
+use mathlib.Core.Path.{_≡_, refl, sym, ap, ap₂, _∙_}
+use mathlib.Core.Bool.{Bool, true, false, _||_}
+use mathlib.Core.List.{List, _++_}
+use Prim.Native.Nat.{ℕ}
+use lib.IntN.{ℤ}
+use lib.ListN.{take, drop}
+use Rattle.events.specs.Event.{Sense}
+use Rattle.settings.specs.declared.Settings.{Settings}
+use Rattle.registers.specs.declared.Shown.{Shown}
+use Rattle.protection.specs.declared.Runs.{Runs}
+use Rattle.protection.specs.declared.Judged.{Judged}
+use Rattle.protection.specs.Judged.{tickJudged}
+use Rattle.chip.specs.declared.Chip.{Chip}
+use Rattle.chip.specs.Chip.{numbered, withRuns}
+use Rattle.chip.specs.Parts.{raisedBy, tick-parts, still-tick}
+use Rattle.chip_bytes_layout.specs.Place.{FRESH}
+use Rattle.chip_bytes_layout.specs.Layout.{plainOf, switchesOf, wordsOf, chipBytes, switchAt, settingsAt, runsAt, shownAt, chipAt, goodOf}
+use Rattle.chip_bytes_event.specs.Did.{Awake, chipHere, Did}
+use Rattle.chip_bytes_event.specs.DidLaws.{calm, bytes-are, did}
+use Rattle.chip_bytes_tick.specs.Tick.{runsIn}
+
+moved : (c : Chip) (f : Bool) (r : Runs) (rest : List ℕ) → r .ov ≡ c .runs .ov → r .uv ≡ c .runs .uv
+    → runsIn r (chipBytes c f ++ rest) ≡ chipBytes (withRuns r c) false ++ rest
+unfolding chipBytes plainOf switchesOf wordsOf
+moved c f r rest ov uv = simp (ov, uv)
+
+module _ (b : List ℕ) (v : ℤ) (w : Awake b) (g : goodOf b ≡ true) where
+  abbrev judgedHere : Judged
+  judgedHere = tickJudged (chipHere b .registers .settings) v (chipHere b .runs)
+
+  still-did : (shown : Shown) (new : List ℕ) → (judgedHere .risen .scd || judgedHere .risen .ocd) ≡ false
+      → shown ≡ chipHere b .registers .shown
+      → new ≡ runsIn (judgedHere .runs) b → Did b (Sense v) false 0 shown new
+  unfolding tickJudged
+  still-did shown new n s m =
+      did b w g (Sense v) (withRuns (judgedHere .runs) (chipHere b)) false 0 shown new refl (calm b w g)
+      (ap (numbered 0)
+      (sym (still-tick (chipHere b .registers .settings) v (chipHere b .runs) (withRuns (judgedHere .runs) (chipHere b)) n))
+      ∙ tick-parts v (chipHere b))
+      s
+      (m ∙ ap (runsIn (judgedHere .runs)) (sym (bytes-are b w g))
+      ∙ moved (chipHere b) (switchAt (take 96 b) FRESH) (judgedHere .runs) (drop 96 b) refl refl)
+
+-- by what was read of them
+pub ticks-did : (b : List ℕ) (v : ℤ) {s : Settings} {r : Runs} {j : Judged} {shown : Shown} {new : List ℕ} → Awake b
+    → r ≡ runsAt (take 96 b)
+    → s ≡ settingsAt (take 96 b) → j ≡ tickJudged s v r → (j .risen .scd || j .risen .ocd) ≡ false → shown ≡ shownAt (take 96 b)
+    → new ≡ runsIn (j .runs) b → goodOf b ≡ true → Did b (Sense v) false 0 shown new
+unfolding chipAt
+ticks-did b v {j = j} {shown = shown} {new = new} w r s q still shows moves g =
+    let e : judgedHere b v w g ≡ j = sym (q ∙ ap₂ (λ (s : Settings) (r : Runs). tickJudged s v r) s r) in
+    still-did b v w g shown new (ap (λ (j : Judged). j .risen .scd || j .risen .ocd) e ∙ still) shows
+    (moves ∙ ap (λ (j : Judged). runsIn (j .runs) b) (sym e))

@@ -1,0 +1,46 @@
+// A tick done in the bytes of a kept chip.
+ghost use mathlib.Core.Path.{_≡_};
+ghost use Prim.Native.Nat.{_≤_};
+ghost use lib.ListN.{length};
+ghost use Rattle.events.specs.Event.{Sense};
+ghost use Rattle.constants.specs.Size.{«KEPT_CHIP»};
+ghost use Rattle.chip_bytes_event.specs.Did.{DidBy};
+ghost use Rattle.chip_bytes_tick.specs.Tick.{runsIn};
+use chip_bytes_event::Done;
+use chip_bytes_event::awake;
+use chip_bytes_layout::place;
+use chip_bytes_read::runs_at;
+use chip_bytes_read::settings_at;
+use chip_bytes_read::shown_at;
+use constants::size;
+use protection::Runs;
+
+// The runs of short circuit and over-current, and no wiring record any more.
+fn put_runs(out: &mut [u8], runs: Runs)
+    requires { ⌜ «KEPT_CHIP» ≤ length (now out) ⌝ }
+    ensures { λ _. ⌜ now (out .exit) ≡ runsIn runs (now (out .entry)) ⌝ }
+{
+    out[place::FRESH] = 0;
+    out[place::SCD_LOW] = (runs.scd % 256) as u8;
+    out[place::SCD_HIGH] = (runs.scd / 256) as u8;
+    out[place::OCD_LOW] = (runs.ocd % 256) as u8;
+    out[place::OCD_HIGH] = (runs.ocd / 256) as u8;
+}
+
+// A tick: in NORMAL, where it raises nothing, its runs are all that it moves.
+pub fn ticked(bytes: &mut [u8], value: i32) -> Done
+    ensures { λ r. ⌜ DidBy (now (bytes .entry)) (Sense value) r (now (bytes .exit)) ⌝ }
+{
+    if !awake(&bytes[..]) {
+        return Done::Not;
+    }
+    let runs = runs_at(&bytes[..size::KEPT_CHIP]);
+    let judged = runs.sensed(settings_at(&bytes[..size::KEPT_CHIP]), value);
+    let risen = judged.risen;
+    if risen.scd | risen.ocd {
+        return Done::Not;
+    }
+    let shown = shown_at(&bytes[..size::KEPT_CHIP]);
+    put_runs(bytes, judged.runs);
+    Done::Shows(false, 0, shown)
+}
