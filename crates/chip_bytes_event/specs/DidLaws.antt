@@ -68,7 +68,7 @@ module _ (b : List ℕ) (w : Awake b) (g : goodOf b ≡ true) where
   its-part : eqb (chipHere b .setup .part) 0 ≡ false
   its-part = ne-eqb (chipHere b .setup .part) 0 (part-not (chipHere b) (switchAt (take 96 b) 23) stands)
 
-  chip-is : chipOf b ≡ chipHere b
+  pub chip-is : chipOf b ≡ chipHere b
   unfolding chipIn chipAt
   chip-is =
       ap (λ (t : Bool). cond t none (chipIn (take 96 b))) wide ∙ ap (λ (t : Bool). cond t none (chipAt (take 96 b))) its-part

@@ -12,8 +12,9 @@ use borrow.Author.Needs.{needs}
 use borrow.Author.Tests.{le-ltb, le-leb}
 use Rattle.events.specs.declared.BusEvent.{BusEvent}
 use Rattle.events.specs.declared.Event.{Event}
-use Rattle.events.specs.declared.Event.the-variants.{Sense, OnBus}
-use Rattle.events.specs.Event.{Sense as Ticked, OnBus as Signalled}
+use Rattle.events.specs.declared.Event.the-variants.{Scan, Sense, OnBus}
+use Rattle.events.specs.Setup.{inputs}
+use Rattle.events.specs.Event.{Scan as Scanned, Sense as Ticked, OnBus as Signalled}
 use Rattle.records.specs.declared.Payload.{Payload}
 use Rattle.records.specs.declared.Payload.the-variants.{Whole, Unfit}
 use Rattle.records.specs.declared.Read.the-variants.{Record}
@@ -25,7 +26,7 @@ use Rattle.records.specs.Record.{payloadOf, asRead, readOf, countsIn, countsBes
 use Rattle.registers.specs.declared.Shown.{Shown}
 use Rattle.chip.specs.declared.Chip.{Chip}
 use Rattle.chip.specs.declared.Stepped.{Stepped}
-use Rattle.chip.specs.Chip.{happenedBy}
+use Rattle.chip.specs.Chip.{happened, happenedBy}
 use Rattle.chip.specs.Calm.{Calmed}
 use Rattle.turn.specs.declared.Entry.{Entry}
 use Rattle.turn.specs.Turn.{Turn, acted, turn, turnOf, entryOf}
@@ -40,10 +41,10 @@ use Rattle.chip_bytes_event.specs.declared.Done.the-variants.{Shows, Not}
 use Rattle.chip_bytes_event.specs.Did.{says, DidBy}
 use Rattle.chip_bytes_event.specs.DidLaws.{part-of}
 use Rattle.feed.specs.Fed.{allFit, answerBy, feedsBy, chipAfter, entriesAfter, Fed}
-use Rattle.feed.specs.Alone.{doneBytes, One, OneBy, RecordBy, Signal, Alone, AloneBy}
+use Rattle.feed.specs.Alone.{doneBytes, One, OneBy, CountedBy, RecordBy, Signal, Alone, AloneBy}
 use Rattle.feed.proofs.Calls.{kept-calm, done-answer, done-feeds}
 
--- what was done in the bytes, with the payload that it was read from; neither event has counts beside it
+-- what was done in the bytes, with the payload that it was read from; a tick and the bus have no counts beside them
 module _ (b : List ℕ) (payload : Payload) (event : Event) (counts : Event → List ℕ) (w : payload ≡ Whole event) (new : List ℕ) where
   pub tick-one : (v : ℤ) (r : Done) → event ≡ Sense v → DidBy b (Ticked v) r new → OneBy b payload counts r new
   tick-one v (Shows flag byte shown) e h =
@@ -70,6 +71,20 @@ module _ (b : List ℕ) (payload : Payload) (event : Event) (counts : Event → 
         leaves = h g .leaves;
       }
   bus-one s Not e h = h
+
+pub scan-one : (b : List ℕ) (payload : Payload) (event : Event) (p : List ℕ) (new xs : List ℕ) (r : Done) → payload ≡ Whole event → event ≡ Scan
+    → xs ≡ countsIn Scan p .of → DidBy b (Scanned (take (inputs (chipOf b .setup)) xs)) r new → CountedBy b payload p r new
+scan-one b payload event p new xs (Shows flag byte shown) w e c h =
+    λ g. record {
+      event = Scan;
+      frequent = refl;
+      is = w ∙ ap Whole e;
+      left = h g .left;
+      happens = h g .happens ∙ ap (λ (xs : List ℕ). happened (Scanned (take (inputs (chipOf b .setup)) xs)) (chipOf b)) c;
+      shows = h g .shows;
+      leaves = h g .leaves;
+    }
+scan-one b payload event p new xs Not w e c h = h
 
 -- a payload of a kind
 pub signal-is : (kind part : ℕ) (p : List ℕ) {k : ℕ} (q : Payload) → kind ≡ k → q ≡ payloadOf k part p → Signal kind part p q

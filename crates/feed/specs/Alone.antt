@@ -52,9 +52,13 @@ OneBy b payload counts Not new = new ≡ b
 abbrev pub BareBy : List ℕ → Payload → Done → List ℕ → Type 0
 BareBy b payload r new = (counts : Event → List ℕ) → OneBy b payload counts r new
 
+-- .. with the counts of the payload's bytes
+abbrev pub CountedBy : List ℕ → Payload → List ℕ → Done → List ℕ → Type 0
+CountedBy b payload p r new = OneBy b payload (λ e. countsIn e p .of) r new
+
 -- a record's kind and payload
 abbrev pub RecordBy : List ℕ → ℕ → ℕ → List ℕ → Done → List ℕ → Type 0
-RecordBy b part kind p r new = OneBy b (payloadOf kind part p) (λ e. countsIn e p .of) r new
+RecordBy b part kind p r new = CountedBy b (payloadOf kind part p) p r new
 
 -- a payload that was read of a kind, or none
 abbrev pub Signal : ℕ → ℕ → List ℕ → Payload → Type 0

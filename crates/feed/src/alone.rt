@@ -4,7 +4,7 @@ ghost use Prim.Native.Nat.{_≤_};
 ghost use lib.ListN.{length};
 ghost use lib.Seq.{sets};
 ghost use Rattle.constants.specs.Size.{ENTRY};
-ghost use Rattle.feed.specs.Alone.{doneBytes, BareBy, RecordBy, Signal, AloneBy};
+ghost use Rattle.feed.specs.Alone.{doneBytes, BareBy, CountedBy, RecordBy, Signal, AloneBy};
 use chip_bytes_event::Done;
 use chip_bytes_layout::place;
 use constants::kind;
@@ -46,6 +46,21 @@ fn tick_by(chip: &mut [u8], payload: Payload) -> Done
     chip_bytes_tick::ticked(chip, value)
 }
 
+// A scan, whose counts are the payload.
+fn scan_by(chip: &mut [u8], payload: Payload, b: &[u8]) -> Done
+    ensures { λ r. ⌜ CountedBy (now (chip .entry)) payload (now (b .entry)) r (now (chip .exit)) ⌝ }
+{
+    let Payload::Whole(event) = payload else {
+        return Done::Not;
+    };
+    let Event::Scan = event else {
+        return Done::Not;
+    };
+    let counts = records::counts_in(Event::Scan, b);
+    let of = counts.of;
+    chip_bytes_scan::scanned(chip, of)
+}
+
 // START, OUT, IN and STOP.
 fn bus_by(chip: &mut [u8], payload: Payload) -> Done
     ensures { λ r. ⌜ BareBy (now (chip .entry)) payload r (now (chip .exit)) ⌝ }
@@ -79,10 +94,13 @@ fn done_by(chip: &mut [u8], part: u8, kind: u16, b: &[u8]) -> Done
     if kind == kind::SENSE {
         return tick_by(chip, records::payload_of(kind::SENSE, part, b));
     }
+    if kind == kind::SCAN {
+        return scan_by(chip, records::payload_of(kind::SCAN, part, b), b);
+    }
     bus_by(chip, signal_of(kind, part, b))
 }
 
-// Does records that are one tick that raises nothing, or one event of the bus that stores nothing, on a chip in NORMAL; else it changes nothing.
+// Does records that are one scan, one tick that raises nothing, or one event of the bus that stores nothing, on a chip in NORMAL; else it changes nothing.
 pub fn done(chip: &mut [u8], records: &[u8], entries: &mut [u8]) -> bool
     ensures { λ r. ⌜ AloneBy (now (chip .entry)) (now (records .entry)) (now (entries .entry)) r (now (chip .exit)) (now (entries .exit)) ⌝ }
 {

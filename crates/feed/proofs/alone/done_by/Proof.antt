@@ -19,7 +19,15 @@ returns c =
 returns-2 : tie.Need-returns-2
 returns-2 c =
     let t = c .before .before in
-    let a = t .before .before .before .before .before .before .args in
+    let a = t .before .before .before .before .before .before .before .args in
+    one-as (a .chip .now) (λ (e : Event). countsIn e (a .b .now) .of) (t .scan-by .result) (t .scan-by .last .0)
+    (t .before .payload-of2 .ensures ∙ ap (λ (k : ℕ). payloadOf k (a .part) (a .b .now)) (sym (t .before .before .before .if2 .taken)))
+    (t .scan-by .ensures)
+
+returns-3 : tie.Need-returns-3
+returns-3 c =
+    let t = c .before .before in
+    let a = t .before .before .before .before .before .before .before .args in
     one-signal (a .chip .now) (a .kind) (a .part) (a .b .now) (t .before .signal-of .result) (λ (e : Event). countsIn e (a .b .now) .of) (t .bus-by .result) (t .bus-by .last .0)
     (t .before .signal-of .ensures) (t .bus-by .ensures (λ (e : Event). countsIn e (a .b .now) .of))
 
@@ -34,4 +42,8 @@ done-by-spec =
     (λ c κs. search needs)
     (λ c κs. search needs)
     (λ c. search needs)
-    returns-2)
+    returns-2
+    (λ c κs. search needs)
+    (λ c κs. search needs)
+    (λ c. search needs)
+    returns-3)
