@@ -5,6 +5,17 @@ ghost use Rattle.bits.specs.Bit.{bit, weighed};
 ghost use Rattle.bleed.specs.Excess.{linkedAt, lowerAt, lowest as lowestSpec, excessAt, excessesOver, proposed};
 ghost use Rattle.bleed.specs.Choice.{excessIn, mayIn, betterIn, bestIn, chosen};
 
+// As many inputs as a part can have, in groups of five; the bytes that a group's choice can be; no count is beyond the last number.
+const INPUTS: usize = 15;
+
+const SECOND_GROUP: usize = 5;
+
+const THIRD_GROUP: usize = 10;
+
+const CHOICES: u8 = 32;
+
+const BEYOND: u16 = 65535;
+
 // The three CELLBAL bytes: bit 0 of the first is input 1.
 pub struct Choice {
     pub one: u8,
@@ -56,7 +67,7 @@ fn may_in(excess: [u16; 15], from: usize, byte: u8) -> bool
         | (c & (excess[from + 2] == 0))
         | (d & (excess[from + 3] == 0))
         | (e & (excess[from + 4] == 0));
-    (byte < 32) & !near & !low
+    (byte < CHOICES) & !near & !low
 }
 
 // A byte in place of the best so far, where it is allowed and has more.
@@ -78,7 +89,7 @@ fn best_in(excess: [u16; 15], from: usize) -> u8
     ensures { λ r. ⌜ r ≡ bestIn excess from ⌝ }
 {
     let mut best = 0u8;
-    for byte in 0..32u8 {
+    for byte in 0..CHOICES {
         best = better_in(excess, from, byte, best);
     }
     best
@@ -89,8 +100,8 @@ fn choose(excess: [u16; 15]) -> Choice
     ensures { λ r. ⌜ r ≡ chosen excess ⌝ }
 {
     let one = best_in(excess, 0);
-    let two = best_in(excess, 5);
-    let three = best_in(excess, 10);
+    let two = best_in(excess, SECOND_GROUP);
+    let three = best_in(excess, THIRD_GROUP);
     Choice { one, two, three }
 }
 
@@ -135,8 +146,8 @@ fn lower_at(cells: [u16; 15], linked: u16, i: usize, low: u16) -> u16
 fn lowest(cells: [u16; 15], linked: u16) -> u16
     ensures { λ r. ⌜ r ≡ lowestSpec cells linked ⌝ }
 {
-    let mut low = 65535u16;
-    for i in 0..15usize {
+    let mut low = BEYOND;
+    for i in 0..INPUTS {
         low = lower_at(cells, linked, i, low);
     }
     low

@@ -8,6 +8,7 @@ use chip::Chip;
 use constants::number;
 use constants::range;
 use smart_battery::Pack;
+use values::Microvolts;
 
 // A margin is a difference of counts.
 const MARGIN_MOST: u32 = range::COUNT_MOST as u32;
@@ -56,9 +57,9 @@ fn pack_of(chip: Chip) -> Pack
     }
 }
 
-// The total of the connected cells in microvolts.
-fn total(chip: Chip) -> i64
-    ensures { λ r. ⌜ r ≡ linkedTotal chip ⌝ }
+// The total of the connected cells.
+fn total(chip: Chip) -> Microvolts
+    ensures { λ r. ⌜ r .0 ≡ linkedTotal chip ⌝ }
 {
     let setup = chip.setup;
     let registers = chip.registers;

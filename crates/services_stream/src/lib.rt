@@ -6,17 +6,22 @@ use bleed::Choice;
 use constants::number;
 use services_chip::Proposal;
 
+// A proposal is three bytes, and a command one.
+const PROPOSAL_SIZE: usize = 3;
+
+const COMMAND_MOST: u32 = 255;
+
 // A proposal written, where it fits.
 pub fn put_choice(out: &mut [u8], choice: Choice) -> u8
     ensures { λ r. ⌜ Bled (gives choice) (now (out .entry)) r (now (out .exit)) ⌝ }
 {
-    if out.len() < 3 {
+    if out.len() < PROPOSAL_SIZE {
         return number::NO_ROOM;
     }
     out[0] = choice.one;
     out[1] = choice.two;
     out[2] = choice.three;
-    0
+    number::DONE
 }
 
 // Plays a whole stream and proposes the three CELLBAL bytes for the chip that stands at its end.
@@ -53,7 +58,7 @@ pub extern "C" fn toralinge_reply(
     if setup.part == 0 {
         return records::first_number(stream);
     }
-    if 255 < command {
+    if COMMAND_MOST < command {
         return number::BAD_COMMAND;
     }
     services_chip::reply(chip, command as u8, milliohms, reply)

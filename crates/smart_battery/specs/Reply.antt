@@ -8,9 +8,19 @@ use lib.ListN.{length, drop}
 use Rattle.crc8.specs.Crc.{crcOn}
 use Rattle.constants.specs.Answer.{Said, gives, refuses}
 
+-- the address byte of a battery, written and read; how many bytes a reply has
+abbrev pub toBattery : ℕ
+toBattery = 0x16
+
+abbrev pub fromBattery : ℕ
+fromBattery = 0x17
+
+abbrev pub replySize : ℕ
+replySize = 3
+
 -- the PEC (CHIP C2)
 abbrev pub pecOf : ℕ → ℕ → ℕ → ℕ
-pecOf command low high = crcOn 0 (0x16 ∷ command ∷ 0x17 ∷ low ∷ high ∷ [])
+pecOf command low high = crcOn 0 (toBattery ∷ command ∷ fromBattery ∷ low ∷ high ∷ [])
 
 -- low byte, high byte and the PEC
 abbrev pub replyBytes : ℕ → ℕ → List ℕ
@@ -19,11 +29,11 @@ replyBytes command w = w % 256 ∷ w / 256 ∷ pecOf command (w % 256) (w / 256)
 -- 5 comes last
 abbrev pub repliedNumber : {A : Type 0} → Said A → ℕ → ℕ
 repliedNumber (refuses n) room = n
-repliedNumber (gives w) room = cond (ltb room 3) 5 0
+repliedNumber (gives w) room = cond (ltb room replySize) 5 0
 
 abbrev pub repliedBytes : Said ℕ → ℕ → List ℕ → List ℕ
 repliedBytes (refuses n) command old = old
-repliedBytes (gives w) command old = cond (ltb (length old) 3) old (replyBytes command w ++ drop 3 old)
+repliedBytes (gives w) command old = cond (ltb (length old) replySize) old (replyBytes command w ++ drop replySize old)
 
 -- the number, and the buffer: the reply and then what stood there, or where it is refused every byte as it was
 pub record Replied (said : Said ℕ) (command : ℕ) (old : List ℕ) (r : ℕ) (new : List ℕ) : Type 0 where

@@ -9,6 +9,26 @@ use Rattle.smart_battery.specs.declared.Word.{Word}
 use Rattle.smart_battery.specs.declared.Word.the-variants.{Is, No}
 use Rattle.smart_battery.specs.declared.Pack.{Pack}
 
+-- the commands that are answered
+abbrev pub TEMPERATURE : ℕ
+TEMPERATURE = 0x08
+
+abbrev pub VOLTAGE : ℕ
+VOLTAGE = 0x09
+
+abbrev pub CURRENT : ℕ
+CURRENT = 0x0A
+
+-- the largest word, and the largest signed one; the largest sense resistor in mΩ
+abbrev pub wordMost : ℕ
+wordMost = 65535
+
+abbrev pub signedMost : ℕ
+signedMost = 32767
+
+abbrev pub milliohmsMost : ℕ
+milliohmsMost = 100
+
 -- what an answer says
 abbrev pub saidWord : Word → Said ℕ
 saidWord (Is w) = gives w
@@ -34,22 +54,23 @@ milliamps cc r = toward (ccHundredths cc) (100 * r)
 
 -- ── 11, where a value does not fit its word (CHIP N11) ──
 abbrev pub unsignedSaid : ℤ → Said ℕ
-unsignedSaid (pos n) = cond (leb n 65535) (gives n) (refuses 11)
+unsignedSaid (pos n) = cond (leb n wordMost) (gives n) (refuses 11)
 unsignedSaid (negsuc n) = refuses 11
 
 abbrev pub signedSaid : ℤ → Said ℕ
-signedSaid (pos n) = cond (leb n 32767) (gives n) (refuses 11)
-signedSaid (negsuc n) = cond (leb n 32767) (gives (65535 - n)) (refuses 11)
+signedSaid (pos n) = cond (leb n signedMost) (gives n) (refuses 11)
+signedSaid (negsuc n) = cond (leb n signedMost) (gives (wordMost - n)) (refuses 11)
 
 -- ── the commands, and the refusals in their order (CHIP C6) ──
 abbrev pub known : ℕ → Bool
-known command = eqb command 0x08 || eqb command 0x09 || eqb command 0x0A
+known command = eqb command TEMPERATURE || eqb command VOLTAGE || eqb command CURRENT
 
 unfoldable pub askedFor : Pack → ℤ → ℕ → ℕ → Said ℕ
 askedFor p total command r =
-    cond (eqb command 0x08) (cond (p .external) (refuses 12) (unsignedSaid (kelvins (p .warmth))))
-    (cond (eqb command 0x09) (cond (p .connected) (unsignedSaid (millivolts total)) (refuses 10)) (signedSaid (milliamps (p .cc) r)))
+    cond (eqb command TEMPERATURE) (cond (p .external) (refuses 12) (unsignedSaid (kelvins (p .warmth))))
+    (cond (eqb command VOLTAGE) (cond (p .connected) (unsignedSaid (millivolts total)) (refuses 10)) (signedSaid (milliamps (p .cc) r)))
 
 unfoldable pub wordFor : Pack → ℤ → ℕ → ℕ → Said ℕ
 wordFor p total command r =
-    cond (known command) (cond (leb 1 r && leb r 100) (cond (p .normal) (askedFor p total command r) (refuses 4)) (refuses 3)) (refuses 23)
+    cond (known command)
+    (cond (leb 1 r && leb r milliohmsMost) (cond (p .normal) (askedFor p total command r) (refuses 4)) (refuses 3)) (refuses 23)

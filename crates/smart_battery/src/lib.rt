@@ -2,9 +2,10 @@
 ghost use mathlib.Core.Path.{_≡_};
 ghost use Prim.Native.Nat.{_<_, _≤_};
 ghost use Rattle.constants.specs.Answer.{gives};
-ghost use Rattle.smart_battery.specs.Words.{saidWord, unsignedSaid, signedSaid, kelvins, millivolts, milliamps, askedFor, wordFor};
+ghost use Rattle.smart_battery.specs.Words.{milliohmsMost, saidWord, unsignedSaid, signedSaid, kelvins, millivolts, milliamps, askedFor, wordFor};
 ghost use Rattle.smart_battery.specs.Reply.{pecOf, Replied};
 use constants::number;
+use values::Microvolts;
 
 // The Smart Battery commands that are answered.
 pub const TEMPERATURE: u8 = 0x08;
@@ -13,8 +14,42 @@ pub const VOLTAGE: u8 = 0x09;
 
 pub const CURRENT: u8 = 0x0A;
 
-// A step of the coulomb counter in hundredths of a microvolt.
+// A step of the coulomb counter in hundredths of a microvolt; from this reading on it is negative.
 const CC_STEP: u32 = 844;
+
+const HUNDREDTHS: u32 = 100;
+
+const CC_SIGN: u16 = 32768;
+
+// The die's count in two-hundredths of a tenth of a kelvin: a count's worth, and what stands at count 0.
+const DIE_STEP: u32 = 177;
+
+const DIE_ZERO: u32 = 1226300;
+
+const DIE_TENTH: u32 = 200;
+
+const MICROVOLTS_A_MILLIVOLT: u64 = 1000;
+
+// How many words there are, the largest, and as signed ones the largest and how far the least lies below 0.
+const WORDS: u32 = 65536;
+
+const WORD_MOST: u64 = 65535;
+
+const SIGNED_MOST: u32 = 32767;
+
+const SIGNED_LEAST: u32 = 32768;
+
+const BYTE: u16 = 256;
+
+// The largest sense resistor.
+const MILLIOHMS_MOST: u32 = 100;
+
+// The address byte of a battery, written and read.
+const TO_BATTERY: u8 = 0x16;
+
+const FROM_BATTERY: u8 = 0x17;
+
+const REPLY_SIZE: usize = 3;
 
 // A word, or the number that refuses it.
 pub enum Word {
@@ -35,22 +70,23 @@ pub struct Pack {
 fn temperature(count: u16) -> Word
     ensures { λ r. ⌜ saidWord r ≡ unsignedSaid (kelvins count) ⌝ }
 {
-    let down = 177 * (count as u32);
-    if 1226300 < down {
+    let down = DIE_STEP * (count as u32);
+    if DIE_ZERO < down {
         return Word::No(number::NO_FIT);
     }
-    Word::Is(((1226300 - down) / 200) as u16)
+    Word::Is(((DIE_ZERO - down) / DIE_TENTH) as u16)
 }
 
 // Voltage() in mV.
-fn voltage(total: i64) -> Word
-    ensures { λ r. ⌜ saidWord r ≡ unsignedSaid (millivolts total) ⌝ }
+fn voltage(total: Microvolts) -> Word
+    ensures { λ r. ⌜ saidWord r ≡ unsignedSaid (millivolts (total .0)) ⌝ }
 {
-    if total < 0 {
+    let microvolts = total.0;
+    if microvolts < 0 {
         return Word::No(number::NO_FIT);
     }
-    let mv = (total as u64) / 1000;
-    if 65535 < mv {
+    let mv = (microvolts as u64) / MICROVOLTS_A_MILLIVOLT;
+    if WORD_MOST < mv {
         return Word::No(number::NO_FIT);
     }
     Word::Is(mv as u16)
@@ -58,27 +94,27 @@ fn voltage(total: i64) -> Word
 
 // Current() in mA, the word of a signed number.
 fn current(cc: u16, milliohms: u32) -> Word
-    requires { ⌜ (0 < milliohms) × (milliohms ≤ 100) ⌝ }
+    requires { ⌜ (0 < milliohms) × (milliohms ≤ milliohmsMost) ⌝ }
     ensures { λ r. ⌜ saidWord r ≡ signedSaid (milliamps cc milliohms) ⌝ }
 {
-    if cc < 32768 {
-        let ma = CC_STEP * (cc as u32) / (100 * milliohms);
-        if 32767 < ma {
+    if cc < CC_SIGN {
+        let ma = CC_STEP * (cc as u32) / (HUNDREDTHS * milliohms);
+        if SIGNED_MOST < ma {
             return Word::No(number::NO_FIT);
         }
         return Word::Is(ma as u16);
     }
-    let ma = CC_STEP * (65536 - (cc as u32)) / (100 * milliohms);
-    if 32768 < ma {
+    let ma = CC_STEP * (WORDS - (cc as u32)) / (HUNDREDTHS * milliohms);
+    if SIGNED_LEAST < ma {
         return Word::No(number::NO_FIT);
     }
-    Word::Is(((65536 - ma) % 65536) as u16)
+    Word::Is(((WORDS - ma) % WORDS) as u16)
 }
 
 // The word of a command that is known, of a pack that is awake.
-fn asked(pack: Pack, total: i64, command: u8, milliohms: u32) -> Word
-    requires { ⌜ (0 < milliohms) × (milliohms ≤ 100) ⌝ }
-    ensures { λ r. ⌜ saidWord r ≡ askedFor pack total command milliohms ⌝ }
+fn asked(pack: Pack, total: Microvolts, command: u8, milliohms: u32) -> Word
+    requires { ⌜ (0 < milliohms) × (milliohms ≤ milliohmsMost) ⌝ }
+    ensures { λ r. ⌜ saidWord r ≡ askedFor pack (total .0) command milliohms ⌝ }
 {
     if command == TEMPERATURE {
         if pack.external {
@@ -96,11 +132,11 @@ fn asked(pack: Pack, total: i64, command: u8, milliohms: u32) -> Word
 }
 
 // The word of a command, or the number that refuses it.
-pub fn word_for(pack: Pack, total: i64, command: u8, milliohms: u32) -> Word
-    ensures { λ r. ⌜ saidWord r ≡ wordFor pack total command milliohms ⌝ }
+pub fn word_for(pack: Pack, total: Microvolts, command: u8, milliohms: u32) -> Word
+    ensures { λ r. ⌜ saidWord r ≡ wordFor pack (total .0) command milliohms ⌝ }
 {
     if (command == TEMPERATURE) | (command == VOLTAGE) | (command == CURRENT) {
-        if (1 <= milliohms) & (milliohms <= 100) {
+        if (1 <= milliohms) & (milliohms <= MILLIOHMS_MOST) {
             if pack.normal {
                 return asked(pack, total, command, milliohms);
             }
@@ -115,9 +151,9 @@ pub fn word_for(pack: Pack, total: i64, command: u8, milliohms: u32) -> Word
 fn pec_of(command: u8, low: u8, high: u8) -> u8
     ensures { λ r. ⌜ r ≡ pecOf command low high ⌝ }
 {
-    let to = crc8::crc_byte(0, 0x16);
+    let to = crc8::crc_byte(0, TO_BATTERY);
     let asked = crc8::crc_byte(to, command);
-    let from = crc8::crc_byte(asked, 0x17);
+    let from = crc8::crc_byte(asked, FROM_BATTERY);
     let first = crc8::crc_byte(from, low);
     crc8::crc_byte(first, high)
 }
@@ -126,20 +162,20 @@ fn pec_of(command: u8, low: u8, high: u8) -> u8
 fn put_reply(out: &mut [u8], command: u8, word: u16) -> u8
     ensures { λ r. ⌜ Replied (gives word) command (now (out .entry)) r (now (out .exit)) ⌝ }
 {
-    if out.len() < 3 {
+    if out.len() < REPLY_SIZE {
         return number::NO_ROOM;
     }
-    let low = (word % 256) as u8;
-    let high = (word / 256) as u8;
+    let low = (word % BYTE) as u8;
+    let high = (word / BYTE) as u8;
     out[0] = low;
     out[1] = high;
     out[2] = pec_of(command, low, high);
-    0
+    number::DONE
 }
 
 // The reply to a command. Answers 0, or with nothing written the number that refuses it.
-pub fn reply(pack: Pack, total: i64, command: u8, milliohms: u32, out: &mut [u8]) -> u8
-    ensures { λ r. ⌜ Replied (wordFor pack total command milliohms) command (now (out .entry)) r (now (out .exit)) ⌝ }
+pub fn reply(pack: Pack, total: Microvolts, command: u8, milliohms: u32, out: &mut [u8]) -> u8
+    ensures { λ r. ⌜ Replied (wordFor pack (total .0) command milliohms) command (now (out .entry)) r (now (out .exit)) ⌝ }
 {
     let said = word_for(pack, total, command, milliohms);
     match said {

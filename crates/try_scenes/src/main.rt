@@ -2,7 +2,7 @@
 // against crates/scenes/stdout, which tests/vectors/scenes writes from another source.
 use chip::Chip;
 use chip::Stepped;
-use chip::outward::CellAnswer;
+use chip_voltage::CellAnswer;
 use crc8::crc_byte;
 use events::BusEvent;
 use events::Counts;

@@ -115,12 +115,13 @@ pub fn cell_microvolts(code: u8, offset: u8, count: RawCount) -> Microvolts
 }
 
 // The sum of a cell's microvolts over scans: a count's worth for each count of their sum, and the offset once a scan.
-pub fn microvolts_by(gain_code: u8, offset: u8, scans: u32, sum: u32) -> i64
-    ensures { λ r. ⌜ r ≡ microvoltsBy «gain_code» offset scans sum ⌝ }
+pub fn microvolts_by(gain_code: u8, offset: u8, scans: u32, sum: u32) -> Microvolts
+    ensures { λ r. ⌜ r .0 ≡ microvoltsBy «gain_code» offset scans sum ⌝ }
 {
     let each = cell_microvolts(gain_code, 0, RawCount(1));
     let once = cell_microvolts(gain_code, offset, RawCount(0));
-    each.0 * sum as i64 + scans as i64 * once.0
+    let total = each.0 * sum as i64 + scans as i64 * once.0;
+    Microvolts(total)
 }
 
 // A cell's voltage on bare numbers, which are judged.

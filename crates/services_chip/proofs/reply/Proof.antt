@@ -3,7 +3,6 @@ use mathlib.Core.Path.{_≡_, subst}
 use mathlib.Core.List.{List}
 use Prim.Native.Nat.{ℕ}
 use lib.IntN.{ℤ}
-use Rattle.values.proofs.Within.{result}
 use borrow.Author.Needs.{needs}
 use Rattle.smart_battery.specs.declared.Pack.{Pack}
 use Rattle.smart_battery.specs.Words.{wordFor}
@@ -19,7 +18,7 @@ returns : tie.Need-returns
 returns c =
     let a = c .before .before .before .before .before .before .before .args in
     said-as (a .command) (a .milliohms) (c .before .before .before .before .pack-of .ensures)
-    (result (c .before .before .before .before .before .total .ok) (c .before .before .before .before .before .total .ensures)) (c .before .before .reply .ensures)
+    (c .before .before .before .before .before .total .ensures) (c .before .before .reply .ensures)
 
 pub reply-spec : {M : Type 1} → statement M
 reply-spec = tie.close (tie.spec (λ c κs. search needs) (λ c κs. search needs) (λ c κs. search needs) (λ c. search needs) returns)

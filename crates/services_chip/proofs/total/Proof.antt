@@ -3,7 +3,6 @@ use mathlib.Core.Path.{_≡_, _∙_, ap}
 use Prim.Native.Nat.{ℕ, _≤_}
 use native.Mathlib.Omega.{arith}
 use lib.ListN.{length, take}
-use Rattle.values.proofs.Within.{result}
 use borrow.Author.Needs.{needs}
 use Rattle.events.specs.declared.Counts.{Counts}
 use Rattle.cell_counts.specs.declared.Looked.{Looked}
@@ -39,7 +38,7 @@ returns c =
     let o = c .before .before in
     let h = o .before .before in
     let k = h .before .before .before .before .before .args .chip in
-    result (c .microvolts-by .ok) (c .microvolts-by .ensures ∙ total-of k (h .link .result) (o .look .result) (h .link .ensures) (o .look .ensures))
+    c .microvolts-by .ensures ∙ total-of k (h .link .result) (o .look .result) (h .link .ensures) (o .look .ensures)
 
 pub total-spec : {M : Type 1} → statement M
 total-spec = tie.close (tie.spec (λ c κs. search needs) (λ c κs. search needs) (λ c. search needs) (λ c κs. search needs) returns)

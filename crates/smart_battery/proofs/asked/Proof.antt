@@ -1,11 +1,9 @@
 -- By the command.
-use mathlib.Core.Path.{_≡_, _∙_, ap}
+use mathlib.Core.Path.{_≡_, _∙_}
 use mathlib.Core.Bool.{true, false}
 use mathlib.Core.Logic.{_≢_}
 use Prim.Native.Nat.{ℕ}
 use lib.IntN.{ℤ}
-use mir.Syntax.{w64}
-use mir.Facts.{toZ-ofZ}
 use borrow.Author.Needs.{needs}
 use borrow.Author.Tests.{eq-eqb, ne-eqb}
 use Rattle.constants.specs.Answer.{refuses}
@@ -36,19 +34,19 @@ module _ (p : Pack) (total : ℤ) (command r : ℕ) where
   amps n m = rw (ne-eqb command 8 n, ne-eqb command 9 m)
 
 returns : tie.Need-returns
-returns c = let a = c .before .before .args in outside (a .pack) (a .total) (a .command) (a .milliohms) (c .before .if1 .taken) (c .if2 .taken)
+returns c = let a = c .before .before .args in outside (a .pack) (a .total .0) (a .command) (a .milliohms) (c .before .if1 .taken) (c .if2 .taken)
 
 returns-2 : tie.Need-returns-2
-returns-2 c = let a = c .before .before .before .args in c .temperature .ensures ∙ warmth (a .pack) (a .total) (a .command) (a .milliohms) (c .before .before .if1 .taken) (c .before .if2 .left)
+returns-2 c = let a = c .before .before .before .args in c .temperature .ensures ∙ warmth (a .pack) (a .total .0) (a .command) (a .milliohms) (c .before .before .if1 .taken) (c .before .if2 .left)
 
 returns-3 : tie.Need-returns-3
-returns-3 c = let a = c .before .before .before .before .args in c .voltage .ensures ∙ ap (λ (z : ℤ). unsignedSaid (millivolts z)) (toZ-ofZ {w = w64} (c .before .before .before .before .fits .total)) ∙ volts (a .pack) (a .total) (a .command) (a .milliohms) (c .before .before .before .if1 .left) (c .before .before .if3 .taken) (c .before .if4 .taken)
+returns-3 c = let a = c .before .before .before .before .args in c .voltage .ensures ∙ volts (a .pack) (a .total .0) (a .command) (a .milliohms) (c .before .before .before .if1 .left) (c .before .before .if3 .taken) (c .before .if4 .taken)
 
 returns-4 : tie.Need-returns-4
-returns-4 c = let a = c .before .before .before .args in loose (a .pack) (a .total) (a .command) (a .milliohms) (c .before .before .if1 .left) (c .before .if3 .taken) (c .if4 .left)
+returns-4 c = let a = c .before .before .before .args in loose (a .pack) (a .total .0) (a .command) (a .milliohms) (c .before .before .if1 .left) (c .before .if3 .taken) (c .if4 .left)
 
 returns-5 : tie.Need-returns-5
-returns-5 c = let a = c .before .before .before .args in c .current .ensures ∙ amps (a .pack) (a .total) (a .command) (a .milliohms) (c .before .before .if1 .left) (c .before .if3 .left)
+returns-5 c = let a = c .before .before .before .args in c .current .ensures ∙ amps (a .pack) (a .total .0) (a .command) (a .milliohms) (c .before .before .if1 .left) (c .before .if3 .left)
 
 pub asked-spec : {M : Type 1} → statement M
 asked-spec =

@@ -36,27 +36,32 @@ near (negsuc n) e h = absurd (subst T e tt)
 of-bits : (v : ℤ) (P : ℤ → Type 0) → SFits w64 v → P (toZ w64 (ofZ w64 v)) → P v
 of-bits v P f p = subst P (toZ-ofZ {w = w64} f) p
 
+-- the total, which fits
+module _ (t : tie.After-struct-told) where
+  abbrev v : ℤ
+  v = t .before .args .total .0
+
+  fit : SFits w64 v
+  fit = record { sfits = t .struct-told .given .0 .1 }
+
 returns : tie.Need-returns
-returns c = let v = c .before .args .total in negative v (of-bits v (λ z. ltZ z (pos 0) ≡ true) (c .before .fits .total) (c .if1 .taken))
+returns c = let t = c .before in negative (v t) (of-bits (v t) (λ z. ltZ z (pos 0) ≡ true) (fit t) (c .if1 .taken))
 
 cast-mv : tie.Need-cast-mv
 cast-mv c =
-    let v = c .before .args .total in
-    let f = c .before .fits .total in
-    subst (λ (z : ℤ). T (nonNeg z) × Fits w64 (natAbs z)) (sym (toZ-ofZ {w = w64} f)) (cast v f (of-bits v (λ z. ltZ z (pos 0) ≡ false) f (c .if1 .left)))
+    let t = c .before in
+    subst (λ (z : ℤ). T (nonNeg z) × Fits w64 (natAbs z)) (sym (toZ-ofZ {w = w64} (fit t))) (cast (v t) (fit t) (of-bits (v t) (λ z. ltZ z (pos 0) ≡ false) (fit t) (c .if1 .left)))
 
 returns-2 : tie.Need-returns-2
 returns-2 c =
-    let v = c .before .before .args .total in
-    let f = c .before .before .fits .total in
-    far v (of-bits v (λ z. ltZ z (pos 0) ≡ false) f (c .before .if1 .left)) (of-bits v (λ z. 65535 < natAbs z / 1000) f (c .if2 .taken))
+    let t = c .before .before in
+    far (v t) (of-bits (v t) (λ z. ltZ z (pos 0) ≡ false) (fit t) (c .before .if1 .left)) (of-bits (v t) (λ z. 65535 < natAbs z / 1000) (fit t) (c .if2 .taken))
 
 returns-3 : tie.Need-returns-3
 returns-3 c =
-    let v = c .before .before .args .total in
-    let f = c .before .before .fits .total in
-    subst (λ (z : ℤ). gives (natAbs z / 1000) ≡ unsignedSaid (millivolts v)) (sym (toZ-ofZ {w = w64} f))
-    (near v (of-bits v (λ z. ltZ z (pos 0) ≡ false) f (c .before .if1 .left)) (of-bits v (λ z. natAbs z / 1000 ≤ 65535) f (c .if2 .left)))
+    let t = c .before .before in
+    subst (λ (z : ℤ). gives (natAbs z / 1000) ≡ unsignedSaid (millivolts (v t))) (sym (toZ-ofZ {w = w64} (fit t)))
+    (near (v t) (of-bits (v t) (λ z. ltZ z (pos 0) ≡ false) (fit t) (c .before .if1 .left)) (of-bits (v t) (λ z. natAbs z / 1000 ≤ 65535) (fit t) (c .if2 .left)))
 
 pub voltage-spec : {M : Type 1} → statement M
 voltage-spec = tie.close (tie.spec returns cast-mv returns-2 (λ c. search needs) returns-3)

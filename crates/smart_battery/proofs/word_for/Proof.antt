@@ -4,8 +4,6 @@ use mathlib.Core.Bool.{Bool, true, false, _&&_}
 use Prim.Native.Nat.{ℕ, _<_, _≤_}
 use lib.Dec.{T, leb}
 use lib.IntN.{ℤ}
-use mir.Syntax.{w64}
-use mir.Facts.{toZ-ofZ}
 use borrow.Author.Tests.{leb-true}
 use Rattle.constants.specs.Answer.{refuses}
 use Rattle.smart_battery.specs.declared.Pack.{Pack}
@@ -44,17 +42,17 @@ asked-requires c κs = ranged (c .before .before .before .args .milliohms) (c .b
 returns : tie.Need-returns
 returns c =
     let a = c .before .before .before .before .args in
-    c .asked .ensures ∙ ap (λ (z : ℤ). askedFor (a .pack) z (a .command) (a .milliohms)) (toZ-ofZ {w = w64} (c .before .before .before .before .fits .total))
-    ∙ awake (a .pack) (a .total) (a .command) (a .milliohms) (c .before .before .before .if1 .taken) (c .before .before .if2 .taken) (c .before .if3 .taken)
+    c .asked .ensures
+    ∙ awake (a .pack) (a .total .0) (a .command) (a .milliohms) (c .before .before .before .if1 .taken) (c .before .before .if2 .taken) (c .before .if3 .taken)
 
 returns-2 : tie.Need-returns-2
-returns-2 c = let a = c .before .before .before .args in asleep (a .pack) (a .total) (a .command) (a .milliohms) (c .before .before .if1 .taken) (c .before .if2 .taken) (c .if3 .left)
+returns-2 c = let a = c .before .before .before .args in asleep (a .pack) (a .total .0) (a .command) (a .milliohms) (c .before .before .if1 .taken) (c .before .if2 .taken) (c .if3 .left)
 
 returns-3 : tie.Need-returns-3
-returns-3 c = let a = c .before .before .args in unfit (a .pack) (a .total) (a .command) (a .milliohms) (c .before .if1 .taken) (c .if2 .left)
+returns-3 c = let a = c .before .before .args in unfit (a .pack) (a .total .0) (a .command) (a .milliohms) (c .before .if1 .taken) (c .if2 .left)
 
 returns-4 : tie.Need-returns-4
-returns-4 c = let a = c .before .args in unknown (a .pack) (a .total) (a .command) (a .milliohms) (c .if1 .left)
+returns-4 c = let a = c .before .args in unknown (a .pack) (a .total .0) (a .command) (a .milliohms) (c .if1 .left)
 
 pub word-for-spec : {M : Type 1} → statement M
 word-for-spec = tie.close (tie.spec asked-requires returns returns-2 returns-3 returns-4)
