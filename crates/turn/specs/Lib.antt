@@ -8,4 +8,4 @@ pub mod StandingLaws
 pub mod CountedLaws
 pub mod PrefixLaws
 pub mod Pieces
-pub mod WiresLaws
+pub mod EntriesLaws
