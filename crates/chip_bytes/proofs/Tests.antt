@@ -9,9 +9,11 @@ use lib.Dec.{ltb}
 use lib.ListN.{length, getD, take, drop, drop-of-length-le}
 use lib.Seq.{drop-cons}
 use borrow.Author.Tests.{lt-ltb, le-ltb, lt-leb, eq-eqb, ne-eqb}
+use Rattle.events.specs.declared.Setup.{Setup}
 use Rattle.events.specs.Event.{within}
 use Rattle.chip.specs.declared.Chip.{Chip}
 use Rattle.chip_bytes_layout.specs.declared.Kept.{Kept}
+use Rattle.chip_bytes_layout.specs.Layout.{setupAt, setupStands, levelStands, freshStands}
 use Rattle.chip_bytes_layout.specs.Layout.{switchAt, chipAt, formed, couldStand, none, keeps, noChip, goodAt, chipIn}
 use Rattle.chip_bytes_layout.specs.Layout.{keptOf, goodOf, chipOf, freshOf}
 use Rattle.chip_bytes_layout.specs.GoodLaws.{kept-as, good-keeps}
@@ -53,6 +55,23 @@ module _ (b : List ℕ) {g : Bool} (q : g ≡ goodOf b) where
 
   pub kept-bad : {k : Kept} → g ≡ false → k ≡ noChip → k ≡ keptOf b
   kept-bad h e = e ∙ sym (kept-as b ∙ ap (λ (t : Bool). cond t (keeps (chipOf b) (freshOf b)) noChip) (sym q ∙ h))
+
+-- three tests in another order
+turned : (s l f : Bool) → (l && f && s) ≡ (s && l && f)
+turned true true true = refl
+turned true true false = refl
+turned true false f = refl
+turned false true true = refl
+turned false true false = refl
+turned false false f = refl
+
+pub stand-by : (b : List ℕ) {l f s : Bool} {v : Setup} → l ≡ levelStands (chipAt b) → f ≡ freshStands (chipAt b) (switchAt b 23) → v ≡ setupAt b
+    → s ≡ setupStands v → (l && f && s) ≡ couldStand (chipAt b) (switchAt b 23)
+unfolding couldStand chipAt
+stand-by b {s = s} hl hf hv hs =
+    ap₂ (λ (l f : Bool). l && f && s) hl hf
+    ∙ ap (λ (s : Bool). levelStands (chipAt b) && freshStands (chipAt b) (switchAt b 23) && s) (hs ∙ ap setupStands hv)
+    ∙ turned (setupStands (setupAt b)) (levelStands (chipAt b)) (freshStands (chipAt b) (switchAt b 23))
 
 -- a test that another makes needless
 pub or-up : (t : Bool) {n : Bool} → n ≡ true → t ≡ (t || not n)

@@ -135,12 +135,12 @@ fn fresh_stands(b: &[u8]) -> bool
     true
 }
 
-// Whether the chip that bytes have could stand.
+// Whether the chip that bytes have could stand. In this order the compiler keeps the loop of `feed` as it is by itself.
 fn could_stand(b: &[u8]) -> bool
     requires { ⌜ length (now b) ≡ «KEPT_CHIP» ⌝ }
     ensures { λ r. ⌜ r ≡ couldStand (chipAt (now (b .entry))) (switchAt (now (b .entry)) FRESH) ⌝ }
 {
-    setup_stands(setup_at(b)) & level_stands(b) & fresh_stands(b)
+    level_stands(b) & fresh_stands(b) & setup_stands(setup_at(b))
 }
 
 // Whether every byte is 0.

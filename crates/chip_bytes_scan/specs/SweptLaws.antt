@@ -44,29 +44,36 @@ withCells cells bat c =
     (withMeasured (record { cells = cells; bat = bat; ts = c .registers .measured .ts; cc = c .registers .measured .cc }) (c .registers)) c
 
 cells-moved : (c : Chip) (f : Bool) (cells : List ℕ) (bat : ℕ) (rest : List ℕ)
-    → sets (sets (chipBytes c f ++ rest) 56 (wordBytes (bat ∷ []))) 66 (wordBytes (listed cells 0 15)) ≡ chipBytes (withCells cells bat c) f ++ rest
+    → sets (sets (chipBytes c f ++ rest) 56 (wordBytes (bat ∷ []))) 66 (wordBytes (listed cells 0 15))
+    ≡ chipBytes (withCells cells bat c) f ++ rest
 unfolding chipBytes plainOf switchesOf wordsOf
 cells-moved c f cells bat rest = refl
 
-kept-moved : (c : Chip) (f t : Bool) (cells : List ℕ) (sum : ℕ) (rest : List ℕ) → length cells ≡ 15 → t ≡ c .registers .settings .«adc_en»
-    → measuredIn t cells sum (chipBytes c f ++ rest) ≡ chipBytes (withRegisters (scanKept cells sum (c .registers)) c) f ++ rest
-kept-moved c f t cells sum rest l e =
-    ap (λ (xs : List ℕ). cond t (sets (sets (chipBytes c f ++ rest) 56 (wordBytes (batOf sum ∷ []))) 66 (wordBytes xs)) (chipBytes c f ++ rest))
-    (sym (listed-all cells 15 l))
-    ∙ by t
-    ∙ ap (λ (t : Bool). chipBytes (withRegisters (withMeasured (cond t (cellsKept cells sum (c .registers .measured)) (c .registers .measured)) (c .registers)) c) f ++ rest) e
-  where
-    by : (t : Bool) → cond t (sets (sets (chipBytes c f ++ rest) 56 (wordBytes (batOf sum ∷ []))) 66 (wordBytes (listed cells 0 15))) (chipBytes c f ++ rest)
-        ≡ chipBytes (withRegisters (withMeasured (cond t (cellsKept cells sum (c .registers .measured)) (c .registers .measured)) (c .registers)) c) f ++ rest
-    by true = cells-moved c f cells (batOf sum) rest
-    by false = refl
+-- .. where they are kept
+module _ (c : Chip) (f : Bool) (cells : List ℕ) (sum : ℕ) (rest : List ℕ) where
+  abbrev putting : Bool → List ℕ → List ℕ
+  putting t xs = measuredIn t xs sum (chipBytes c f ++ rest)
+
+  abbrev keeping : Bool → List ℕ
+  keeping t =
+      chipBytes
+      (withRegisters (withMeasured (cond t (cellsKept cells sum (c .registers .measured)) (c .registers .measured)) (c .registers)) c) f
+      ++ rest
+
+  kept-by : (t : Bool) → putting t (listed cells 0 15) ≡ keeping t
+  kept-by true = cells-moved c f cells (batOf sum) rest
+  kept-by false = refl
+
+  kept-moved : (t : Bool) → length cells ≡ 15 → t ≡ c .registers .settings .«adc_en»
+      → putting t cells ≡ keeping (c .registers .settings .«adc_en»)
+  kept-moved t l e = ap (putting t) (sym (listed-all cells 15 l)) ∙ kept-by t ∙ ap keeping e
 
 -- and all of them
 swept-moved : (c : Chip) (f : Bool) (w : Swept) (rest : List ℕ) {counts : List ℕ} → SweptBy c counts w
     → sweptIn w (chipBytes c f ++ rest) ≡ chipBytes (sweptChip w c) false ++ rest
 swept-moved c f w rest s =
     ap (λ (b : List ℕ). shownIn (w .shown) (measuredIn (w .kept) (w .cells) (w .sum) b)) (runs-moved c f (w .runs) rest (s .scd) (s .ocd))
-    ∙ ap (shownIn (w .shown)) (kept-moved (withRuns (w .runs) c) f (w .kept) (w .cells) (w .sum) rest (s .sized) (s .kept))
+    ∙ ap (shownIn (w .shown)) (kept-moved (withRuns (w .runs) c) f (w .cells) (w .sum) rest (w .kept) (s .sized) (s .kept))
     ∙ shown-moved (withRegisters (scanKept (w .cells) (w .sum) (c .registers)) (withRuns (w .runs) c)) f (w .shown) rest
 
 -- by what was read of them
@@ -76,7 +83,9 @@ sweeps-did b counts {w = w} {new = new} a s m g =
     subst (λ (c : Chip). Did b (Scan (take (inputs (c .setup)) counts)) false 0 (w .shown) new) (sym (chip-is b a g))
     (did b a g (Scan (take (inputs (chipHere b .setup)) counts)) (sweptChip w (chipHere b)) false 0 (w .shown) new refl
     (subst Calmed (sym (s .leaves))
-    (raised-calm (risen (chipHere b .setup .floor) (chipHere b .registers .settings) (chipHere b .runs) (Scan (take (inputs (chipHere b .setup)) counts)))
+    (raised-calm
+    (risen (chipHere b .setup .floor) (chipHere b .registers .settings) (chipHere b .runs)
+    (Scan (take (inputs (chipHere b .setup)) counts)))
     (scanned (take (inputs (chipHere b .setup)) counts) (chipHere b .registers)) (calm b a g)))
     (ap (numbered 0) (s .leaves))
     refl

@@ -16,6 +16,17 @@ use records::Framed;
 use records::Payload;
 use registers::Shown;
 
+// The bytes of an entry.
+const NUMBER: usize = 0;
+
+const FLAG: usize = 1;
+
+const BYTE: usize = 2;
+
+const STAT: usize = 3;
+
+const PINS: usize = 4;
+
 // The entry of a record that is done.
 fn put_entry(entries: &mut [u8], flag: bool, byte: u8, shown: Shown)
     requires { ⌜ ENTRY ≤ length (now entries) ⌝ }
@@ -26,11 +37,11 @@ fn put_entry(entries: &mut [u8], flag: bool, byte: u8, shown: Shown)
     let pins = bits::weigh(status.alert(), weight::PIN_ALERT)
         + bits::weigh(shown.chg_on, weight::PIN_CHG)
         + bits::weigh(shown.dsg_on, weight::PIN_DSG);
-    entries[0] = number::DONE;
-    entries[1] = bits::weigh(flag, 1);
-    entries[2] = byte;
-    entries[3] = stat;
-    entries[4] = pins;
+    entries[NUMBER] = number::DONE;
+    entries[FLAG] = bits::weigh(flag, 1);
+    entries[BYTE] = byte;
+    entries[STAT] = stat;
+    entries[PINS] = pins;
 }
 
 // A tick.
