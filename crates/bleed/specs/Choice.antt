@@ -25,8 +25,12 @@ low e from b =
     bit b 1 && eqb (getD e from 0) 0 || bit b 2 && eqb (getD e (from + 1) 0) 0 || bit b 4 && eqb (getD e (from + 2) 0) 0
     || bit b 8 && eqb (getD e (from + 3) 0) 0 || bit b 16 && eqb (getD e (from + 4) 0) 0
 
+-- the bytes that a group's choice can be
+abbrev pub choices : ℕ
+choices = 32
+
 unfoldable pub mayIn : List ℕ → ℕ → ℕ → Bool
-mayIn e from b = ltb b 32 && not (near b) && not (low e from b)
+mayIn e from b = ltb b choices && not (near b) && not (low e from b)
 
 -- a byte in place of the best so far, where it is allowed and has more
 unfoldable pub betterIn : List ℕ → ℕ → ℕ → ℕ → ℕ
@@ -38,7 +42,7 @@ bestBelow e from zero = 0
 bestBelow e from (suc k) = betterIn e from k (bestBelow e from k)
 
 unfoldable pub bestIn : List ℕ → ℕ → ℕ
-bestIn e from = bestBelow e from 32
+bestIn e from = bestBelow e from choices
 
 -- ── all fifteen ──
 unfoldable pub chosen : List ℕ → Choice
@@ -46,7 +50,7 @@ chosen e = record { one = bestIn e 0; two = bestIn e 5; three = bestIn e 10 }
 
 -- as a 15-bit number with input 1 lowest
 abbrev pub number : Choice → ℕ
-number c = c .one + 32 * c .two + 1024 * c .three
+number c = c .one + choices * c .two + choices * choices * c .three
 
 unfoldable pub allowed : List ℕ → Choice → Bool
 allowed e c = mayIn e 0 (c .one) && mayIn e 5 (c .two) && mayIn e 10 (c .three)

@@ -37,9 +37,13 @@ linkedAt linked i = bit linked (getD weights i 0)
 unfoldable pub lowerAt : List ℕ → ℕ → ℕ → ℕ → ℕ
 lowerAt cells linked i low = cond (linkedAt linked i && ltb (getD cells i 0) low) (getD cells i 0) low
 
+-- no count is beyond it
+abbrev pub beyond : ℕ
+beyond = 65535
+
 -- the lowest of the first k inputs' connected cells; with none it is the highest number of 16 bits
 abbrev pub lowestBelow : List ℕ → ℕ → ℕ → ℕ
-lowestBelow cells linked zero = 65535
+lowestBelow cells linked zero = beyond
 lowestBelow cells linked (suc k) = lowerAt cells linked k (lowestBelow cells linked k)
 
 unfoldable pub lowest : List ℕ → ℕ → ℕ
