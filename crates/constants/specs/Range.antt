@@ -1,5 +1,5 @@
--- The least and the most that the values of a setup may be, and how many scans a report and bytes a stream for the programs have at most.
--- The ranges of events stand with these (events/Event). Assumes nothing.
+-- The least and the most that values may be, and how many scans a report and bytes a stream for the programs have at most. Assumes
+-- nothing.
 use Prim.Native.Nat.{ℕ}
 
 abbrev pub «PART_MOST» : ℕ
@@ -16,6 +16,18 @@ abbrev pub «GAIN_CODE_MOST» : ℕ
 
 abbrev pub «FLOOR_MOST» : ℕ
 «FLOOR_MOST» = 4095
+
+abbrev pub «COUNT_MOST» : ℕ
+«COUNT_MOST» = 16383
+
+abbrev pub «SENSE_MOST» : ℕ
+«SENSE_MOST» = 500000
+
+abbrev pub «TICKS_MOST» : ℕ
+«TICKS_MOST» = 4096
+
+abbrev pub «SOAK_MOST» : ℕ
+«SOAK_MOST» = 16777216
 
 abbrev pub «SCANS_MOST» : ℕ
 «SCANS_MOST» = 65535

@@ -7,6 +7,7 @@ use lib.Dec.{leb, eqb}
 use lib.IntN.{ℤ, pos, negℤ}
 use lib.Signed.{ltZ}
 use lib.ListN.{take, drop, replicate}
+use Rattle.constants.specs.Range.{«COUNT_MOST», «SENSE_MOST», «TICKS_MOST», «SOAK_MOST»}
 use Rattle.events.specs.Setup.{groups, inputs}
 use Rattle.events.specs.declared.Setup.{Setup}
 use Rattle.events.specs.declared.Counts.{Counts}
@@ -36,11 +37,11 @@ within most (x ∷ xs) = leb x most && within most xs
 
 -- a count is 0 to 16,383
 abbrev pub countMost : ℕ
-countMost = 16383
+countMost = «COUNT_MOST»
 
 -- SENSE is within ±500,000 µV
 abbrev pub senseMost : ℕ
-senseMost = 500000
+senseMost = «SENSE_MOST»
 
 abbrev pub senseFits : ℤ → Bool
 senseFits v = not (ltZ (pos senseMost) v) && not (ltZ (pos senseMost) (negℤ v))
@@ -60,11 +61,11 @@ fits (Level l) = true
 
 -- how often TICKS repeats at most
 abbrev pub ticksMost : ℕ
-ticksMost = 4096
+ticksMost = «TICKS_MOST»
 
 -- and SOAK
 abbrev pub soakMost : ℕ
-soakMost = 16777216
+soakMost = «SOAK_MOST»
 
 -- a value, and how often it is repeated: 1 to the most that its kind allows
 unfoldable pub ticksFit : ℕ → ℤ → ℕ → Bool

@@ -6,6 +6,7 @@ use mathlib.Core.Bool.{Bool, true, cond, _&&_}
 use lib.Dec.{leb, eqb}
 use lib.IntN.{ℤ, pos, negℤ}
 use lib.ListN.{length}
+use Rattle.constants.specs.Number.{DONE, «NO_ROOM», «NO_LIST», «BAD_ADDRESS»}
 use Rattle.events.specs.declared.BusEvent.{BusEvent}
 use Rattle.events.specs.declared.BusEvent.the-variants.{Start, Out, In, Stop}
 use Rattle.events.specs.declared.Event.the-variants.{OnBus}
@@ -60,8 +61,8 @@ allNear [] = true
 allNear (m ∷ ms) = near (addressOf m) && allNear ms
 
 abbrev pub numberFor : Listing → ℕ → ℕ
-numberFor none room = 20
-numberFor (lists ms) room = cond (allNear ms) (cond (leb (length (recordsOf (eventsOf ms))) room) 0 5) 21
+numberFor none room = «NO_LIST»
+numberFor (lists ms) room = cond (allNear ms) (cond (leb (length (recordsOf (eventsOf ms))) room) DONE «NO_ROOM») «BAD_ADDRESS»
 
 -- the answer: how many bytes were written, or minus the number
 abbrev pub answerWith : ℕ → List ℕ → ℤ

@@ -6,6 +6,7 @@ use mathlib.Core.List.{List, []}
 use Prim.Native.Nat.{ℕ}
 use lib.Dec.{leb}
 use lib.ListN.{length}
+use Rattle.constants.specs.Range.{«STREAM_MOST»}
 use Rattle.events.specs.declared.Setup.{Setup as SetupValues}
 use Rattle.events.specs.declared.Event.{Event as Coded}
 use Rattle.events.specs.declared.Event.the-variants.{Setup, Por, Boot, Scan, Temp, Count, Sense, Pin, Load, Xready, OnBus, Level, Ticks}
@@ -67,7 +68,7 @@ streaksIn s = streaksOf (λ k. streak (verdictsIn k s))
 
 -- ── at most 65,536 bytes; a longer stream is refused with 24 ──
 abbrev pub most : ℕ
-most = 65536
+most = «STREAM_MOST»
 
 abbrev pub tooLong : ℕ
 tooLong = 24

@@ -4,6 +4,7 @@ use mathlib.Core.List.{List, [], _∷_, _++_}
 use mathlib.Core.Bool.{cond}
 use lib.ListN.{length, drop}
 use lib.Dec.{ltb}
+use Rattle.constants.specs.Range.{«STREAM_MOST»}
 use Rattle.records.specs.Frame.{frameOf}
 use Rattle.turn.specs.declared.Entry.{Entry}
 use Rattle.turn.specs.Entries.{entries}
@@ -13,7 +14,7 @@ use Rattle.play_line.specs.Put.{tooLong}
 
 -- standard input, at most 65,536 bytes
 abbrev pub mostInput : ℕ
-mostInput = 65536
+mostInput = «STREAM_MOST»
 
 -- a line shows all of an entry
 abbrev pub columnsOf : Entry → Columns

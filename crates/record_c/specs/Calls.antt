@@ -6,7 +6,7 @@ use Prim.Native.Nat.{ℕ, _<_, _^_}
 use lib.Dec.{eqb, leb}
 use lib.IntN.{ℤ, pos}
 use lib.ListN.{length, drop}
-use Rattle.constants.specs.Number.{«NO_ROOM»}
+use Rattle.constants.specs.Number.{«BAD_SETUP», «NO_ROOM», CUT}
 use Rattle.constants.specs.Answer.{Said, gives, refuses, minus}
 use Rattle.events.specs.declared.Counts.{Counts}
 use Rattle.events.specs.declared.Event.{Event}
@@ -70,11 +70,11 @@ named e k = record { kind = kindFor e; values = valuesFor e k }
 abbrev pub namedRead : List ℕ → Read → Said Named
 namedRead r (Record e next) = gives (named e (countsBeside r (Record e next)))
 namedRead r (Refused n next) = refuses n
-namedRead r Cut = refuses 9
+namedRead r Cut = refuses CUT
 
 -- the record that bytes begin with, at the part that stands, 0 where none does yet; there is no part above 3
 unfoldable pub namedSaid : ℕ → List ℕ → Said Named
-namedSaid part r = cond (leb part 3) (namedRead r (readOf part r)) (refuses 1)
+namedSaid part r = cond (leb part 3) (namedRead r (readOf part r)) (refuses «BAD_SETUP»)
 
 abbrev pub namedAnswer : Said Named → ℕ → ℤ
 namedAnswer (refuses n) room = minus n

@@ -5,6 +5,7 @@ use Prim.Native.Nat.{ℕ, _%_, _^_}
 use lib.Dec.{eqb, leb}
 use lib.IntN.{ℤ, pos, negsuc}
 use lib.ListN.{length, getD, take}
+use Rattle.constants.specs.Number.{«BAD_SETUP», «BAD_KIND», «BAD_VALUE», «NO_ROW»}
 use Rattle.events.specs.Setup.{checkedOf}
 use Rattle.events.specs.Event.{besideOf, within, countMost, senseFits, ticksMost, soakMost, ticksFit}
 use Rattle.events.specs.declared.Setup.{Setup as SetupValues}
@@ -78,38 +79,42 @@ setupBy vs =
     (checkedIn
     (checkedOf (byteOf (natAt vs 0)) (byteOf (natAt vs 1)) (byteOf (natAt vs 2)) (byteOf (natAt vs 3)) (byteOf (natAt vs 4))
     (wordOf (natAt vs 5))))
-    (Unfit 1))
-    (Unfit 2)
+    (Unfit «BAD_SETUP»))
+    (Unfit «BAD_KIND»)
 
 -- none
 abbrev pub bareBy : Event → List ℤ → Payload
-bareBy e vs = cond (eqb (length vs) 0) (Whole e) (Unfit 2)
+bareBy e vs = cond (eqb (length vs) 0) (Whole e) (Unfit «BAD_KIND»)
 
 -- a count for each that is wanted
 unfoldable pub countedBy : Event → ℕ → List ℤ → Payload
-countedBy e wanted vs = cond (eqb (length vs) wanted) (cond (within countMost (map natOf vs)) (Whole e) (Unfit 3)) (Unfit 2)
+countedBy e wanted vs =
+    cond (eqb (length vs) wanted) (cond (within countMost (map natOf vs)) (Whole e) (Unfit «BAD_VALUE»)) (Unfit «BAD_KIND»)
 
 -- a number of 2 bytes, raw; a byte; 0 or 1
 abbrev pub countBy : List ℤ → Payload
-countBy vs = cond (eqb (length vs) 1) (cond (leb (natAt vs 0) 65535) (Whole (Count (natAt vs 0))) (Unfit 3)) (Unfit 2)
+countBy vs = cond (eqb (length vs) 1) (cond (leb (natAt vs 0) 65535) (Whole (Count (natAt vs 0))) (Unfit «BAD_VALUE»)) (Unfit «BAD_KIND»)
 
 abbrev pub outBy : List ℤ → Payload
-outBy vs = cond (eqb (length vs) 1) (cond (leb (natAt vs 0) 255) (Whole (OnBus (Out (natAt vs 0)))) (Unfit 3)) (Unfit 2)
+outBy vs = cond (eqb (length vs) 1) (cond (leb (natAt vs 0) 255) (Whole (OnBus (Out (natAt vs 0)))) (Unfit «BAD_VALUE»)) (Unfit «BAD_KIND»)
 
 abbrev pub switchBy : (Bool → Event) → List ℤ → Payload
-switchBy e vs = cond (eqb (length vs) 1) (cond (leb (natAt vs 0) 1) (Whole (e (eqb (natAt vs 0) 1))) (Unfit 3)) (Unfit 2)
+switchBy e vs = cond (eqb (length vs) 1) (cond (leb (natAt vs 0) 1) (Whole (e (eqb (natAt vs 0) 1))) (Unfit «BAD_VALUE»)) (Unfit «BAD_KIND»)
 
 -- SENSE's value; and how often it is repeated
 abbrev pub senseBy : List ℤ → Payload
-senseBy vs = cond (eqb (length vs) 1) (cond (senseFits (valueAt vs 0)) (Whole (Sense (valueAt vs 0))) (Unfit 3)) (Unfit 2)
+senseBy vs =
+    cond (eqb (length vs) 1) (cond (senseFits (valueAt vs 0)) (Whole (Sense (valueAt vs 0))) (Unfit «BAD_VALUE»)) (Unfit «BAD_KIND»)
 
 abbrev pub repeatBy : (ℤ → ℕ → Event) → ℕ → List ℤ → Payload
 repeatBy e most vs =
-    cond (eqb (length vs) 2) (cond (ticksFit most (valueAt vs 0) (natAt vs 1)) (Whole (e (valueAt vs 0) (natAt vs 1))) (Unfit 3)) (Unfit 2)
+    cond (eqb (length vs) 2)
+    (cond (ticksFit most (valueAt vs 0) (natAt vs 1)) (Whole (e (valueAt vs 0) (natAt vs 1))) (Unfit «BAD_VALUE»))
+    (Unfit «BAD_KIND»)
 
 -- the number of cells: no part has a row for one that a byte does not hold; who writes the record judges another
 abbrev pub wiresBy : List ℤ → Payload
-wiresBy vs = cond (eqb (length vs) 1) (cond (leb (natAt vs 0) 255) (Whole (Wires (natAt vs 0))) (Unfit 13)) (Unfit 2)
+wiresBy vs = cond (eqb (length vs) 1) (cond (leb (natAt vs 0) 255) (Whole (Wires (natAt vs 0))) (Unfit «NO_ROW»)) (Unfit «BAD_KIND»)
 
 -- an unknown kind is 2
 unfoldable pub laterBy : ℕ → ℕ → List ℤ → Payload
@@ -130,7 +135,7 @@ laterBy kind part vs =
     (cond (eqb kind LEVEL) (switchBy levelOf vs)
     (cond (eqb kind TICKS) (repeatBy ticksOf ticksMost vs)
     (cond (eqb kind SOAK) (repeatBy soakOf soakMost vs)
-    (cond (eqb kind WIRES) (wiresBy vs) (Unfit 2)))))))))))))))))
+    (cond (eqb kind WIRES) (wiresBy vs) (Unfit «BAD_KIND»)))))))))))))))))
 
 -- a part above 3 is none
 unfoldable pub partBy : ℕ → ℕ
@@ -138,7 +143,7 @@ partBy part = cond (leb part 3) part 0
 
 -- SETUP's part is its own; of another kind 1 comes first where the part is none
 unfoldable pub eventBy : ℕ → ℕ → List ℤ → Payload
-eventBy kind part vs = cond (eqb kind SETUP) (setupBy vs) (cond (eqb (partBy part) 0) (Unfit 1) (laterBy kind (partBy part) vs))
+eventBy kind part vs = cond (eqb kind SETUP) (setupBy vs) (cond (eqb (partBy part) 0) (Unfit «BAD_SETUP») (laterBy kind (partBy part) vs))
 
 -- the counts beside it: 15 places, each of 16 bits
 abbrev pub countOf : ℤ → ℕ

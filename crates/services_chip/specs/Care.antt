@@ -5,6 +5,7 @@ use Prim.Native.Nat.{ℕ}
 use lib.Dec.{eqb, leb}
 use lib.IntN.{ℤ}
 use lib.ListN.{length, getD}
+use Rattle.constants.specs.Number.{«BAD_VALUE», ASLEEP, «NOT_CONNECTED»}
 use Rattle.wiring.specs.Rows.{linkedBits}
 use Rattle.constants.specs.Answer.{Said, gives, refuses}
 use Rattle.values.specs.Forecast.{totalOf}
@@ -32,7 +33,9 @@ linkedOf c = linkedBits (c .setup) (cellsOf c)
 unfoldable pub proposalSaid : ℕ → Chip → Said Choice
 proposalSaid margin c =
     cond (leb 1 margin && leb margin 16383)
-    (cond (c .normal) (cond (eqb (linkedOf c) 0) (refuses 10) (gives (proposed (cellsOf c) (linkedOf c) margin))) (refuses 4)) (refuses 3)
+    (cond (c .normal) (cond (eqb (linkedOf c) 0) (refuses «NOT_CONNECTED») (gives (proposed (cellsOf c) (linkedOf c) margin)))
+    (refuses ASLEEP))
+    (refuses «BAD_VALUE»)
 
 -- what a reply is made of: TEMP_SEL, the count of TS1, whether some cell is connected, CC
 abbrev pub packOf : Chip → Pack

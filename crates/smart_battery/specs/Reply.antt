@@ -5,6 +5,7 @@ use mathlib.Core.List.{List, [], _∷_, _++_}
 use Prim.Native.Nat.{ℕ, _/_, _%_}
 use lib.Dec.{ltb}
 use lib.ListN.{length, drop}
+use Rattle.constants.specs.Number.{DONE, «NO_ROOM»}
 use Rattle.crc8.specs.Crc.{crcOn}
 use Rattle.constants.specs.Answer.{Said, gives, refuses}
 
@@ -29,7 +30,7 @@ replyBytes command w = w % 256 ∷ w / 256 ∷ pecOf command (w % 256) (w / 256)
 -- 5 comes last
 abbrev pub repliedNumber : {A : Type 0} → Said A → ℕ → ℕ
 repliedNumber (refuses n) room = n
-repliedNumber (gives w) room = cond (ltb room replySize) 5 0
+repliedNumber (gives w) room = cond (ltb room replySize) «NO_ROOM» DONE
 
 abbrev pub repliedBytes : Said ℕ → ℕ → List ℕ → List ℕ
 repliedBytes (refuses n) command old = old

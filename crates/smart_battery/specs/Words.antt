@@ -3,6 +3,7 @@ use mathlib.Core.Bool.{Bool, _&&_, _||_, cond}
 use Prim.Native.Nat.{ℕ, suc, _+_, _-_, _*_, _/_}
 use lib.Dec.{eqb, leb}
 use lib.IntN.{ℤ, pos, negsuc, negℤ, _+ℤ_}
+use Rattle.constants.specs.Number.{«BAD_VALUE», ASLEEP, «NOT_CONNECTED», «NO_FIT», EXTERNAL, «BAD_COMMAND»}
 use Rattle.constants.specs.Answer.{Said, gives, refuses}
 use Rattle.values.specs.Values.{floor, dieTemperature, ccHundredths}
 use Rattle.smart_battery.specs.declared.Word.{Word}
@@ -54,12 +55,12 @@ milliamps cc r = toward (ccHundredths cc) (100 * r)
 
 -- ── 11, where a value does not fit its word (CHIP N11) ──
 abbrev pub unsignedSaid : ℤ → Said ℕ
-unsignedSaid (pos n) = cond (leb n wordMost) (gives n) (refuses 11)
-unsignedSaid (negsuc n) = refuses 11
+unsignedSaid (pos n) = cond (leb n wordMost) (gives n) (refuses «NO_FIT»)
+unsignedSaid (negsuc n) = refuses «NO_FIT»
 
 abbrev pub signedSaid : ℤ → Said ℕ
-signedSaid (pos n) = cond (leb n signedMost) (gives n) (refuses 11)
-signedSaid (negsuc n) = cond (leb n signedMost) (gives (wordMost - n)) (refuses 11)
+signedSaid (pos n) = cond (leb n signedMost) (gives n) (refuses «NO_FIT»)
+signedSaid (negsuc n) = cond (leb n signedMost) (gives (wordMost - n)) (refuses «NO_FIT»)
 
 -- ── the commands, and the refusals in their order (CHIP C6) ──
 abbrev pub known : ℕ → Bool
@@ -67,10 +68,12 @@ known command = eqb command TEMPERATURE || eqb command VOLTAGE || eqb command CU
 
 unfoldable pub askedFor : Pack → ℤ → ℕ → ℕ → Said ℕ
 askedFor p total command r =
-    cond (eqb command TEMPERATURE) (cond (p .external) (refuses 12) (unsignedSaid (kelvins (p .warmth))))
-    (cond (eqb command VOLTAGE) (cond (p .connected) (unsignedSaid (millivolts total)) (refuses 10)) (signedSaid (milliamps (p .cc) r)))
+    cond (eqb command TEMPERATURE) (cond (p .external) (refuses EXTERNAL) (unsignedSaid (kelvins (p .warmth))))
+    (cond (eqb command VOLTAGE) (cond (p .connected) (unsignedSaid (millivolts total)) (refuses «NOT_CONNECTED»))
+    (signedSaid (milliamps (p .cc) r)))
 
 unfoldable pub wordFor : Pack → ℤ → ℕ → ℕ → Said ℕ
 wordFor p total command r =
     cond (known command)
-    (cond (leb 1 r && leb r milliohmsMost) (cond (p .normal) (askedFor p total command r) (refuses 4)) (refuses 3)) (refuses 23)
+    (cond (leb 1 r && leb r milliohmsMost) (cond (p .normal) (askedFor p total command r) (refuses ASLEEP)) (refuses «BAD_VALUE»))
+    (refuses «BAD_COMMAND»)

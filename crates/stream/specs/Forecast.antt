@@ -6,6 +6,8 @@ use Prim.Native.Nat.{ℕ}
 use lib.Dec.{eqb, ltb}
 use lib.Ieee.{Float}
 use lib.ListN.{length, drop}
+use Rattle.constants.specs.Number.{DONE, «NO_ROOM»}
+use Rattle.constants.specs.Size.{READING}
 use Rattle.records.specs.Record.{readOf, numberOf}
 use Rattle.values.specs.declared.Reading.{Reading}
 use Rattle.chip.specs.declared.Chip.{Chip}
@@ -15,7 +17,8 @@ use Rattle.turn.specs.Entries.{lastChip}
 -- where no chip stands the first record's number, 9 for an empty stream; 4 asleep, 10 where no cell is connected; then 5 for room below 4
 abbrev pub readingNumber : List ℕ → Chip → ℕ → ℕ
 readingNumber s c room =
-    cond (eqb (c .setup .part) 0) (numberOf (readOf 0 s)) (cond (eqb (forecastNumber c) 0) (cond (ltb room 4) 5 0) (forecastNumber c))
+    cond (eqb (c .setup .part) 0) (numberOf (readOf 0 s))
+    (cond (eqb (forecastNumber c) 0) (cond (ltb room READING) «NO_ROOM» DONE) (forecastNumber c))
 
 -- whether a reading is given
 abbrev pub isGiven : Chip → ℕ → Bool

@@ -1,6 +1,7 @@
 -- What a stream is made of for the most part: scans, ticks and the bus. Assumes nothing.
 use mathlib.Core.Path.{_≡_, refl, ap, sym, _∙_}
 use mathlib.Core.Bool.{Bool, true, false, cond, _&&_}
+use Rattle.constants.specs.Number.{DONE, ASLEEP}
 use Rattle.events.specs.declared.Event.{Event}
 use Rattle.registers.specs.declared.Registers.{Registers}
 use Rattle.chip.specs.declared.Chip.{Chip}
@@ -44,7 +45,7 @@ workOf a e = cond a (awakeWork e) Other
 
 -- an event that moves registers alone, to these; number 4 in SHIP
 unfoldable pub registersMoved : Registers → Chip → Stepped
-registersMoved r c = cond (c .normal) (numbered 0 (withRegisters r c)) (numbered 4 c)
+registersMoved r c = cond (c .normal) (numbered DONE (withRegisters r c)) (numbered ASLEEP c)
 
 -- what is known of an event by its work
 abbrev pub Sorted : Bool → Event → Work → Type 0

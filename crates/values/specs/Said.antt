@@ -2,6 +2,7 @@
 use Prim.Native.Nat.{ℕ}
 use lib.IntN.{ℤ}
 use Rattle.constants.specs.Answer.{Said, gives, refuses}
+use Rattle.constants.specs.Number.{«BAD_SETUP», «BAD_VALUE», «OPEN_SENSOR», «NO_CODE»}
 use Rattle.values.specs.declared.Refusal.{Refusal}
 use Rattle.values.specs.declared.Refusal.the-variants.{GainCode, Count, Thermistor, Window}
 use Rattle.values.specs.declared.CellVoltage.{CellVoltage}
@@ -15,10 +16,10 @@ use Rattle.values.specs.declared.ThresholdCode.the-variants as Code
 
 -- the number of a refusal
 abbrev pub numberOf : Refusal → ℕ
-numberOf GainCode = 1
-numberOf Count = 3
-numberOf Thermistor = 7
-numberOf Window = 8
+numberOf GainCode = «BAD_SETUP»
+numberOf Count = «BAD_VALUE»
+numberOf Thermistor = «OPEN_SENSOR»
+numberOf Window = «NO_CODE»
 
 abbrev pub saidVoltage : CellVoltage → Said ℤ
 saidVoltage (Cell.Is v) = gives (v .0)

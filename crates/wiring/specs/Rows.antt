@@ -4,6 +4,7 @@ use mathlib.Core.List.{List, [], _∷_}
 use Prim.Native.Nat.{ℕ, zero, suc, _+_, _-_, _*_}
 use lib.Dec.{eqb, leb}
 use lib.ListN.{length, getD}
+use Rattle.constants.specs.Number.{DONE, «NO_ROW»}
 use Rattle.cell_counts.specs.Scan.{some}
 use Rattle.events.specs.declared.Setup.{Setup}
 use Rattle.events.specs.Setup.{inputs, withCells}
@@ -106,5 +107,5 @@ wiredWith u n = cond (hasRow (u .part) n) (With (withCells n u)) NoRow
 
 -- the number of each answer
 abbrev pub wiredNumber : Wiring → ℕ
-wiredNumber (With u) = 0
-wiredNumber NoRow = 13
+wiredNumber (With u) = DONE
+wiredNumber NoRow = «NO_ROW»

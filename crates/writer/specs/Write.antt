@@ -6,6 +6,8 @@ use mathlib.Core.Bool.{cond, _&&_}
 use lib.ListN.{length, take, drop}
 use lib.Dec.{leb, eqb}
 use lib.IntN.{ℤ, pos, negsuc}
+use Rattle.constants.specs.Number.{DONE, «BAD_SETUP», «BAD_KIND», «BAD_VALUE», «NO_ROOM», «NO_ROW»}
+use Rattle.constants.specs.Range.{«PART_MOST»}
 use Rattle.events.specs.Event.{within, countMost, senseFits, ticksMost, soakMost, ticksFit, countsWanted, countsFit}
 use Rattle.events.specs.declared.Setup.{Setup as SetupValues}
 use Rattle.events.specs.declared.Counts.{Counts}
@@ -109,28 +111,28 @@ partFor e part = partAs (roleOf e) part
 
 -- the number of a value out of range
 unfoldable pub valueRefusal : Event → Counts → ℕ → ℕ
-valueRefusal (Setup v) k part = cond (setupGood v) 0 1
-valueRefusal Por k part = 0
-valueRefusal Boot k part = 0
-valueRefusal Scan k part = cond (within countMost (take (k .many) (k .of))) 0 3
-valueRefusal Temp k part = cond (within countMost (take (k .many) (k .of))) 0 3
-valueRefusal (Count n) k part = 0
-valueRefusal (Sense v) k part = cond (senseFits v) 0 3
-valueRefusal Pin k part = 0
-valueRefusal (Load l) k part = 0
-valueRefusal Xready k part = 0
-valueRefusal (OnBus b) k part = 0
-valueRefusal (Level l) k part = 0
-valueRefusal (Ticks v n) k part = cond (ticksFit ticksMost v n) 0 3
-valueRefusal (Soak v n) k part = cond (ticksFit soakMost v n) 0 3
-valueRefusal (Wires n) k part = cond (hasRow part n) 0 13
+valueRefusal (Setup v) k part = cond (setupGood v) DONE «BAD_SETUP»
+valueRefusal Por k part = DONE
+valueRefusal Boot k part = DONE
+valueRefusal Scan k part = cond (within countMost (take (k .many) (k .of))) DONE «BAD_VALUE»
+valueRefusal Temp k part = cond (within countMost (take (k .many) (k .of))) DONE «BAD_VALUE»
+valueRefusal (Count n) k part = DONE
+valueRefusal (Sense v) k part = cond (senseFits v) DONE «BAD_VALUE»
+valueRefusal Pin k part = DONE
+valueRefusal (Load l) k part = DONE
+valueRefusal Xready k part = DONE
+valueRefusal (OnBus b) k part = DONE
+valueRefusal (Level l) k part = DONE
+valueRefusal (Ticks v n) k part = cond (ticksFit ticksMost v n) DONE «BAD_VALUE»
+valueRefusal (Soak v n) k part = cond (ticksFit soakMost v n) DONE «BAD_VALUE»
+valueRefusal (Wires n) k part = cond (hasRow part n) DONE «NO_ROW»
 
 -- the number that an event is refused with at a part, or 0
 unfoldable pub refusalFor : Event → Counts → ℕ → ℕ
 refusalFor e k part =
-    cond (leb 1 (partFor e part) && leb (partFor e part) 3)
-    (cond (countsFit (countsWanted (standing part) e) k) (valueRefusal e k part) 2)
-    1
+    cond (leb 1 (partFor e part) && leb (partFor e part) «PART_MOST»)
+    (cond (countsFit (countsWanted (standing part) e) k) (valueRefusal e k part) «BAD_KIND»)
+    «BAD_SETUP»
 
 -- ── then 5; no other byte than the record's is written ──
 -- bytes written at the start of a buffer
@@ -138,15 +140,15 @@ abbrev pub writtenOf : List ℕ → List ℕ → List ℕ
 writtenOf bytes old = bytes ++ drop (length bytes) old
 
 pub record Writes (bytes old : List ℕ) (r : Wrote) (new : List ℕ) : Type 0 where
-  pub answer : r ≡ cond (leb (length bytes) (length old)) (Done (length bytes)) (Refused 5)
+  pub answer : r ≡ cond (leb (length bytes) (length old)) (Done (length bytes)) (Refused «NO_ROOM»)
   pub contents : new ≡ cond (leb (length bytes) (length old)) (writtenOf bytes old) old
 
 -- an event that is refused with a number, 0 where it is not, and its bytes
 pub record Puts (number : ℕ) (bytes old : List ℕ) (r : Wrote) (new : List ℕ) : Type 0 where
-  pub answer : r ≡ cond (eqb number 0) (cond (leb (length bytes) (length old)) (Done (length bytes)) (Refused 5)) (Refused number)
+  pub answer : r ≡ cond (eqb number 0) (cond (leb (length bytes) (length old)) (Done (length bytes)) (Refused «NO_ROOM»)) (Refused number)
   pub contents : new ≡ cond (eqb number 0) (cond (leb (length bytes) (length old)) (writtenOf bytes old) old) old
 
 -- the number of each answer (CHIP O4)
 abbrev pub numberOf : Wrote → ℕ
-numberOf (Done n) = 0
+numberOf (Done n) = DONE
 numberOf (Refused k) = k
