@@ -12,7 +12,7 @@ use Rattle.registers.specs.declared.Registers.{Registers}
 use Rattle.registers.specs.Judging.{scanned}
 use Rattle.registers.specs.LevelLaws.{Calm, level-calm, reset-calm, calm-level, raised-calm}
 use Rattle.protection.specs.declared.Runs.{Runs}
-use Rattle.protection.specs.Rule.{risen}
+use Rattle.protection.specs.Runs.{risen}
 use Rattle.chip.specs.declared.Chip.{Chip}
 use Rattle.chip.specs.declared.Stepped.{Stepped}
 use Rattle.chip.specs.Chip.{withBus, withRegisters, withRuns, inShip, watched, settled, normally, next}

@@ -28,7 +28,7 @@ use Rattle.registers.specs.Fault.{raised}
 use Rattle.registers.specs.Judging.{scanned, warmed, coulombs, pulled, pulledByLevel, unready}
 use Rattle.protection.specs.declared.Runs.{Runs}
 use Rattle.protection.specs.Fault.{noRuns}
-use Rattle.protection.specs.Rule.{counted, risen}
+use Rattle.protection.specs.Runs.{counted, risen}
 use Rattle.chip.specs.declared.Chip.{Chip}
 use Rattle.chip.specs.declared.Stepped.{Stepped}
 

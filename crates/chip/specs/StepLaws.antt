@@ -13,7 +13,7 @@ use Rattle.bus.specs.Bus.{isHigh, keeps, owing}
 use Rattle.registers.specs.Fault.{bitOf}
 use Rattle.registers.specs.DrivesLaws.{rises}
 use Rattle.registers.specs.LevelLaws.{level-bit}
-use Rattle.protection.specs.Rule.{counted, risen}
+use Rattle.protection.specs.Runs.{counted, risen}
 use Rattle.chip.specs.declared.Chip.{Chip}
 use Rattle.chip.specs.declared.Stepped.{Stepped}
 use Rattle.chip.specs.Chip.{reads, onBus, numbered, watched, settled, normally, asleep, happened, stepped, next, ticking, steppedAs}

@@ -178,8 +178,8 @@ impl Chip {
         let setup = self.setup;
         let registers = self.registers;
         let s = registers.settings;
-        let over = protection::over_line(s);
-        let under = protection::under_line(s);
+        let over = limits::over_line(s);
+        let under = limits::under_line(s);
         let looked = cell_counts::look(counts, setup.inputs(), over, setup.floor, under);
         let runs = self.runs;
         let judged = runs.scanned(s, looked.over, looked.under);

@@ -18,7 +18,7 @@ use Rattle.registers.specs.Fault.{raised}
 use Rattle.registers.specs.Judging.{batOf, scanKept}
 use Rattle.protection.specs.declared.Runs.{Runs}
 use Rattle.protection.specs.declared.Judged.{Judged}
-use Rattle.protection.specs.Rule.{rule}
+use Rattle.limits.specs.Rule.{rule}
 use Rattle.protection.specs.Judged.{scanJudged}
 use Rattle.chip.specs.Chip.{withRegisters, withRuns}
 use Rattle.chip.proofs.Judged.{scan-done}

@@ -10,7 +10,7 @@ use Rattle.events.specs.Event.{Scan}
 use Rattle.writer.specs.Write.{wordBytes}
 use Rattle.registers.specs.LevelLaws.{raised-calm}
 use Rattle.registers.specs.Judging.{batOf, cellsKept, scanKept, scanned}
-use Rattle.protection.specs.Rule.{risen}
+use Rattle.protection.specs.Runs.{risen}
 use Rattle.registers.specs.declared.Shown.{Shown}
 use Rattle.registers.specs.declared.Measured.{Measured}
 use Rattle.registers.specs.State.{withShown, withMeasured}

@@ -37,8 +37,8 @@ fn sweep(b: &[u8], counts: [u16; 15]) -> Swept
 {
     let setup = setup_at(b);
     let s = settings_at(b);
-    let over = protection::over_line(s);
-    let under = protection::under_line(s);
+    let over = limits::over_line(s);
+    let under = limits::under_line(s);
     let looked = cell_counts::look(counts, setup.inputs(), over, setup.floor, under);
     let runs = runs_at(b);
     let judged = runs.scanned(s, looked.over, looked.under);

@@ -13,7 +13,7 @@ use Rattle.events.specs.declared.Counts.{Counts}
 use Rattle.events.specs.declared.Event.{Event as Coded}
 use Rattle.events.specs.Event.{Event, Sense, fits, ticksFit, Meant, means, ticks, unfit, meantOf, eventsIn}
 use Rattle.events.specs.Fault.{Fault}
-use Rattle.protection.specs.Rule.{rule, opinion}
+use Rattle.limits.specs.Rule.{rule, opinion}
 use Rattle.chip.specs.declared.Chip.{Chip}
 use Rattle.chip.specs.Chip.{numbered, inShip, stepped, next, ticked, steppedAs, steppedBy}
 use Rattle.chip.specs.Core.{coreOf, coreNext}

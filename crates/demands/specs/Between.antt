@@ -8,7 +8,7 @@ use Rattle.events.specs.declared.Setup.{Setup}
 use Rattle.events.specs.declared.BusEvent.{BusEvent}
 use Rattle.events.specs.Event.{Event, Por, Boot, Pin, Xready, Scan, Temp, Count, Sense, Load, OnBus, Level, fits}
 use Rattle.events.specs.Fault.{Fault}
-use Rattle.protection.specs.Rule.{Rule, rule, opinion}
+use Rattle.limits.specs.Rule.{Rule, rule, opinion}
 use Rattle.chip.specs.declared.Chip.{Chip}
 use Rattle.chip.specs.Chip.{inShip, next}
 use Rattle.chip.specs.Core.{Core, coreOf, bare, coreNext}

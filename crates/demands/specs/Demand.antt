@@ -22,7 +22,7 @@ use Rattle.registers.specs.declared.Shown.{Shown}
 use Rattle.registers.specs.State.{alert}
 use Rattle.registers.specs.Write.{statusOf}
 use Rattle.registers.specs.Fault.{bitOf, driveOf}
-use Rattle.protection.specs.Rule.{rule, opinion}
+use Rattle.limits.specs.Rule.{rule, opinion}
 use Rattle.chip.specs.declared.Chip.{Chip}
 use Rattle.chip.specs.Chip.{inShip, stepped, next}
 use Rattle.chip.specs.Core.{Core, coreOf, coreNext}

@@ -24,7 +24,7 @@ use Rattle.events.specs.Event.{fits, countsFit, meantOf}
 use Rattle.bus.specs.Bus.{addressed, fed, checked, outed, taken, byteGiven, owing, afterData, afterSum, keeps}
 use Rattle.settings.specs.Write.{settingsWith}
 use Rattle.registers.specs.Write.{shownWith, cellbalWith}
-use Rattle.protection.specs.Rule.{rule, over, under}
+use Rattle.limits.specs.Rule.{rule, over, under}
 use Rattle.bus.specs.declared.Phase.the-variants.{Idle}
 use Rattle.chip.specs.declared.Chip.{Chip}
 use Rattle.chip.specs.declared.Stepped.{Stepped}

@@ -16,7 +16,7 @@ use Rattle.settings.specs.Read.{settingsByte}
 use Rattle.registers.specs.State.{alert}
 use Rattle.registers.specs.Write.{shownWith, cellbalWith}
 use Rattle.registers.specs.Read.{statusByte, readAt, controlByte, cellbalByte, half, wordAt, fixedByte}
-use Rattle.protection.specs.Rule.{rule, over, under, beyond}
+use Rattle.limits.specs.Rule.{rule, over, under, beyond}
 use Rattle.chip.specs.declared.Chip.{Chip}
 use Rattle.chip.specs.declared.Stepped.{Stepped}
 use Rattle.chip.specs.Chip.{storedAt, inShip, happened, stepped, next}

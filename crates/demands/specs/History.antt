@@ -10,7 +10,7 @@ use Rattle.events.specs.Event.{Event, fits}
 use Rattle.events.specs.Fault.{Fault}
 use Rattle.protection.specs.Streak.{lastAll, streak}
 use Rattle.protection.specs.Fault.{runOf}
-use Rattle.protection.specs.Rule.{cap, rule, opinion}
+use Rattle.limits.specs.Rule.{cap, rule, opinion}
 use Rattle.chip.specs.Core.{coreOf, coreNext}
 use Rattle.chip.specs.MovesLaws.{normal-is, setup-next, core-next}
 use Rattle.chip.specs.Calm.{Calmed, ship-calm, calm-next}

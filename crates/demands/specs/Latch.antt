@@ -19,7 +19,8 @@ use Rattle.registers.specs.declared.Shown.{Shown}
 use Rattle.registers.specs.State.{dark, alert, withStatus}
 use Rattle.registers.specs.Write.{statusOf, without, holdsChg, holdsDsg, driven, shownWith}
 use Rattle.registers.specs.Judging.{pulledAt}
-use Rattle.protection.specs.Rule.{rule, risen}
+use Rattle.limits.specs.Rule.{rule}
+use Rattle.protection.specs.Runs.{risen}
 use Rattle.chip.specs.declared.Chip.{Chip}
 use Rattle.chip.specs.Chip.{stored, onBus, normally, next}
 use Rattle.chip.specs.Core.{Core, coreOf}

@@ -23,7 +23,7 @@ use Rattle.registers.specs.State.{dark, alert, withStatus}
 use Rattle.registers.specs.Write.{statusOf, without, holdsChg, holdsDsg, driven, shownWith}
 use Rattle.registers.specs.Judging.{pulledAt}
 use Rattle.registers.specs.Fault.{bitOf, driveOf, raised, overridden, readied, counting}
-use Rattle.protection.specs.Rule.{risen}
+use Rattle.protection.specs.Runs.{risen}
 use Rattle.chip.specs.declared.Chip.{Chip}
 use Rattle.chip.specs.Chip.{stored, onBus, normally, next}
 use Rattle.chip.specs.Core.{coreOf}

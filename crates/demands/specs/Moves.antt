@@ -22,7 +22,7 @@ use Rattle.registers.specs.declared.Measured.{Measured}
 use Rattle.registers.specs.declared.Registers.{Registers}
 use Rattle.registers.specs.State.{dark, reset, alert}
 use Rattle.registers.specs.Fault.{overridden}
-use Rattle.protection.specs.Rule.{risen}
+use Rattle.protection.specs.Runs.{risen}
 use Rattle.demands.specs.Demand.{wrote, chip, core, shown, standing}
 
 -- ── an event by the number of its kind, and what it carries ──

@@ -13,7 +13,7 @@ use Rattle.events.specs.Event.{Event, Scan, Sense, fits, within, senseFits}
 use Rattle.events.specs.Fault.{Ov, Uv, Scd, Ocd}
 use Rattle.bits.specs.Bit.{bit}
 use Rattle.cell_counts.specs.Scan.{someAbove, someBetween}
-use Rattle.protection.specs.Rule.{rule, over, under, beyond, scdLimit, ocdLimit}
+use Rattle.limits.specs.Rule.{rule, over, under, beyond, scdLimit, ocdLimit}
 use Rattle.demands.specs.Demand.{up, Accepted, standing, said, delay, Due}
 use Rattle.demands.specs.Theorem.{rising}
 

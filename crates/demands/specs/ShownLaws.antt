@@ -20,7 +20,7 @@ use Rattle.registers.specs.State.{dark, reset, alert}
 use Rattle.registers.specs.Fault.{raised, overridden, readied, counting}
 use Rattle.registers.specs.Write.{shownWith}
 use Rattle.registers.specs.Judging.{pulledAt}
-use Rattle.protection.specs.Rule.{risen}
+use Rattle.protection.specs.Runs.{risen}
 use Rattle.chip.specs.declared.Chip.{Chip}
 use Rattle.chip.specs.Chip.{onBus, normally, next}
 use Rattle.chip.specs.Calm.{Calmed}

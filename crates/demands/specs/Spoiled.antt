@@ -13,7 +13,7 @@ use Rattle.bus.specs.declared.Phase.the-variants.{Idle, Address, Pointing, Writ
 use Rattle.bus.specs.Bus.{withPhase, addressed, fed, checked, outed, taken, byteGiven, owing, afterData, afterSum, keeps}
 use Rattle.settings.specs.Write.{settingsWith}
 use Rattle.registers.specs.Write.{shownWith, cellbalWith}
-use Rattle.protection.specs.Rule.{rule, over, under}
+use Rattle.limits.specs.Rule.{rule, over, under}
 use Rattle.chip.specs.declared.Chip.{Chip}
 use Rattle.chip.specs.declared.Stepped.{Stepped}
 use Rattle.chip.specs.Chip.{withBus, inShip, storedAt, happened, stepped, next}

@@ -10,7 +10,8 @@ use Rattle.events.specs.Fault.{Fault, Ov, Uv, Scd, Ocd}
 use Rattle.registers.specs.State.{dark}
 use Rattle.registers.specs.Fault.{bitOf}
 use Rattle.protection.specs.StreakLaws.{lastAll-is}
-use Rattle.protection.specs.Rule.{Rule, rule, opinion, someOpinion}
+use Rattle.limits.specs.Rule.{Rule, rule, opinion}
+use Rattle.protection.specs.Runs.{someOpinion}
 use Rattle.chip.specs.declared.Chip.{Chip}
 use Rattle.chip.specs.Chip.{next}
 use Rattle.chip.specs.Core.{bare}

@@ -11,7 +11,7 @@ use Rattle.events.specs.declared.Setup.{Setup}
 use Rattle.events.specs.Event.{Event, Sense, fits, senseFits}
 use Rattle.events.specs.Fault.{Fault, Ov, Uv, Scd, Ocd}
 use Rattle.protection.specs.Streak.{lastAll}
-use Rattle.protection.specs.Rule.{rule, beyond, opinion}
+use Rattle.limits.specs.Rule.{rule, beyond, opinion}
 use Rattle.protection.specs.TablesLaws.{need-fair}
 use Rattle.chip.specs.declared.Stepped.{Stepped}
 use Rattle.chip.specs.Core.{Core}

@@ -17,7 +17,8 @@ use Rattle.registers.specs.LevelLaws.{level-bit}
 use Rattle.protection.specs.Streak.{lastAll, streak, bumps}
 use Rattle.protection.specs.StreakLaws.{bumps-streak}
 use Rattle.protection.specs.Fault.{runOf, runsOf}
-use Rattle.protection.specs.Rule.{Rule, cap, rule, opinion, someOpinion, runAfter, risen}
+use Rattle.limits.specs.Rule.{Rule, cap, rule, opinion}
+use Rattle.protection.specs.Runs.{someOpinion, runAfter, risen}
 use Rattle.protection.specs.TablesLaws.{run-tells}
 use Rattle.chip.specs.declared.Chip.{Chip}
 use Rattle.chip.specs.Chip.{numbered, inShip, onBus, settled, normally, asleep, happened, stepped, next}

@@ -30,7 +30,7 @@ use Rattle.registers.specs.declared.Registers.{Registers}
 use Rattle.registers.specs.State.{withShown}
 use Rattle.registers.specs.Fault.{raised}
 use Rattle.registers.specs.Judging.{scanKept, pulledByLevel}
-use Rattle.protection.specs.Rule.{rule, beyond}
+use Rattle.limits.specs.Rule.{rule, beyond}
 use Rattle.chip.specs.declared.Chip.{Chip}
 use Rattle.chip.specs.declared.Stepped.{Stepped}
 use Rattle.chip.specs.Chip.{numbered, withRegisters}

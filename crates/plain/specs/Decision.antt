@@ -11,7 +11,7 @@ use Rattle.events.specs.Fault.{Ov, Uv, Scd, Ocd}
 use Rattle.cell_counts.specs.Scan.{someAbove, someBetween}
 use Rattle.settings.specs.declared.Settings.{Settings}
 use Rattle.registers.specs.Judging.{scanned}
-use Rattle.protection.specs.Rule.{rule, beyond}
+use Rattle.limits.specs.Rule.{rule, beyond}
 use Rattle.chip.specs.declared.Chip.{Chip}
 use Rattle.chip.specs.declared.Stepped.{Stepped}
 use Rattle.chip.specs.Chip.{numbered, withRegisters, watched}

@@ -23,7 +23,8 @@ use Rattle.protection.specs.declared.Judged.{Judged}
 use Rattle.protection.specs.Streak.{lastAll, streak}
 use Rattle.protection.specs.StreakLaws.{bumps-streak}
 use Rattle.protection.specs.Fault.{runsOf}
-use Rattle.protection.specs.Rule.{cap, rule, over, under, beyond, risen}
+use Rattle.limits.specs.Rule.{cap, rule, over, under, beyond}
+use Rattle.protection.specs.Runs.{risen}
 use Rattle.protection.specs.Judged.{lasts}
 use Rattle.protection.specs.Repeat.{ticksJudged, alike, alike-over, ticks-alike}
 use Rattle.protection.specs.TablesLaws.{need-fair, ended-waits, run-tells}

@@ -27,7 +27,7 @@ use Rattle.records.specs.SoundLaws.{IsSetup, first-setup, Meaning, later-means}
 use Rattle.protection.specs.declared.Runs.{Runs}
 use Rattle.protection.specs.Streak.{streak}
 use Rattle.protection.specs.Fault.{runOf, runsOf}
-use Rattle.protection.specs.Rule.{cap}
+use Rattle.limits.specs.Rule.{cap}
 use Rattle.chip.specs.declared.Chip.{Chip}
 use Rattle.chip.specs.declared.Stepped.{Stepped}
 use Rattle.chip.specs.Chip.{numbered, happened, stepped, ticked, steppedAs, steppedBy}

@@ -64,8 +64,8 @@ fn due_at_scan(s: Settings, looked: Looked, in_a_row: Streaks) -> Faults
 {
     let says_over = s.adc_en & looked.over;
     let says_under = s.adc_en & looked.under;
-    let ov = due(says_over, 1, in_a_row.ov, protection::ov_scans(s));
-    let uv = due(says_under, 1, in_a_row.uv, protection::uv_scans(s));
+    let ov = due(says_over, 1, in_a_row.ov, limits::ov_scans(s));
+    let uv = due(says_under, 1, in_a_row.uv, limits::uv_scans(s));
     Faults {
         ov,
         uv,
@@ -78,10 +78,10 @@ fn due_at_scan(s: Settings, looked: Looked, in_a_row: Streaks) -> Faults
 fn due_at_ticks(s: Settings, value: i32, these: u32, in_a_row: Streaks) -> Faults
     ensures { λ r. ⌜ r ≡ ticksDue s value these «in_a_row» ⌝ }
 {
-    let says_scd = protection::beyond_scd(s, value);
-    let says_ocd = protection::beyond_ocd(s, value);
-    let scd = due(says_scd, these, in_a_row.scd, protection::scd_ticks(s));
-    let ocd = due(says_ocd, these, in_a_row.ocd, protection::ocd_ticks(s));
+    let says_scd = limits::beyond_scd(s, value);
+    let says_ocd = limits::beyond_ocd(s, value);
+    let scd = due(says_scd, these, in_a_row.scd, limits::scd_ticks(s));
+    let ocd = due(says_ocd, these, in_a_row.ocd, limits::ocd_ticks(s));
     Faults {
         ov: false,
         uv: false,
@@ -111,8 +111,8 @@ fn scan(mut chip: Chip, before: &[u8], counts: [u16; 15]) -> Stepped
     let setup = chip.setup;
     let registers = chip.registers;
     let s = registers.settings;
-    let over = protection::over_line(s);
-    let under = protection::under_line(s);
+    let over = limits::over_line(s);
+    let under = limits::under_line(s);
     let looked = cell_counts::look(counts, setup.inputs(), over, setup.floor, under);
     let risen = due_at_scan(s, looked, look_back(before));
     let cells = looked.cells;

@@ -28,7 +28,7 @@ use Rattle.records.specs.Record.{payloadOf, asRead, readOf, countsIn}
 use Rattle.cell_counts.specs.declared.Looked.{Looked}
 use Rattle.cell_counts.specs.Scan.{lookedAt, someAbove, someBetween}
 use Rattle.settings.specs.declared.Settings.{Settings}
-use Rattle.protection.specs.Rule.{rule, over, under, beyond}
+use Rattle.limits.specs.Rule.{rule, over, under, beyond}
 use Rattle.chip.specs.declared.Chip.{Chip}
 use Rattle.chip.specs.declared.Stepped.{Stepped}
 use Rattle.chip.specs.Chip.{inShip, steppedBy}

@@ -30,7 +30,7 @@ use Rattle.chip.specs.declared.Chip.{Chip}
 use Rattle.chip.specs.Chip.{inShip, steppedBy}
 use Rattle.events.specs.Fault.{Ov, Uv, Scd, Ocd}
 use Rattle.protection.specs.Streak.{streak}
-use Rattle.protection.specs.Rule.{rule, over, under, beyond}
+use Rattle.limits.specs.Rule.{rule, over, under, beyond}
 use Rattle.turn.proofs.Runs.{rest-is}
 use Rattle.demands.specs.Demand.{verdicts}
 use Rattle.demands.specs.Aside.{withMeant}

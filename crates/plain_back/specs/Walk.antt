@@ -26,7 +26,7 @@ use Rattle.bits.specs.BoolLaws.{and-left, and-right}
 use Rattle.records.specs.SoundLaws.{Meaning}
 use Rattle.settings.specs.declared.Settings.{Settings}
 use Rattle.protection.specs.Streak.{streak}
-use Rattle.protection.specs.Rule.{Rule, rule, over, under, beyond, opinion}
+use Rattle.limits.specs.Rule.{Rule, rule, over, under, beyond, opinion}
 use Rattle.chip.specs.declared.Chip.{Chip}
 use Rattle.chip.specs.declared.Stepped.{Stepped}
 use Rattle.chip.specs.Chip.{numbered, inShip, settled, normally, asleep, happened, stepped, next, steppedAs, steppedBy}

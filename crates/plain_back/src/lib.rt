@@ -82,8 +82,8 @@ fn scan_said(chip: Chip, counts: [u16; 15], said: Streaks) -> Streaks
     let setup = chip.setup;
     let registers = chip.registers;
     let s = registers.settings;
-    let over = protection::over_line(s);
-    let under = protection::under_line(s);
+    let over = limits::over_line(s);
+    let under = limits::under_line(s);
     let looked = cell_counts::look(counts, setup.inputs(), over, setup.floor, under);
     let ov = go_on(s.adc_en & looked.over, 1, said.ov);
     let uv = go_on(s.adc_en & looked.under, 1, said.uv);
@@ -100,8 +100,8 @@ fn ticks_said(chip: Chip, value: i32, more: u32, said: Streaks) -> Streaks
     }
     let registers = chip.registers;
     let s = registers.settings;
-    let scd = go_on(protection::beyond_scd(s, value), more, said.scd);
-    let ocd = go_on(protection::beyond_ocd(s, value), more, said.ocd);
+    let scd = go_on(limits::beyond_scd(s, value), more, said.scd);
+    let ocd = go_on(limits::beyond_ocd(s, value), more, said.ocd);
     Streaks { scd, ocd, ..said }
 }
 
@@ -232,8 +232,8 @@ fn tick_said(chip: Chip, value: i32, said: Streaks) -> Streaks
     }
     let registers = chip.registers;
     let s = registers.settings;
-    let scd = go_on(protection::beyond_scd(s, value), 1, said.scd);
-    let ocd = go_on(protection::beyond_ocd(s, value), 1, said.ocd);
+    let scd = go_on(limits::beyond_scd(s, value), 1, said.scd);
+    let ocd = go_on(limits::beyond_ocd(s, value), 1, said.ocd);
     Streaks { scd, ocd, ..said }
 }
 

@@ -13,7 +13,8 @@ use Rattle.cell_counts.specs.Scan.{someAbove, someBetween}
 use Rattle.protection.specs.declared.Runs.{Runs}
 use Rattle.protection.specs.declared.Judged.{Judged}
 use Rattle.protection.specs.Streak.{bump}
-use Rattle.protection.specs.Rule.{cap, rule, over, under, beyond, counted, risen}
+use Rattle.limits.specs.Rule.{cap, rule, over, under, beyond}
+use Rattle.protection.specs.Runs.{counted, risen}
 
 abbrev pub judgedBy : ℕ → Settings → Runs → Event → Judged
 judgedBy floor s n e = record { runs = counted floor s n e; risen = faultsOf (risen floor s n e) }

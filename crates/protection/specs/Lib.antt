@@ -1,11 +1,8 @@
 pub mod Streak
 pub mod StreakLaws
 pub mod Fault
-pub mod Rule
-pub mod Sag
+pub mod Runs
 pub mod Judged
-pub mod TicksLaws
 pub mod TablesLaws
 pub mod Laws
 pub mod Repeat
-pub mod LimitsLaws

@@ -13,7 +13,7 @@ use Rattle.settings.specs.declared.Settings.{Settings}
 use Rattle.protection.specs.declared.Runs.{Runs}
 use Rattle.protection.specs.declared.Judged.{Judged}
 use Rattle.protection.specs.Streak.{bumps}
-use Rattle.protection.specs.Rule.{cap, rule, beyond}
+use Rattle.limits.specs.Rule.{cap, rule, beyond}
 use Rattle.protection.specs.Judged.{lasts, tickJudged}
 
 -- that many ticks, each judged after the one before it; what rises is what the last one raises

@@ -13,7 +13,7 @@ use Rattle.events.specs.Fault.{Fault, Ov, Uv, Scd, Ocd}
 use Rattle.settings.specs.declared.Settings.{Settings}
 use Rattle.protection.specs.Streak.{lastAll, streak}
 use Rattle.protection.specs.StreakLaws.{counts}
-use Rattle.protection.specs.Rule.{delayTable, delayCode, short, cap, rule}
+use Rattle.limits.specs.Rule.{delayTable, delayCode, short, cap, rule}
 
 -- each delay is at least 1 and at most the cap
 abbrev pub fair : ℕ → List ℕ → Bool

@@ -14,7 +14,7 @@ use borrow.Author.Tests.{eq-eqb, ne-eqb, le-leb, lt-leb, ltb-true, ltb-false, le
 use Rattle.bits.specs.Bit.{bit}
 use Rattle.events.specs.Fault.{Ov, Uv, Scd, Ocd}
 use Rattle.settings.specs.declared.Settings.{Settings}
-use Rattle.protection.specs.Rule.{scdLimit, ocdLimit, rule}
+use Rattle.limits.specs.Rule.{scdLimit, ocdLimit, rule}
 use Rattle.turn.specs.Entries.{entries}
 use Rattle.turn.specs.Frames.{framesOf}
 use Rattle.turn.specs.CountedLaws.{entries-count}

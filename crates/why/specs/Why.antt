@@ -14,7 +14,7 @@ use Rattle.constants.specs.Answer.{minus}
 use Rattle.bits.specs.Bit.{bit}
 use Rattle.events.specs.Fault.{Ov, Uv, Scd, Ocd}
 use Rattle.settings.specs.declared.Settings.{Settings}
-use Rattle.protection.specs.Rule.{rule}
+use Rattle.limits.specs.Rule.{rule}
 use Rattle.turn.specs.Entries.{entries}
 use Rattle.writer.specs.Write.{wordBytes}
 use Rattle.why_walk.specs.declared.Says.{Says}

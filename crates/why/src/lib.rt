@@ -195,15 +195,15 @@ fn need_of(bit: u8, s: Settings) -> u16
     ensures { λ r. ⌜ r ≡ needOf bit s ⌝ }
 {
     if bit == weight::OV {
-        return protection::ov_scans(s);
+        return limits::ov_scans(s);
     }
     if bit == weight::UV {
-        return protection::uv_scans(s);
+        return limits::uv_scans(s);
     }
     if bit == weight::SCD {
-        return protection::scd_ticks(s);
+        return limits::scd_ticks(s);
     }
-    protection::ocd_ticks(s)
+    limits::ocd_ticks(s)
 }
 
 // The limit that is set, in counts or microvolts.
@@ -211,15 +211,15 @@ fn limit_of(bit: u8, s: Settings) -> u32
     ensures { λ r. ⌜ r ≡ limitOf bit s ⌝ }
 {
     if bit == weight::OV {
-        return protection::over_line(s) as u32;
+        return limits::over_line(s) as u32;
     }
     if bit == weight::UV {
-        return protection::under_line(s) as u32;
+        return limits::under_line(s) as u32;
     }
     if bit == weight::SCD {
-        return protection::scd_limit(s.protect1);
+        return limits::scd_limit(s.protect1);
     }
-    protection::ocd_limit(s.protect1, s.protect2)
+    limits::ocd_limit(s.protect1, s.protect2)
 }
 
 // How long the streak was before the first of the newest `need` verdicts, the next one among them.

@@ -13,7 +13,7 @@ use Rattle.events.specs.Fault.{Fault}
 use Rattle.registers.specs.Fault.{bitOf}
 use Rattle.protection.specs.Streak.{lastAll}
 use Rattle.protection.specs.StreakLaws.{lastAll-is}
-use Rattle.protection.specs.Rule.{rule}
+use Rattle.limits.specs.Rule.{rule}
 use Rattle.chip.specs.declared.Chip.{Chip}
 use Rattle.chip.specs.Chip.{stepped}
 use Rattle.chip.specs.Core.{Core, coreOf}

@@ -18,7 +18,7 @@ use Rattle.settings.specs.declared.Settings.{Settings}
 use Rattle.cell_counts.specs.Scan.{some}
 use Rattle.protection.specs.Streak.{lastAll}
 use Rattle.protection.specs.StreakLaws.{lastAll-is}
-use Rattle.protection.specs.Rule.{rule, over, under, opinion}
+use Rattle.limits.specs.Rule.{rule, over, under, opinion}
 use Rattle.protection.specs.TablesLaws.{need-fair}
 use Rattle.chip.specs.Core.{bare}
 use Rattle.demands.specs.Demand.{ofCells, judges, core, standing, verdicts, delay}

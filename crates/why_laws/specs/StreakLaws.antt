@@ -16,7 +16,7 @@ use Rattle.events.specs.declared.Event.the-variants.{Soak, Wires}
 use Rattle.events.specs.Setup.{inputs}
 use Rattle.events.specs.Fault.{Fault, Ov, Uv, Scd, Ocd}
 use Rattle.settings.specs.declared.Settings.{Settings}
-use Rattle.protection.specs.Rule.{rule, over, under, beyond}
+use Rattle.limits.specs.Rule.{rule, over, under, beyond}
 use Rattle.chip.specs.declared.Chip.{Chip}
 use Rattle.chip.specs.Chip.{steppedBy}
 use Rattle.chip.specs.Core.{coreOf, bare}

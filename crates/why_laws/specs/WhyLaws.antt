@@ -23,7 +23,7 @@ use Rattle.records.specs.declared.Read.{Read}
 use Rattle.records.specs.declared.Read.the-variants.{Record, Refused, Cut}
 use Rattle.records.specs.Record.{readOf, countsBeside}
 use Rattle.protection.specs.Streak.{streak}
-use Rattle.protection.specs.Rule.{rule}
+use Rattle.limits.specs.Rule.{rule}
 use Rattle.chip.specs.declared.Chip.{Chip}
 use Rattle.chip.specs.Core.{Core, bare}
 use Rattle.turn.specs.Entries.{entries}

@@ -23,7 +23,7 @@ use Rattle.records.specs.declared.Read.{Read}
 use Rattle.records.specs.declared.Read.the-variants.{Record, Refused, Cut}
 use Rattle.records.specs.Record.{readOf, countsIn}
 use Rattle.writer.specs.Write.{bits32}
-use Rattle.protection.specs.Rule.{rule, beyond}
+use Rattle.limits.specs.Rule.{rule, beyond}
 use Rattle.chip.specs.declared.Chip.{Chip}
 use Rattle.records.specs.ReadingLaws.{Placed, placed}
 use Rattle.turn.specs.Turn.{Turn, turned, turnOf}

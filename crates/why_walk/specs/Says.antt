@@ -16,7 +16,7 @@ use Rattle.records.specs.declared.Read.{Read}
 use Rattle.records.specs.declared.Read.the-variants.{Record, Refused, Cut}
 use Rattle.records.specs.Record.{readOf, countsBeside}
 use Rattle.writer.specs.Write.{bits32}
-use Rattle.protection.specs.Rule.{rule, beyond}
+use Rattle.limits.specs.Rule.{rule, beyond}
 use Rattle.chip.specs.declared.Chip.{Chip}
 use Rattle.why_walk.specs.declared.Says.{Says}
 

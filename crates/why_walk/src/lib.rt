@@ -121,11 +121,11 @@ fn scan_says(chip: Chip, counts: [u16; 15], bit: u8) -> Says
     let registers = chip.registers;
     let s = registers.settings;
     if bit == weight::OV {
-        let line = protection::over_line(s);
+        let line = limits::over_line(s);
         return scan_of(counts, setup.inputs(), s.adc_en, true, setup.floor, line);
     }
     if bit == weight::UV {
-        let line = protection::under_line(s);
+        let line = limits::under_line(s);
         return scan_of(counts, setup.inputs(), s.adc_en, false, setup.floor, line);
     }
     says_none()
@@ -146,7 +146,7 @@ fn ticks_say(chip: Chip, value: i32, many: u32, bit: u8) -> Says
     let s = registers.settings;
     let none = says_none();
     if bit == weight::SCD {
-        let verdict = protection::beyond_scd(s, value);
+        let verdict = limits::beyond_scd(s, value);
         let value = bits_of(value);
         return Says {
             many,
@@ -156,7 +156,7 @@ fn ticks_say(chip: Chip, value: i32, many: u32, bit: u8) -> Says
         };
     }
     if bit == weight::OCD {
-        let verdict = protection::beyond_ocd(s, value);
+        let verdict = limits::beyond_ocd(s, value);
         let value = bits_of(value);
         return Says {
             many,

@@ -3,7 +3,7 @@ use mathlib.Core.Path.{_≡_, ap, _∙_}
 use mir.Syntax.{w32}
 use mir.Val.{toZ, ofZ}
 use Rattle.events.specs.Fault.{Scd, Ocd}
-use Rattle.protection.specs.Rule.{rule, beyond}
+use Rattle.limits.specs.Rule.{rule, beyond}
 use Rattle.plain.proofs.Cases.{ticks-due}
 use borrow.Author.Needs.{needs}
 use Rattle.plain.proofs.due_at_ticks.Statement.{statement}

@@ -1,0 +1,4 @@
+pub mod Rule
+pub mod Sag
+pub mod TicksLaws
+pub mod LimitsLaws
