@@ -125,7 +125,7 @@ built_library() {
     for part in rlib stamp staticlib; do
         ln -sfn "$root/target/$part" "$room/target/$part"
     done
-    (cd "$room" && rt staticlib "$1")
+    (cd "$room" && in_memory rt staticlib "$1")
 }
 
 # told_library FOLDER NAME SECONDS: it is built, or not.
@@ -173,11 +173,27 @@ in_lane() {
     done
 }
 
+# in_memory WORD..: runs a command that proves. A check of a crate high up lays some 10,000 small files down and removes them again, which takes
+# 2 s of its processor on a disk and a quarter of that in memory. So they go there where it has room, and where a program that rt writes beside
+# them can be run.
+in_memory() (
+    memory=/dev/shm
+    if [[ -z ${TMPDIR-} && -d $memory && -w $memory && ! $(findmnt -no OPTIONS --target "$memory") =~ noexec ]] &&
+        (($(df --output=avail "$memory" | sed 1d) > 6000000)); then
+        TMPDIR=$(mktemp -d "$memory/toralinge.XXXXXX")
+        export TMPDIR
+        trap 'rm -rf "$TMPDIR"' EXIT
+        chmod 711 "$TMPDIR"
+    fi
+    "$@"
+)
+
 # How many checks rt is to start together. It waits for the slowest of them before it starts the next ones, so five for each
-# processor keep all processors busy (three leave one idle for a minute of the gate, one for five); each takes up to 2 GB.
+# processor keep all processors busy (three leave one idle for a minute of the gate, one for five); each takes up to 2 GB, with what it lays
+# down in memory.
 at_a_time() {
     local room jobs
-    room=$(awk '/^MemAvailable:/ { print int($2 / 2000000) }' /proc/meminfo)
+    room=$(awk '/^MemAvailable:/ { print int($2 / 2200000) }' /proc/meminfo)
     jobs=$((5 * $(nproc)))
     ((jobs <= room)) || jobs=$room
     ((jobs >= 1)) || jobs=1
@@ -273,7 +289,7 @@ proved() {
     mkdir -p "$root/target/log"
     left=$(standing_on "$@" | wc -l)
     printf '%s: rt %s proves %d crates where they changed; %s has what it says\n' "$me" "$verb" "$left" "$log" >&2
-    (cd "$root" && RT_JOBS=${RT_JOBS:-$(at_a_time)} rt "$verb" "$@" 2>&1) | tee "$root/$log" | awk -v me="$me" -v left="$left" '
+    (cd "$root" && RT_JOBS=${RT_JOBS:-$(at_a_time)} in_memory rt "$verb" "$@" 2>&1) | tee "$root/$log" | awk -v me="$me" -v left="$left" '
         /^rt: [a-z0-9_]+ proved/ {
             left--
             if ($0 !~ /unchanged/) { printf "%s: %s is proved %s, %d left\n", me, $2, $4 " " $5, left; fflush() }
