@@ -36,8 +36,8 @@ use Rattle.feed.specs.FedLaws.{Keeps, kept-is, keeps-on}
 use Rattle.season_columns.specs.Columns.{couldStand}
 use Rattle.season_columns.specs.Stood.{Stood}
 use Rattle.season_columns.specs.AgreesLaws.{stood-of}
-use Rattle.season_bytes.specs.Layout.{reportBytes, blank, keptAt, keptOf, keptIn}
-use Rattle.season_bytes.specs.TripLaws.{trip, report-length}
+use Rattle.season_bytes_layout.specs.Layout.{reportBytes, blank, keptAt, keptOf, keptIn}
+use Rattle.season_bytes_layout.specs.TripLaws.{trip, report-length}
 use Rattle.season_stream.specs.Scans.{scansFrom, seasonSaid, saidReport}
 use Rattle.season_stream.specs.PiecesLaws.{range-from, lacks-from}
 use Rattle.season_c.specs.Calls.{grownOn, growSaid, growAnswer, keptBytes, Grows}
