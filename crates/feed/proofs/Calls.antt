@@ -13,8 +13,8 @@ use mir.Facts.{toZ-pos}
 use borrow.Author.Tests.{lt-ltb, le-ltb, lt-leb, le-leb}
 use Rattle.chip.specs.declared.Chip.{Chip}
 use Rattle.chip.specs.Calm.{Calmed}
-use Rattle.stream.specs.declared.Left.{Left}
-use Rattle.stream.specs.Stream.{Ran}
+use Rattle.stream_run.specs.declared.Left.{Left}
+use Rattle.stream_run.specs.Stream.{Ran}
 use Rattle.turn.specs.Frames.{framesFrom}
 use Rattle.turn.specs.CountedLaws.{entries-from-count}
 use Rattle.turn.proofs.Runs.{entered-all}

@@ -31,8 +31,8 @@ use Rattle.chip.specs.Calm.{Calmed}
 use Rattle.turn.specs.declared.Entry.{Entry}
 use Rattle.turn.specs.Turn.{Turn, acted, turn, turnOf, entryOf}
 use Rattle.turn.specs.Entries.{runs, stands, stays, entriesFrom, chipFrom, freshFrom, bytesOf}
-use Rattle.stream.specs.Often.{often}
-use Rattle.stream.proofs.Steps.{often-is, done-turn, closes}
+use Rattle.stream_run.specs.Often.{often}
+use Rattle.stream_run.proofs.Steps.{often-is, done-turn, closes}
 use Rattle.chip_bytes_layout.specs.declared.Kept.{Kept}
 use Rattle.chip_bytes_layout.specs.Layout.{keeps, keptOf, goodOf, chipOf, freshOf, keptIn}
 use Rattle.chip_bytes_layout.specs.GoodLaws.{good-keeps}

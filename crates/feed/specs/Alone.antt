@@ -17,7 +17,7 @@ use Rattle.registers.specs.State.{alert}
 use Rattle.registers.specs.Read.{statusByte}
 use Rattle.chip.specs.declared.Chip.{Chip}
 use Rattle.chip.specs.Chip.{happenedBy}
-use Rattle.stream.specs.Often.{often}
+use Rattle.stream_run.specs.Often.{often}
 use Rattle.constants.specs.Size.{«KEPT_CHIP»}
 use Rattle.chip_bytes_layout.specs.Place.{PART}
 use Rattle.chip_bytes_layout.specs.Layout.{goodOf, chipOf, keptIn}

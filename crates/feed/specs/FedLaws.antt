@@ -19,7 +19,7 @@ use Rattle.turn.specs.declared.Entry.{Entry}
 use Rattle.turn.specs.Turn.{none, entryOf, turned, turnOf}
 use Rattle.turn.specs.Entries.{runs, stands, stays, entriesFrom, chipFrom, freshFrom, entries}
 use Rattle.turn.specs.Entries.{entryBytes, bytesOf}
-use Rattle.stream.specs.Stream.{Played}
+use Rattle.stream_run.specs.Stream.{Played}
 use Rattle.turn.specs.Pieces.{joined, fedEntries, fedChip, fedFresh, Whole-pieces, fed-in-pieces, played-in-pieces}
 use Rattle.chip_bytes_layout.specs.declared.Kept.{Kept}
 use Rattle.chip_bytes_layout.specs.Layout.{keeps, noChip, keptAt, keptOf, keptBytes, keptIn}

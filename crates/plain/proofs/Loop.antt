@@ -13,15 +13,15 @@ use mir.Val.{toZ}
 use mir.Facts.{toZ-pos}
 use borrow.Author.Tests.{le-leb, lt-leb}
 use Rattle.chip.specs.declared.Chip.{Chip}
-use Rattle.stream.specs.declared.Left.{Left}
+use Rattle.stream_run.specs.declared.Left.{Left}
 use Rattle.turn.specs.Turn.{none, Turn, turnOf}
 use Rattle.turn.specs.Entries.{noted, entered, entries, entriesFrom}
-use Rattle.stream.specs.Stream.{Ran}
+use Rattle.stream_run.specs.Stream.{Ran}
 use Rattle.chip.specs.Calm.{ship-calm}
 use Rattle.turn.specs.Frames.{framesOf}
 use Rattle.turn.specs.CountedLaws.{entries-count}
 use Rattle.turn.proofs.Runs.{rest-is, entered-all}
-use Rattle.stream.proofs.Loop.{Going, going-none, going-end, going-stop, going-place, going-more}
+use Rattle.stream_run.proofs.Loop.{Going, going-none, going-end, going-stop, going-place, going-more}
 use Rattle.turn.specs.declared.Turned.{Turned}
 use Rattle.turn.specs.TurnedLaws.{asTurn}
 use Rattle.plain_back.specs.Said.{most}

@@ -35,7 +35,7 @@ use Rattle.chip.specs.Calm.{Calmed, ship-calm}
 use Rattle.turn.specs.declared.Entry.{Entry}
 use Rattle.turn.specs.Turn.{none, acted, staysFresh, Turn, turn, turned, turnOf}
 use Rattle.turn.specs.Entries.{runs, stands, entries, lastChip, bytesOf}
-use Rattle.stream.specs.Stream.{Played}
+use Rattle.stream_run.specs.Stream.{Played}
 use Rattle.turn.specs.CalmLaws.{turn-calm}
 use Rattle.turn.specs.PrefixLaws.{same-frame, turn-inside, turn-past}
 use Rattle.demands.specs.Demand.{chip}

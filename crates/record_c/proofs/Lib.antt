@@ -1,5 +1,2 @@
-pub mod Tests
 pub mod Ints
-pub mod Meant
-pub mod Laid
 pub mod Told

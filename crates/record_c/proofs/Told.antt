@@ -19,8 +19,9 @@ use Rattle.records.specs.declared.Read.the-variants.{Record, Refused, Cut}
 use Rattle.writer.specs.Write.{kindFor, recordFor, refusalFor, Puts}
 use Rattle.writer.specs.declared.Wrote.{Wrote}
 use Rattle.writer.specs.declared.Wrote.the-variants.{Done, Refused as Refused-}
-use Rattle.record_c.specs.Values.{valuesFor, partBy, eventBy, countsBy}
-use Rattle.record_c.specs.Calls.{meantBy, writtenBy, wroteAnswer, countedFew, recordSaid, Records, laid, named, namedRead, namedSaid, Names}
+use Rattle.record_event.specs.Values.{partBy, eventBy, countsBy}
+use Rattle.record_values.specs.Named.{laid, named, Names}
+use Rattle.record_c.specs.Calls.{meantBy, writtenBy, wroteAnswer, countedFew, recordSaid, Records, namedRead, namedSaid}
 
 -- ── a record written ──
 few-by : (n : ℕ) (number room : ℕ) (t u : Bool) → leb n room ≡ u → room < 2 ^ 63 → countedFew (cond t (cond u (Done n) (Refused- 5)) (Refused- number))
@@ -56,17 +57,6 @@ module _ (kind part : ℕ) (vs : List ℤ) (x : Payload) (q : x ≡ eventBy kind
       (subst (λ (z : ℤ). Records (writtenBy p e k) old z new) (sym ez) (puts-records (refusalFor e k p) (recordFor e k) old r new u))))
 
 -- ── a record named ──
-module _ (e : Event) (k : Counts) (oldkind : ℕ) (old : List ℤ) (n : ℕ) (q : n ≡ length (valuesFor e k)) where
-  pub named-short : length old < n → Names (gives (named e k)) oldkind old (negsuc 4) oldkind old
-  named-short h =
-      let t : leb (length (valuesFor e k)) (length old) ≡ false = lt-leb (length (valuesFor e k)) (length old) (omega arith) in
-      record { answer = simp t; kind = simp t; contents = simp t }
-
-  pub named-full : n ≤ length old → (z : ℤ) → z ≡ pos n → (newkind : ℕ) → newkind ≡ kindFor e → (new : List ℤ) → new ≡ laid (valuesFor e k) old → Names (gives (named e k)) oldkind old z newkind new
-  named-full h z ez newkind ek new w =
-      let t : leb (length (valuesFor e k)) (length old) ≡ true = le-leb (length (valuesFor e k)) (length old) (omega arith) in
-      record { answer = simp t (ez ∙ ap pos q); kind = simp t ek; contents = simp t w }
-
 module _ (part : ℕ) (r : List ℕ) (oldkind : ℕ) (old : List ℤ) where
   pub named-far : 3 < part → Names (namedSaid part r) oldkind old (negsuc 0) oldkind old
   unfolding namedSaid

@@ -18,7 +18,8 @@ use Rattle.records.specs.declared.Read.the-variants.{Record, Refused, Cut}
 use Rattle.writer.specs.declared.Wrote.{Wrote}
 use Rattle.writer.specs.declared.Wrote.the-variants.{Done, Refused as Refused-}
 use Rattle.writer.specs.Write.{kindFor, recordFor, refusalFor}
-use Rattle.record_c.specs.Values.{valuesFor, partBy, eventBy, countsBy}
+use Rattle.record_event.specs.Values.{partBy, eventBy, countsBy}
+use Rattle.record_values.specs.Named.{laid, Named, named}
 
 -- ── writing ──
 -- an event that the values mean, and what the writer refuses it with
@@ -47,10 +48,6 @@ abbrev pub recordAnswer : Said (List ℕ) → ℕ → ℤ
 recordAnswer (refuses n) room = minus n
 recordAnswer (gives b) room = cond (leb (length b) room) (pos (length b)) (minus «NO_ROOM»)
 
--- what is laid at the start of a buffer, and then what stood there
-abbrev pub laid : {A : Type 0} → List A → List A → List A
-laid b old = b ++ drop (length b) old
-
 abbrev pub recordBytes : Said (List ℕ) → List ℕ → List ℕ
 recordBytes (refuses n) old = old
 recordBytes (gives b) old = cond (leb (length b) (length old)) (laid b old) old
@@ -60,12 +57,6 @@ pub record Records (said : Said (List ℕ)) (old : List ℕ) (r : ℤ) (new : Li
   pub contents : new ≡ recordBytes said old
 
 -- ── reading back ──
-pub record Named : Type 0 where
-  pub kind : ℕ
-  pub values : List ℤ
-
-abbrev pub named : Event → Counts → Named
-named e k = record { kind = kindFor e; values = valuesFor e k }
 
 abbrev pub namedRead : List ℕ → Read → Said Named
 namedRead r (Record e next) = gives (named e (countsBeside r (Record e next)))
@@ -75,20 +66,3 @@ namedRead r Cut = refuses CUT
 -- the record that bytes begin with, at the part that stands, 0 where none does yet; there is no part above 3
 unfoldable pub namedSaid : ℕ → List ℕ → Said Named
 namedSaid part r = cond (leb part 3) (namedRead r (readOf part r)) (refuses «BAD_SETUP»)
-
-abbrev pub namedAnswer : Said Named → ℕ → ℤ
-namedAnswer (refuses n) room = minus n
-namedAnswer (gives v) room = cond (leb (length (v .values)) room) (pos (length (v .values))) (minus «NO_ROOM»)
-
-abbrev pub namedKind : Said Named → ℕ → ℕ → ℕ
-namedKind (refuses n) room old = old
-namedKind (gives v) room old = cond (leb (length (v .values)) room) (v .kind) old
-
-abbrev pub namedValues : Said Named → List ℤ → List ℤ
-namedValues (refuses n) old = old
-namedValues (gives v) old = cond (leb (length (v .values)) (length old)) (laid (v .values) old) old
-
-pub record Names (said : Said Named) (oldkind : ℕ) (old : List ℤ) (r : ℤ) (newkind : ℕ) (new : List ℤ) : Type 0 where
-  pub answer : r ≡ namedAnswer said (length old)
-  pub kind : newkind ≡ namedKind said (length old) oldkind
-  pub contents : new ≡ namedValues said old

@@ -30,10 +30,12 @@ use Rattle.records.specs.declared.Payload.the-variants.{Whole, Unfit}
 use Rattle.records.specs.declared.Read.the-variants.{Record}
 use Rattle.writer.specs.Write.{kindFor, recordFor, refusalFor}
 use Rattle.writer.specs.TripLaws.{standsFor, read-back, beside-back}
-use Rattle.record_c.specs.Values.{valuesFor, setupValues, countValues, natOf, valueAt, natAt, byteOf, wordOf, setupBy, bareBy}
-use Rattle.record_c.specs.Values.{countedBy, senseBy, repeatBy, laterBy, partBy, eventBy}
-use Rattle.record_c.specs.Values.{countOf, countsAt, countsBy}
-use Rattle.record_c.specs.Calls.{meantBy, recordSaid, Records, Named, named, namedRead, namedSaid, Names}
+use Rattle.record_numbers.specs.Values.{natOf, valueAt, natAt, byteOf, wordOf}
+use Rattle.record_payload.specs.Values.{setupBy, bareBy, countedBy, senseBy, repeatBy}
+use Rattle.record_event.specs.Values.{laterBy, partBy, eventBy, countOf, countsAt, countsBy}
+use Rattle.record_values.specs.Values.{valuesFor, setupValues, countValues}
+use Rattle.record_values.specs.Named.{Named, named, Names}
+use Rattle.record_c.specs.Calls.{meantBy, recordSaid, Records, namedRead, namedSaid}
 
 -- ── what an event that values mean says of them: its kind and its values are these ──
 pub record Back (kind : ℕ) (vs : List ℤ) (e : Event) : Type 0 where

@@ -33,11 +33,15 @@ use Rattle.chip_bytes_layout.specs.OneLaws.{Stood as ChipStood}
 use Rattle.feed.specs.Fed.{Fed}
 use Rattle.feed.specs.KeptLaws.{from-stands}
 use Rattle.feed.specs.FedLaws.{Keeps, kept-is, keeps-on}
-use Rattle.season_bytes.specs.Layout.{reportBytes, couldStand, blank, keptAt, keptOf, keptIn}
-use Rattle.season_bytes.specs.TripLaws.{Stood, trip, report-length}
-use Rattle.season_bytes.specs.AgreesLaws.{stood-of}
-use Rattle.season_stream.specs.Scans.{scansFrom, seasonSaid, saidReport}
-use Rattle.season_stream.specs.PiecesLaws.{range-from, lacks-from}
+use Rattle.season_columns.specs.Columns.{couldStand}
+use Rattle.season_columns.specs.Stood.{Stood}
+use Rattle.season_columns.specs.AgreesLaws.{stood-of}
+use Rattle.season_bytes_layout.specs.Layout.{reportBytes, blank, keptAt, keptOf, keptIn}
+use Rattle.season_bytes_layout.specs.TripLaws.{trip, report-length}
+use Rattle.season_rows.specs.Rows.{saidReport}
+use Rattle.season_walk.specs.Scans.{scansFrom}
+use Rattle.season_stream.specs.Scans.{seasonSaid}
+use Rattle.season_walk.specs.PiecesLaws.{range-from, lacks-from}
 use Rattle.season_c.specs.Calls.{grownOn, growSaid, growAnswer, keptBytes, Grows}
 use Rattle.season_c.specs.CallsLaws.{same-grown, season-grown}
 use Rattle.season_c.specs.BytesLaws.{zero-report}

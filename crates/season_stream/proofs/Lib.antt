@@ -1,4 +1,1 @@
-pub mod Cases
-pub mod Going
-pub mod Laid
-pub mod Given
+pub mod Whole

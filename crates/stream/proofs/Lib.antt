@@ -1,4 +1,2 @@
-pub mod Steps
-pub mod Loop
-pub mod Counting
+pub mod Calls
 pub mod Doubles

@@ -11,7 +11,7 @@ use Rattle.values.specs.SameLaws.{same-reading}
 use Rattle.values.specs.declared.Reading.{Reading}
 use Rattle.chip.specs.declared.Chip.{Chip}
 use Rattle.turn.specs.Entries.{lastChip}
-use Rattle.stream.specs.Stream.{Played}
+use Rattle.stream_run.specs.Stream.{Played}
 use Rattle.stream.specs.Forecast.{isGiven, Contents, Read4}
 
 -- two that equal a third

@@ -338,7 +338,7 @@ pub extern "C" fn toralinge_why(bytes: &[u8], number: u64, bit: u32, row: &mut [
     if STREAM_MOST < bytes.len() {
         return answer::TOO_LONG;
     }
-    if stream::count(bytes) as u64 <= number {
+    if stream_count::count(bytes) as u64 <= number {
         return answer::NO_RECORD;
     }
     let weight = known_bit(bit);
@@ -397,7 +397,7 @@ fn is_drive(drive: u32) -> bool
 pub extern "C" fn toralinge_off(bytes: &[u8], number: u64, drive: u32, row: &mut [u8]) -> i64
     ensures { λ r. ⌜ Held (now (bytes .entry)) number drive (now (row .entry)) r (now (row .exit)) ⌝ }
 {
-    if stream::count(bytes) as u64 <= number {
+    if stream_count::count(bytes) as u64 <= number {
         return answer::NO_RECORD;
     }
     if !is_drive(drive) {

@@ -1,6 +1,6 @@
 -- The chip that a stream leaves, by a run from none.
 use Rattle.turn.specs.Entries.{chipFrom, lastChip}
-use Rattle.stream.proofs.Loop.{none-calm, from-none}
+use Rattle.stream.proofs.Calls.{none-calm, from-none}
 use borrow.Author.Needs.{needs}
 use Rattle.stream.proofs.end.last_chip.Statement.{statement}
 use Rattle.stream.proofs.end.last_chip.Tie as tie

@@ -1,0 +1,3 @@
+pub mod Ints
+pub mod Laid
+pub mod Told

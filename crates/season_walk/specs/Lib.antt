@@ -1,0 +1,5 @@
+pub mod Scans
+pub mod SettledLaws
+pub mod PiecesLaws
+pub mod EventsLaws
+pub mod BegunLaws
