@@ -36,10 +36,11 @@ use Rattle.why_walk.specs.declared.Says.{Says}
 use Rattle.why_walk.specs.declared.Standing.{Standing}
 use Rattle.why_walk.specs.Says.{saysRead, saysIn, eventSays}
 use Rattle.why_walk.specs.Standing.{standingAt}
+use Rattle.causes.specs.declared.Why.{Why}
+use Rattle.causes.specs.Cause.{isJudged, causeOf, needOf, limitOf}
 use Rattle.why.specs.declared.Rose.{Rose}
-use Rattle.why.specs.declared.Why.{Why}
 use Rattle.why.specs.Rise.{risen}
-use Rattle.why.specs.Why.{isJudged, causeOf, needOf, limitOf, leastOf, judged, unjudged, whyOf}
+use Rattle.why.specs.Why.{leastOf, judged, unjudged, whyOf}
 use Rattle.why_laws.specs.RiseLaws.{shownIn, RoseAt, bit-rose, bit-stood}
 use Rattle.why_laws.specs.StreakLaws.{says-bare}
 use Rattle.why_laws.specs.AlongLaws.{says-in, Along, along, heard-next}

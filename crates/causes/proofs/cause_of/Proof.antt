@@ -2,9 +2,9 @@
 use mathlib.Core.Path.{refl}
 use mathlib.Core.Bool.{true, false}
 use borrow.Author.Tests.{eq-eqb, ne-eqb}
-use Rattle.why.proofs.Cases.{cause-as}
-use Rattle.why.proofs.cause_of.Statement.{statement}
-use Rattle.why.proofs.cause_of.Tie as tie
+use Rattle.causes.proofs.Cases.{cause-as}
+use Rattle.causes.proofs.cause_of.Statement.{statement}
+use Rattle.causes.proofs.cause_of.Tie as tie
 
 returns : tie.Need-returns
 returns c = let a = c .before .args in cause-as (a .bit) (a .pin) true _ _ _ _ (c .if1 .taken) refl refl refl refl

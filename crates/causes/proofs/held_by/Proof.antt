@@ -3,10 +3,10 @@ use mathlib.Core.Path.{_∙_}
 use mathlib.Core.Bool.{true, false}
 use Prim.Native.Nat.{_+_}
 use borrow.Author.Tests.{eq-eqb, ne-eqb}
-use Rattle.why.proofs.Cases.{held-as}
+use Rattle.causes.proofs.Cases.{held-as}
 use borrow.Author.Needs.{needs}
-use Rattle.why.proofs.held_by.Statement.{statement}
-use Rattle.why.proofs.held_by.Tie as tie
+use Rattle.causes.proofs.held_by.Statement.{statement}
+use Rattle.causes.proofs.held_by.Tie as tie
 
 returns : tie.Need-returns
 returns c =

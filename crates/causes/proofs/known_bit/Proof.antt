@@ -1,8 +1,8 @@
 -- One of the seven, or none.
 use native.Mathlib.Omega.{arith}
-use Rattle.why.proofs.Cases.{known-small, known-is, known-none}
-use Rattle.why.proofs.known_bit.Statement.{statement}
-use Rattle.why.proofs.known_bit.Tie as tie
+use Rattle.causes.proofs.Cases.{known-small, known-is, known-none}
+use Rattle.causes.proofs.known_bit.Statement.{statement}
+use Rattle.causes.proofs.known_bit.Tie as tie
 
 cast-result : tie.Need-cast-result
 cast-result c = omega (arith, known-small (c .before .args .bit) (c .if1 .taken))
