@@ -33,10 +33,10 @@ use Rattle.chip.specs.declared.Chip.{Chip}
 use Rattle.chip.specs.declared.Stepped.{Stepped}
 use Rattle.chip.specs.Chip.{inShip, steppedBy}
 use Rattle.chip.specs.Core.{coreOf, bare}
-use Rattle.plain_back.specs.declared.Streaks.{Streaks}
+use Rattle.plain_due.specs.declared.Streaks.{Streaks}
 use Rattle.plain_back.specs.declared.Walk.{Walk}
 use Rattle.plain_back.specs.declared.Passed.{Passed}
-use Rattle.plain_back.specs.Said.{noStreaks}
+use Rattle.plain_due.specs.Streaks.{noStreaks}
 use Rattle.plain_back.specs.Walk.{goesOn, scanIn, ticksIn, scanSaid, ticksSaid, movedBy, walkedBy, passed, passedOn}
 
 -- ── in SHIP, and in NORMAL ──

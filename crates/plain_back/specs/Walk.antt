@@ -35,12 +35,12 @@ use Rattle.chip.specs.MovesLaws.{setup-next}
 use Rattle.demands.specs.Demand.{core, standing, verdicts}
 use Rattle.demands.specs.History.{asleep-none}
 use Rattle.demands.specs.Aside.{withMeant}
-use Rattle.plain_back.specs.declared.Streaks.{Streaks}
+use Rattle.plain_due.specs.declared.Streaks.{Streaks}
 use Rattle.plain_back.specs.declared.Walk.{Walk}
 use Rattle.plain_back.specs.declared.Passed.{Passed}
 use Rattle.plain_back.specs.declared.Tick.{Tick}
 use Rattle.plain_back.specs.declared.Tick.the-variants.{Of, Not}
-use Rattle.plain_back.specs.Said.{streaksOf, noStreaks}
+use Rattle.plain_due.specs.Streaks.{streaksOf, noStreaks}
 
 -- ── what one record adds ──
 -- verdicts that are all alike, one at least

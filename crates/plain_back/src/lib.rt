@@ -6,7 +6,7 @@ ghost use Prim.Native.Nat.{_≤_, _^_};
 ghost use lib.ListN.{length, take};
 ghost use Rattle.events.specs.Setup.{inputs};
 ghost use Rattle.chip.specs.Core.{coreOf, bare};
-ghost use Rattle.plain_back.specs.Said.{noStreaks, streaksIn, saidBack, backSaid};
+ghost use Rattle.plain_back.specs.Said.{streaksIn, saidBack, backSaid};
 ghost use Rattle.plain_back.specs.Walk.{Small, goesOn, scanSaid, ticksSaid, scannedBy, tickedBy, movedBy, walkedBy, passedOn, TickIn};
 use bus::Bus;
 use chip::Chip;
@@ -15,18 +15,11 @@ use constants::range;
 use events::Counts;
 use events::Event;
 use events::Setup;
+use plain_due::Streaks;
 use records::Framed;
 use records::Payload;
 use records::Read;
 use registers::Registers;
-
-// For each fault, how many of the newest verdicts of this waking spell are true, up to the first that is not.
-pub struct Streaks {
-    pub ov: u64,
-    pub uv: u64,
-    pub scd: u64,
-    pub ocd: u64,
-}
 
 pub enum Back {
     Is(Streaks),
@@ -50,17 +43,6 @@ pub enum Tick {
 pub struct Passed {
     pub walk: Walk,
     pub next: usize,
-}
-
-fn none_said() -> Streaks
-    ensures { λ r. ⌜ r ≡ noStreaks ⌝ }
-{
-    Streaks {
-        ov: 0,
-        uv: 0,
-        scd: 0,
-        ocd: 0,
-    }
 }
 
 // More verdicts that are all alike: a streak goes on by them, or is over.
@@ -156,7 +138,7 @@ fn moved(walk: Walk, event: Event, counts: Counts) -> Walk
         let said = walk.said;
         return Walk { chip, said };
     }
-    let said = none_said();
+    let said = plain_due::none_said();
     Walk { chip, said }
 }
 
@@ -244,13 +226,13 @@ fn walk_over(s: &[u8]) -> Streaks
 {
     let first = records::read_rest(s, 0);
     let Read::Record { event, next } = first else {
-        return none_said();
+        return plain_due::none_said();
     };
     let Event::Setup(setup) = event else {
-        return none_said();
+        return plain_due::none_said();
     };
     let chip = chip::in_ship(setup);
-    let said = none_said();
+    let said = plain_due::none_said();
     let mut walk = Walk { chip, said };
     let mut at = next;
     while at < s.len() {

@@ -1,8 +1,8 @@
 -- These alone, or with those before.
-use Rattle.plain.proofs.Cases.{due-now, due-back}
+use Rattle.plain_due.proofs.Cases.{due-now, due-back}
 use borrow.Author.Needs.{needs}
-use Rattle.plain.proofs.due.Statement.{statement}
-use Rattle.plain.proofs.due.Tie as tie
+use Rattle.plain_due.proofs.due.Statement.{statement}
+use Rattle.plain_due.proofs.due.Tie as tie
 
 returns : tie.Need-returns
 returns c = let a = c .before .args in due-now (a .says-yes) (a .these) (a .in-a-row-before) (a .asked-for) (c .if1 .taken)

@@ -1,8 +1,8 @@
 -- OV and UV, each by its delay.
-use Rattle.plain.proofs.Cases.{scan-due}
+use Rattle.plain_due.proofs.Cases.{scan-due}
 use borrow.Author.Needs.{needs}
-use Rattle.plain.proofs.due_at_scan.Statement.{statement}
-use Rattle.plain.proofs.due_at_scan.Tie as tie
+use Rattle.plain_due.proofs.due_at_scan.Statement.{statement}
+use Rattle.plain_due.proofs.due_at_scan.Tie as tie
 
 returns : tie.Need-returns
 returns c =

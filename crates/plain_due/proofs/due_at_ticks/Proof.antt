@@ -4,10 +4,10 @@ use mir.Syntax.{w32}
 use mir.Val.{toZ, ofZ}
 use Rattle.events.specs.Fault.{Scd, Ocd}
 use Rattle.limits.specs.Rule.{rule, beyond}
-use Rattle.plain.proofs.Cases.{ticks-due}
+use Rattle.plain_due.proofs.Cases.{ticks-due}
 use borrow.Author.Needs.{needs}
-use Rattle.plain.proofs.due_at_ticks.Statement.{statement}
-use Rattle.plain.proofs.due_at_ticks.Tie as tie
+use Rattle.plain_due.proofs.due_at_ticks.Statement.{statement}
+use Rattle.plain_due.proofs.due_at_ticks.Tie as tie
 
 returns : tie.Need-returns
 returns c =
