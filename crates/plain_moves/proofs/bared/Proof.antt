@@ -1,8 +1,8 @@
 -- Every part but three is that of SHIP.
-use Rattle.plain_back.proofs.Cases.{bare-is}
+use Rattle.plain_moves.proofs.Cases.{bare-is}
 use borrow.Author.Needs.{needs}
-use Rattle.plain_back.proofs.bared.Statement.{statement}
-use Rattle.plain_back.proofs.bared.Tie as tie
+use Rattle.plain_moves.proofs.bared.Statement.{statement}
+use Rattle.plain_moves.proofs.bared.Tie as tie
 
 returns : tie.Need-returns
 returns c =

@@ -1,8 +1,8 @@
 -- An event that says nothing.
-use Rattle.plain_back.proofs.Cases.{moved-awake, moved-asleep}
+use Rattle.plain_moves.proofs.Cases.{moved-awake, moved-asleep}
 use borrow.Author.Needs.{needs}
-use Rattle.plain_back.proofs.moved.Statement.{statement}
-use Rattle.plain_back.proofs.moved.Tie as tie
+use Rattle.plain_moves.proofs.moved.Statement.{statement}
+use Rattle.plain_moves.proofs.moved.Tie as tie
 
 returns : tie.Need-returns
 returns c =
