@@ -23,7 +23,7 @@ use Rattle.causes.specs.declared.Why.{Why}
 use Rattle.causes.specs.Cause.{isJudged, causeOf, needOf, limitOf, knownBit}
 use Rattle.causes.specs.Hold.{heldBy, isDrive}
 use Rattle.causes.specs.Row.{whyWords, offWords}
-use Rattle.why_walk.specs.declared.Says.{Says}
+use Rattle.why_scan.specs.declared.Says.{Says}
 use Rattle.why_walk.specs.declared.Standing.{Standing}
 use Rattle.why_walk.specs.Says.{saysIn}
 use Rattle.why_walk.specs.Standing.{begun, advanced, standingAt}

@@ -17,7 +17,7 @@ use Rattle.causes.specs.declared.Why.{Why}
 use Rattle.causes.specs.Cause.{isJudged, causeOf, needOf, limitOf, knownBit}
 use Rattle.causes.specs.Row.{whyWords}
 use Rattle.writer.specs.Write.{wordBytes}
-use Rattle.why_walk.specs.declared.Says.{Says}
+use Rattle.why_scan.specs.declared.Says.{Says}
 use Rattle.why_walk.specs.Says.{saysIn}
 use Rattle.why.specs.declared.Rose.{Rose}
 use Rattle.why.specs.Rise.{risen, searched}

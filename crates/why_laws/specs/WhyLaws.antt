@@ -32,7 +32,7 @@ use Rattle.demands.specs.History.{setup-is, core-is}
 use Rattle.demands.specs.Wired.{celled}
 use Rattle.demands.specs.Streams.{heardNext, a-part}
 use Rattle.demands.specs.BytesLaws.{noEntry, place, status-bit, heardTo, entry-shows}
-use Rattle.why_walk.specs.declared.Says.{Says}
+use Rattle.why_scan.specs.declared.Says.{Says}
 use Rattle.why_walk.specs.declared.Standing.{Standing}
 use Rattle.why_walk.specs.Says.{saysRead, saysIn, eventSays}
 use Rattle.why_walk.specs.Standing.{standingAt}

@@ -8,8 +8,8 @@ use borrow.Author.Tests.{lt-ltb, le-ltb}
 use lib.Dec.{ltb}
 use lib.ListN.{length, take, getD, length-take, List·getD-eq-default}
 use lib.Seq.{getD-take}
-use Rattle.why_walk.proofs.count_at.Statement.{statement}
-use Rattle.why_walk.proofs.count_at.Tie as tie
+use Rattle.why_scan.proofs.count_at.Statement.{statement}
+use Rattle.why_scan.proofs.count_at.Tie as tie
 
 returns : tie.Need-returns
 returns c =

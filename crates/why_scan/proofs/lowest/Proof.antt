@@ -5,10 +5,10 @@ use native.Mathlib.Omega.{arith}
 use borrow.Author.Needs.{needs}
 use lib.ListN.{length, take}
 use Rattle.cell_counts.specs.PaddedLaws.{take-min}
-use Rattle.why_walk.specs.Says.{isOutside, lowest}
-use Rattle.why_walk.proofs.Cases.{lowest-next}
-use Rattle.why_walk.proofs.lowest.Statement.{statement}
-use Rattle.why_walk.proofs.lowest.Tie as tie
+use Rattle.why_scan.specs.Scan.{isOutside, lowest}
+use Rattle.why_scan.proofs.Cases.{lowest-next}
+use Rattle.why_scan.proofs.lowest.Statement.{statement}
+use Rattle.why_scan.proofs.lowest.Tie as tie
 
 abbrev Inv-loop : tie.InvT-loop
 Inv-loop inputs over floor line counts n found₀ i₀ found i = (i ≤ n) × (found ≡ lowest (isOutside over floor line) 1 (take i counts)) × (found ≤ i)

@@ -1,6 +1,6 @@
 -- Above, or between.
-use Rattle.why_walk.proofs.outside.Statement.{statement}
-use Rattle.why_walk.proofs.outside.Tie as tie
+use Rattle.why_scan.proofs.outside.Statement.{statement}
+use Rattle.why_scan.proofs.outside.Tie as tie
 
 returns : tie.Need-returns
 returns c = simp (c .if1 .taken)

@@ -1,7 +1,7 @@
 -- What was found, else one more.
 use native.Mathlib.Omega.{arith}
-use Rattle.why_walk.proofs.kept.Statement.{statement}
-use Rattle.why_walk.proofs.kept.Tie as tie
+use Rattle.why_scan.proofs.kept.Statement.{statement}
+use Rattle.why_scan.proofs.kept.Tie as tie
 
 returns : tie.Need-returns
 returns c = (rw (c .if1 .taken), omega arith)

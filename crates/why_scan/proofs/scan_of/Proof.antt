@@ -1,10 +1,10 @@
 -- One verdict, by the lowest input outside.
-use Rattle.why_walk.specs.Says.{isOutside}
+use Rattle.why_scan.specs.Scan.{isOutside}
 use lib.ListN.{take}
-use Rattle.why_walk.proofs.Cases.{scan-is}
+use Rattle.why_scan.proofs.Cases.{scan-is}
 use borrow.Author.Needs.{needs}
-use Rattle.why_walk.proofs.scan_of.Statement.{statement}
-use Rattle.why_walk.proofs.scan_of.Tie as tie
+use Rattle.why_scan.proofs.scan_of.Statement.{statement}
+use Rattle.why_scan.proofs.scan_of.Tie as tie
 
 returns : tie.Need-returns
 returns c =
