@@ -1,7 +1,7 @@
 -- By the streak before this record.
-use Rattle.why.proofs.Cases.{search-new, search-old}
-use Rattle.why.proofs.searched_on.Statement.{statement}
-use Rattle.why.proofs.searched_on.Tie as tie
+use Rattle.why_rise.proofs.Cases.{search-new, search-old}
+use Rattle.why_rise.proofs.searched_on.Statement.{statement}
+use Rattle.why_rise.proofs.searched_on.Tie as tie
 
 returns : tie.Need-returns
 returns c = let a = c .before .before .before .args in search-new (a .least) (a .n) (a .next) (a .from) (c .if1 .taken)

@@ -1,8 +1,8 @@
 -- By whether it came to be so at this record.
-use Rattle.why.proofs.Cases.{rose-new, rose-old}
+use Rattle.why_rise.proofs.Cases.{rose-new, rose-old}
 use borrow.Author.Needs.{needs}
-use Rattle.why.proofs.rose_on.Statement.{statement}
-use Rattle.why.proofs.rose_on.Tie as tie
+use Rattle.why_rise.proofs.rose_on.Statement.{statement}
+use Rattle.why_rise.proofs.rose_on.Tie as tie
 
 returns : tie.Need-returns
 returns c = let a = c .before .before .before .before .args in rose-new (a .bit) (a .drive) (a .n) (a .next) (a .from) (c .before .before .is-such .ensures) (c .before .is-such2 .ensures) (c .if1 .taken)
