@@ -1,3 +1,2 @@
 pub mod Cause
 pub mod Hold
-pub mod Row

@@ -1,10 +1,8 @@
-// CHIP P17 and P18: what raised a bit of SYS_STAT, by its weight, with the delay and limit that are set; which bits hold a drive off; and the rows that tell it, in
-// numbers. Nothing of a stream.
+// CHIP P17 and P18: what raised a bit of SYS_STAT, by its weight, with the delay and limit that are set; which bits hold a drive off. Nothing of a stream.
 ghost use mathlib.Core.Path.{_≡_};
 ghost use Prim.Native.Nat.{_≤_};
 ghost use Rattle.causes.specs.Cause.{isJudged, causeOf, needOf, limitOf, knownBit};
 ghost use Rattle.causes.specs.Hold.{heldBit, heldBy, isDrive};
-ghost use Rattle.causes.specs.Row.{whyWords, offWords};
 use constants::weight;
 use settings::Settings;
 
@@ -28,27 +26,6 @@ const BIT_CC_READY: u32 = weight::CC_READY as u32;
 const DRIVE_DSG: u32 = weight::PIN_DSG as u32;
 
 const DRIVE_CHG: u32 = weight::PIN_CHG as u32;
-
-// How many numbers of 16 bits there are, and of 32 and 48: a row is put in numbers of two bytes.
-const TO_16: u64 = 65536;
-
-const HALF: u32 = 65536;
-
-const TO_32: u64 = 4294967296;
-
-const TO_48: u64 = 281474976710656;
-
-// Why a bit rose: the record, that of the first of the verdicts that made it due, the cause, how many verdicts, and the limit, input and count or value (32 bits) of
-// the last of them.
-pub struct Why {
-    pub rose: u64,
-    pub first: u64,
-    pub cause: u32,
-    pub many: u32,
-    pub limit: u32,
-    pub input: u32,
-    pub value: u32,
-}
 
 // OV, UV, SCD and OCD.
 pub fn is_judged(bit: u8) -> bool
@@ -149,43 +126,4 @@ pub fn is_drive(drive: u32) -> bool
     ensures { λ r. ⌜ r ≡ isDrive drive ⌝ }
 {
     (drive == DRIVE_DSG) | (drive == DRIVE_CHG)
-}
-
-// A row in numbers of two bytes, the low ones first.
-pub fn why_words(why: Why) -> [u16; 18]
-    ensures { λ r. ⌜ r ≡ whyWords why ⌝ }
-{
-    [
-        (why.rose % TO_16) as u16,
-        (why.rose / TO_16 % TO_16) as u16,
-        (why.rose / TO_32 % TO_16) as u16,
-        (why.rose / TO_48 % TO_16) as u16,
-        (why.first % TO_16) as u16,
-        (why.first / TO_16 % TO_16) as u16,
-        (why.first / TO_32 % TO_16) as u16,
-        (why.first / TO_48 % TO_16) as u16,
-        (why.cause % HALF) as u16,
-        (why.cause / HALF) as u16,
-        (why.many % HALF) as u16,
-        (why.many / HALF) as u16,
-        (why.limit % HALF) as u16,
-        (why.limit / HALF) as u16,
-        (why.input % HALF) as u16,
-        (why.input / HALF) as u16,
-        (why.value % HALF) as u16,
-        (why.value / HALF) as u16,
-    ]
-}
-
-pub fn off_words(since: u64, held: u8) -> [u16; 6]
-    ensures { λ r. ⌜ r ≡ offWords since held ⌝ }
-{
-    [
-        (since % TO_16) as u16,
-        (since / TO_16 % TO_16) as u16,
-        (since / TO_32 % TO_16) as u16,
-        (since / TO_48 % TO_16) as u16,
-        held as u16,
-        0,
-    ]
 }

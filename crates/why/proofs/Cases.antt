@@ -19,10 +19,10 @@ use Rattle.turn.specs.CountedLaws.{entries-count}
 use Rattle.turn.proofs.Runs.{rest-is}
 use Rattle.writer.specs.Write.{wordBytes}
 use Rattle.writer.specs.BytesLaws.{words-length}
-use Rattle.causes.specs.declared.Why.{Why}
+use Rattle.why_rows.specs.declared.Why.{Why}
 use Rattle.causes.specs.Cause.{isJudged, causeOf, needOf, limitOf, knownBit}
 use Rattle.causes.specs.Hold.{heldBy, isDrive}
-use Rattle.causes.specs.Row.{whyWords, offWords}
+use Rattle.why_rows.specs.Row.{whyWords, offWords}
 use Rattle.why_scan.specs.declared.Says.{Says}
 use Rattle.why_walk.specs.declared.Standing.{Standing}
 use Rattle.why_walk.specs.Says.{saysIn}

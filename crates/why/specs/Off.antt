@@ -2,7 +2,7 @@
 use mathlib.Core.Path.{_≡_}
 use mathlib.Core.Bool.{cond}
 use mathlib.Core.List.{List, _++_}
-use Prim.Native.Nat.{ℕ, suc, _+_}
+use Prim.Native.Nat.{ℕ, suc}
 use lib.Dec.{eqb, leb, ltb}
 use lib.IntN.{ℤ}
 use lib.ListN.{length, drop}
@@ -12,7 +12,7 @@ use Rattle.constants.specs.Answer.{minus}
 use Rattle.bits.specs.Bit.{bit}
 use Rattle.turn.specs.Entries.{entries}
 use Rattle.causes.specs.Hold.{heldBy, isDrive}
-use Rattle.causes.specs.Row.{offWords}
+use Rattle.why_rows.specs.Row.{offWords}
 use Rattle.writer.specs.Write.{wordBytes}
 use Rattle.why_rise.specs.declared.Rose.{Rose}
 use Rattle.why_rise.specs.Rise.{risen}

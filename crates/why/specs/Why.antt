@@ -3,7 +3,7 @@
 use mathlib.Core.Path.{_≡_}
 use mathlib.Core.Bool.{cond}
 use mathlib.Core.List.{List, _++_}
-use Prim.Native.Nat.{ℕ, suc, _+_, _-_}
+use Prim.Native.Nat.{ℕ, suc, _-_}
 use lib.Dec.{eqb, leb, ltb}
 use lib.IntN.{ℤ}
 use lib.ListN.{length, drop}
@@ -13,9 +13,9 @@ use Rattle.constants.specs.Answer.{minus}
 use Rattle.bits.specs.Bit.{bit}
 use Rattle.settings.specs.declared.Settings.{Settings}
 use Rattle.turn.specs.Entries.{entries}
-use Rattle.causes.specs.declared.Why.{Why}
+use Rattle.why_rows.specs.declared.Why.{Why}
 use Rattle.causes.specs.Cause.{isJudged, causeOf, needOf, limitOf, knownBit}
-use Rattle.causes.specs.Row.{whyWords}
+use Rattle.why_rows.specs.Row.{whyWords}
 use Rattle.writer.specs.Write.{wordBytes}
 use Rattle.why_scan.specs.declared.Says.{Says}
 use Rattle.why_walk.specs.Says.{saysIn}

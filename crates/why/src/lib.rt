@@ -7,11 +7,11 @@ ghost use Rattle.writer.specs.Write.{wordBytes};
 ghost use Rattle.why_rise.specs.Rise.{risen, searched, Few};
 ghost use Rattle.why.specs.Why.{leastOf, whyOf, Explained};
 ghost use Rattle.why.specs.Off.{Held};
-use causes::Why;
 use constants::answer;
 use constants::size;
 use why_rise::Found;
 use why_rise::Rose;
+use why_rows::Why;
 
 // Streams that are longer are refused by `toralinge_why`: its streaks are counted in 64 bits.
 const STREAM_MOST: usize = 4294967295;
@@ -143,7 +143,7 @@ pub extern "C" fn toralinge_why(bytes: &[u8], number: u64, bit: u32, row: &mut [
     if row.len() < size::WHY_ROW {
         return answer::NO_ROOM;
     }
-    let words = causes::why_words(why_of(bytes, weight, found));
+    let words = why_rows::why_words(why_of(bytes, weight, found));
     put_words(row, &words);
     0
 }
@@ -169,7 +169,7 @@ pub extern "C" fn toralinge_off(bytes: &[u8], number: u64, drive: u32, row: &mut
     if row.len() < size::OFF_ROW {
         return answer::NO_ROOM;
     }
-    let words = causes::off_words(found.rose, causes::held_by(last.stat, pin));
+    let words = why_rows::off_words(found.rose, causes::held_by(last.stat, pin));
     put_words(row, &words);
     0
 }

@@ -36,7 +36,7 @@ use Rattle.why_scan.specs.declared.Says.{Says}
 use Rattle.why_walk.specs.declared.Standing.{Standing}
 use Rattle.why_walk.specs.Says.{saysRead, saysIn, eventSays}
 use Rattle.why_walk.specs.Standing.{standingAt}
-use Rattle.causes.specs.declared.Why.{Why}
+use Rattle.why_rows.specs.declared.Why.{Why}
 use Rattle.causes.specs.Cause.{isJudged, causeOf, needOf, limitOf}
 use Rattle.why_rise.specs.declared.Rose.{Rose}
 use Rattle.why_rise.specs.Rise.{risen}

@@ -1,7 +1,7 @@
 -- CHIP P17, P18: the rows, in numbers of two bytes, the low ones first. Assumes nothing.
 use mathlib.Core.List.{List, [], _∷_, _++_}
 use Prim.Native.Nat.{ℕ, _/_, _%_}
-use Rattle.causes.specs.declared.Why.{Why}
+use Rattle.why_rows.specs.declared.Why.{Why}
 
 abbrev pub words32 : ℕ → List ℕ
 words32 n = n % 65536 ∷ n / 65536 ∷ []

@@ -1,9 +1,9 @@
 -- Eighteen numbers.
 use mathlib.Core.Path.{refl}
-use Rattle.causes.specs.Row.{whyWords}
+use Rattle.why_rows.specs.Row.{whyWords}
 use borrow.Author.Needs.{needs}
-use Rattle.causes.proofs.why_words.Statement.{statement}
-use Rattle.causes.proofs.why_words.Tie as tie
+use Rattle.why_rows.proofs.why_words.Statement.{statement}
+use Rattle.why_rows.proofs.why_words.Tie as tie
 
 returns : tie.Need-returns
 unfolding whyWords
