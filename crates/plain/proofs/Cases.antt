@@ -1,14 +1,13 @@
--- The decision, and a record by what was read, by the parts of the code. Assumes nothing.
+-- A scan and ticks, and a record by what was read, by the parts of the code. Assumes nothing.
 use mathlib.Core.Path.{_≡_, refl, sym, ap, _∙_}
-use mathlib.Core.Bool.{Bool, true, false, cond, _&&_}
+use mathlib.Core.Bool.{Bool, true, false, cond}
 use mathlib.Core.List.{List, [], _∷_}
 use mathlib.Core.Logic.{⊎-elim}
-use Prim.Native.Nat.{ℕ, _+_, _-_, _≤_, _<_}
+use Prim.Native.Nat.{ℕ, _-_, _≤_}
 use native.Mathlib.Omega.{arith}
-use lib.Dec.{leb}
 use lib.IntN.{ℤ}
 use lib.ListN.{length, take, drop}
-use borrow.Author.Tests.{le-leb, lt-leb, leb-true, leb-false}
+use borrow.Author.Tests.{le-leb}
 use types.Run.{OneOf}
 use denote.Enum.Declared.{tagOf}
 use Rattle.events.specs.declared.Counts.{Counts}
@@ -17,7 +16,7 @@ use Rattle.events.specs.declared.Event.the-variants.{Setup, Por, Boot, Scan, Te
 use Rattle.events.proofs.Event.{the-type as event-type}
 use Rattle.events.specs.declared.Faults.{Faults}
 use Rattle.events.specs.Setup.{inputs}
-use Rattle.events.specs.Fault.{Ov, Uv, Scd, Ocd, among}
+use Rattle.events.specs.Fault.{Ov, Uv, among}
 use Rattle.records.specs.declared.Read.{Read}
 use Rattle.records.specs.declared.Read.the-variants.{Record, Refused, Cut}
 use Rattle.records.proofs.Read.{the-type as read-type}
@@ -30,18 +29,20 @@ use Rattle.registers.specs.declared.Registers.{Registers}
 use Rattle.registers.specs.State.{withShown}
 use Rattle.registers.specs.Fault.{raised}
 use Rattle.registers.specs.Judging.{scanKept, pulledByLevel}
-use Rattle.limits.specs.Rule.{rule, beyond}
+use Rattle.limits.specs.Rule.{rule}
 use Rattle.chip.specs.declared.Chip.{Chip}
 use Rattle.chip.specs.declared.Stepped.{Stepped}
 use Rattle.chip.specs.Chip.{numbered, withRegisters}
 use Rattle.turn.specs.Turn.{Turn, turned, turnOf}
 use Rattle.turn.specs.declared.Turned.{Turned}
 use Rattle.turn.specs.TurnedLaws.{asTurn}
-use Rattle.plain_back.specs.declared.Streaks.{Streaks}
+use Rattle.plain_due.specs.declared.Streaks.{Streaks}
+use Rattle.plain_due.specs.Streaks.{noStreaks}
+use Rattle.plain_due.specs.Decision.{scanDue, ticksDue}
 use Rattle.plain_back.specs.declared.Back.{Back}
 use Rattle.plain_back.specs.declared.Back.the-variants.{Is, TooLong}
-use Rattle.plain_back.specs.Said.{noStreaks, streaksIn, most, saidBack, backSaid}
-use Rattle.plain.specs.Decision.{due, scanDue, ticksDue, shows, scanShown, ticksShown, scanDone, ticksDone}
+use Rattle.plain_back.specs.Said.{streaksIn, most, saidBack, backSaid}
+use Rattle.plain.specs.Decision.{shows, scanShown, ticksShown, scanDone, ticksDone}
 use Rattle.plain.specs.Plain.{decided, plainDone, plainTurned, plainTurn}
 
 -- ── the look back ──
@@ -54,37 +55,6 @@ module _ (a : Back) (before : List ℕ) (h : length before ≤ most) (q : saidBa
 
   pub look-long : {A : Type 0} → a ≡ TooLong → A
   look-long e = let n : _≡_ {A = ℕ} 24 0 = ap numberSaid (ap saidBack (sym e) ∙ gives-it) in absurd (omega (arith, n))
-
--- ── the decision ──
-and-yes : (b t : Bool) → t ≡ true → b && t ≡ b
-and-yes true t h = h
-and-yes false t h = refl
-
--- these alone are as many
-pub due-now : (b : Bool) (these before asked : ℕ) → asked ≤ these → b ≡ due b these before asked
-due-now b these before asked h = sym (and-yes b (leb asked (before + these)) (le-leb asked (before + these) (omega arith)))
-
--- or with those before
-pub due-back : (b : Bool) (these before asked : ℕ) → these < asked → b && leb (asked - these) before ≡ due b these before asked
-due-back b these before asked h = ap (_&&_ b) (by (leb (asked - these) before) refl)
-  where
-    by : (t : Bool) → leb (asked - these) before ≡ t → leb (asked - these) before ≡ leb asked (before + these)
-    by true e = let l : asked - these ≤ before = leb-true _ _ e in e ∙ sym (le-leb asked (before + these) (omega arith))
-    by false e = let l : before < asked - these = leb-false _ _ e in e ∙ sym (lt-leb asked (before + these) (omega arith))
-
-pub scan-due : {ov uv : Bool} {m n : ℕ} (s : Settings) (above between : Bool) (w : Streaks) → m ≡ rule Ov s .need → n ≡ rule Uv s .need
-    → ov ≡ due (s .«adc_en» && above) 1 (w .ov) m → uv ≡ due (s .«adc_en» && between) 1 (w .uv) n
-    → record { ov = ov; uv = uv; scd = false; ocd = false } ≡ scanDue s above between w
-unfolding scanDue
-scan-due s above between w em en eo eu =
-    λ i. record { ov = (eo ∙ ap (due (s .«adc_en» && above) 1 (w .ov)) em) i; uv = (eu ∙ ap (due (s .«adc_en» && between) 1 (w .uv)) en) i; scd = false; ocd = false }
-
-pub ticks-due : {scd ocd a b : Bool} {m n : ℕ} (s : Settings) (v : ℤ) (these : ℕ) (w : Streaks) → a ≡ beyond (rule Scd s) v → b ≡ beyond (rule Ocd s) v
-    → m ≡ rule Scd s .need → n ≡ rule Ocd s .need → scd ≡ due a these (w .scd) m → ocd ≡ due b these (w .ocd) n
-    → record { ov = false; uv = false; scd = scd; ocd = ocd } ≡ ticksDue s v these w
-unfolding ticksDue
-ticks-due s v these w ea eb em en es eo =
-    λ i. record { ov = false; uv = false; scd = (es ∙ (λ j. due (ea j) these (w .scd) (em j))) i; ocd = (eo ∙ (λ j. due (eb j) these (w .ocd) (en j))) i }
 
 -- ── what is due is shown, and the outside level looked at ──
 pub show-is : {r q : Registers} (c : Chip) (f : Faults) → r ≡ withShown (raised (among f) (c .registers .shown)) (c .registers) → q ≡ pulledByLevel r

@@ -34,9 +34,11 @@ use Rattle.chip.specs.Chip.{numbered, withRegisters, watched, settled, normally
 use Rattle.chip.specs.Parts.{raisedBy, tick-parts}
 use Rattle.chip.specs.Calm.{Calmed, calm-tick}
 use Rattle.chip.specs.RepeatLaws.{ticking-is}
-use Rattle.plain_back.specs.declared.Streaks.{Streaks}
-use Rattle.plain_back.specs.Said.{streakOf, verdictsIn, streaksIn}
-use Rattle.plain.specs.Decision.{due, scanDue, ticksDue, scanShown, ticksShown, scanDone, ticksDone}
+use Rattle.plain_due.specs.declared.Streaks.{Streaks}
+use Rattle.plain_due.specs.Streaks.{streakOf}
+use Rattle.plain_due.specs.Decision.{due, scanDue, ticksDue}
+use Rattle.plain_back.specs.Said.{verdictsIn, streaksIn}
+use Rattle.plain.specs.Decision.{scanShown, ticksShown, scanDone, ticksDone}
 use Rattle.plain.specs.AsideLaws.{unrun, unrunIn}
 
 -- the runs that a base engine would have: how many in a row say yes, cut at the longest delay

@@ -15,7 +15,7 @@ use Rattle.protection.specs.Fault.{noRuns}
 use Rattle.chip.specs.declared.Chip.{Chip}
 use Rattle.chip.specs.Chip.{numbered}
 use Rattle.turn.specs.Turn.{none, Turn, turned}
-use Rattle.plain_back.specs.declared.Streaks.{Streaks}
+use Rattle.plain_due.specs.declared.Streaks.{Streaks}
 use Rattle.plain_back.specs.Said.{streaksIn}
 use Rattle.plain.specs.Decision.{scanShown, ticksShown, scanDone, ticksDone}
 use Rattle.plain.specs.Plain.{plainDone, plainTurned, plainTurn}

@@ -2,19 +2,18 @@
 // it and decides from them (CHIP J9, J10, H1 and H2): the bit of a fault is due where this record says yes, and it and those in a row before it
 // that said yes are as many as the delay asks for.
 //
-// Its own are that decision, here, and the look back, in plain_back. It shares with the base engine how a record is read (records); thresholds and
-// delays by their codes, and which count or value is beyond one (protection, cell_counts); where counts are stored, what a bit that rises puts off,
-// and the outside level (registers); every record that is no scan and no tick, in the look back too (turn, chip); an entry's bytes (turn), and how
-// many entries there are (stream).
+// Its own are that decision, in plain_due, and the look back, in plain_back and plain_moves. It shares with the base engine how a record is read
+// (records); thresholds and delays by their codes, and which count or value is beyond one (limits, cell_counts); where counts are stored, what a bit
+// that rises puts off, and the outside level (registers); every record that is no scan and no tick, in the look back too (turn, chip); an entry's
+// bytes (turn), and how many entries there are (stream).
 ghost use mathlib.Core.Path.{_≡_};
 ghost use Prim.Native.Nat.{_≤_};
 ghost use lib.ListN.{length, take};
 ghost use Rattle.events.specs.Setup.{inputs};
 ghost use Rattle.turn.specs.TurnedLaws.{asTurn};
 ghost use Rattle.plain_back.specs.Said.{streaksIn};
-ghost use Rattle.plain.specs.Decision.{due as dueSpec, scanDue, ticksDue, shows, scanDone, ticksDone};
+ghost use Rattle.plain.specs.Decision.{shows, scanDone, ticksDone};
 ghost use Rattle.plain.specs.Plain.{decided as decidedSpec, plainTurn, Noted, PlainPlayed};
-use cell_counts::Looked;
 use chip::Chip;
 use chip::Stepped;
 use constants::answer;
@@ -24,9 +23,8 @@ use constants::size;
 use events::Event;
 use events::Faults;
 use plain_back::Back;
-use plain_back::Streaks;
+use plain_due::Streaks;
 use records::Read;
-use settings::Settings;
 use turn::Turned;
 
 // The look back: for each fault, how many of the newest scans (ticks) before this record say yes, up to the first that does not. Each said it by the
@@ -44,49 +42,6 @@ fn look_back(before: &[u8]) -> Streaks
             scd: 0,
             ocd: 0,
         },
-    }
-}
-
-// The decision: these scans or ticks say yes, and they alone, or with those in a row before them, are as many as the delay asks for.
-fn due(says_yes: bool, these: u32, in_a_row_before: u64, asked_for: u16) -> bool
-    ensures { λ r. ⌜ r ≡ dueSpec «says_yes» these «in_a_row_before» «asked_for» ⌝ }
-{
-    let asked_for = asked_for as u32;
-    if asked_for <= these {
-        return says_yes;
-    }
-    says_yes & ((asked_for - these) as u64 <= in_a_row_before)
-}
-
-// A scan says yes to OV where it is stored and some count is over, to UV where it is stored and some count is under (CHIP J1 to J4).
-fn due_at_scan(s: Settings, looked: Looked, in_a_row: Streaks) -> Faults
-    ensures { λ r. ⌜ r ≡ scanDue s (looked .over) (looked .under) «in_a_row» ⌝ }
-{
-    let says_over = s.adc_en & looked.over;
-    let says_under = s.adc_en & looked.under;
-    let ov = due(says_over, 1, in_a_row.ov, limits::ov_scans(s));
-    let uv = due(says_under, 1, in_a_row.uv, limits::uv_scans(s));
-    Faults {
-        ov,
-        uv,
-        scd: false,
-        ocd: false,
-    }
-}
-
-// Ticks of one value say yes to SCD, and to OCD, where minus the value is above the threshold set (CHIP J5); each of them counts (CHIP R8).
-fn due_at_ticks(s: Settings, value: i32, these: u32, in_a_row: Streaks) -> Faults
-    ensures { λ r. ⌜ r ≡ ticksDue s value these «in_a_row» ⌝ }
-{
-    let says_scd = limits::beyond_scd(s, value);
-    let says_ocd = limits::beyond_ocd(s, value);
-    let scd = due(says_scd, these, in_a_row.scd, limits::scd_ticks(s));
-    let ocd = due(says_ocd, these, in_a_row.ocd, limits::ocd_ticks(s));
-    Faults {
-        ov: false,
-        uv: false,
-        scd,
-        ocd,
     }
 }
 
@@ -114,7 +69,7 @@ fn scan(mut chip: Chip, before: &[u8], counts: [u16; 15]) -> Stepped
     let over = limits::over_line(s);
     let under = limits::under_line(s);
     let looked = cell_counts::look(counts, setup.inputs(), over, setup.floor, under);
-    let risen = due_at_scan(s, looked, look_back(before));
+    let risen = plain_due::due_at_scan(s, looked, look_back(before));
     let cells = looked.cells;
     chip.registers = registers.scanned(cells, looked.sum);
     turn::numbered(number::DONE, show(chip, risen))
@@ -130,7 +85,7 @@ fn ticks(chip: Chip, before: &[u8], value: i32, these: u32) -> Stepped
         return turn::numbered(number::ASLEEP, chip);
     }
     let registers = chip.registers;
-    let risen = due_at_ticks(registers.settings, value, these, look_back(before));
+    let risen = plain_due::due_at_ticks(registers.settings, value, these, look_back(before));
     turn::numbered(number::DONE, show(chip, risen))
 }
 

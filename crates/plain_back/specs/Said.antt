@@ -11,7 +11,7 @@ use Rattle.events.specs.declared.Setup.{Setup as SetupValues}
 use Rattle.events.specs.declared.Event.{Event as Coded}
 use Rattle.events.specs.declared.Event.the-variants.{Setup, Por, Boot, Scan, Temp, Count, Sense, Pin, Load, Xready, OnBus, Level, Ticks}
 use Rattle.events.specs.declared.Event.the-variants.{Soak, Wires}
-use Rattle.events.specs.Fault.{Fault, Ov, Uv, Scd, Ocd}
+use Rattle.events.specs.Fault.{Fault}
 use Rattle.records.specs.declared.Read.{Read}
 use Rattle.records.specs.declared.Read.the-variants.{Record, Refused, Cut}
 use Rattle.records.specs.Record.{standing, readOf}
@@ -19,7 +19,8 @@ use Rattle.constants.specs.Answer.{Said, gives, refuses}
 use Rattle.protection.specs.Streak.{streak}
 use Rattle.demands.specs.Demand.{verdicts}
 use Rattle.demands.specs.Streams.{heard}
-use Rattle.plain_back.specs.declared.Streaks.{Streaks}
+use Rattle.plain_due.specs.declared.Streaks.{Streaks}
+use Rattle.plain_due.specs.Streaks.{streaksOf}
 use Rattle.plain_back.specs.declared.Back.{Back}
 use Rattle.plain_back.specs.declared.Back.the-variants.{Is, TooLong}
 
@@ -51,18 +52,6 @@ unfoldable pub verdictsIn : Fault → List ℕ → List Bool
 verdictsIn k s = verdictsAfter k s (readOf 0 s)
 
 -- ── how many of the newest are true ──
-abbrev pub streakOf : Fault → Streaks → ℕ
-streakOf Ov w = w .ov
-streakOf Uv w = w .uv
-streakOf Scd w = w .scd
-streakOf Ocd w = w .ocd
-
-abbrev pub streaksOf : (Fault → ℕ) → Streaks
-streaksOf f = record { ov = f Ov; uv = f Uv; scd = f Scd; ocd = f Ocd }
-
-abbrev pub noStreaks : Streaks
-noStreaks = streaksOf (λ k. 0)
-
 unfoldable pub streaksIn : List ℕ → Streaks
 streaksIn s = streaksOf (λ k. streak (verdictsIn k s))
 

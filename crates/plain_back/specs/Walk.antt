@@ -35,12 +35,13 @@ use Rattle.chip.specs.MovesLaws.{setup-next}
 use Rattle.demands.specs.Demand.{core, standing, verdicts}
 use Rattle.demands.specs.History.{asleep-none}
 use Rattle.demands.specs.Aside.{withMeant}
-use Rattle.plain_back.specs.declared.Streaks.{Streaks}
-use Rattle.plain_back.specs.declared.Walk.{Walk}
+use Rattle.plain_due.specs.declared.Streaks.{Streaks}
+use Rattle.plain_moves.specs.declared.Walk.{Walk}
+use Rattle.plain_moves.specs.Moved.{movedTo, movedBy}
 use Rattle.plain_back.specs.declared.Passed.{Passed}
 use Rattle.plain_back.specs.declared.Tick.{Tick}
 use Rattle.plain_back.specs.declared.Tick.the-variants.{Of, Not}
-use Rattle.plain_back.specs.Said.{streaksOf, noStreaks}
+use Rattle.plain_due.specs.Streaks.{streaksOf, noStreaks}
 
 -- ── what one record adds ──
 -- verdicts that are all alike, one at least
@@ -78,13 +79,6 @@ scannedBy k w = record { chip = w .chip; said = scanSaid (w .chip) (take (inputs
 
 abbrev pub tickedBy : ℤ → ℕ → Walk → Walk
 tickedBy v more w = record { chip = w .chip; said = ticksSaid (w .chip) v more (w .said) }
-
--- any other event moves mode, line and settings, and ends the spell where it leaves the chip in SHIP
-abbrev pub movedTo : Chip → Walk → Walk
-movedTo c w = record { chip = bare (c .setup) (coreOf c); said = cond (c .normal) (w .said) noStreaks }
-
-unfoldable pub movedBy : Coded → Counts → Walk → Walk
-movedBy e k w = movedTo (steppedBy e k (w .chip) .chip) w
 
 unfoldable pub walkedBy : Coded → Counts → Walk → Walk
 walkedBy (Setup- v) k w = w

@@ -1,43 +1,28 @@
 // CHIP P11: what the records lent so far say of the four faults, found by walking them from the first on. Nothing is kept between two
 // calls. Each scan or tick says yes or no by the settings that stand when it comes; what moves these, and the mode, is any other record, which
-// is done as the base engine does it, by `chip`.
+// is done as the base engine does it, by `chip` (plain_moves).
 ghost use mathlib.Core.Path.{_≡_};
 ghost use Prim.Native.Nat.{_≤_, _^_};
 ghost use lib.ListN.{length, take};
 ghost use Rattle.events.specs.Setup.{inputs};
-ghost use Rattle.chip.specs.Core.{coreOf, bare};
-ghost use Rattle.plain_back.specs.Said.{noStreaks, streaksIn, saidBack, backSaid};
-ghost use Rattle.plain_back.specs.Walk.{Small, goesOn, scanSaid, ticksSaid, scannedBy, tickedBy, movedBy, walkedBy, passedOn, TickIn};
-use bus::Bus;
+ghost use Rattle.plain_back.specs.Said.{streaksIn, saidBack, backSaid};
+ghost use Rattle.plain_back.specs.Walk.{Small, goesOn, scanSaid, ticksSaid, scannedBy, tickedBy, walkedBy, passedOn, TickIn};
 use chip::Chip;
 use constants::kind;
 use constants::range;
 use events::Counts;
 use events::Event;
 use events::Setup;
+use plain_due::Streaks;
+use plain_moves::Walk;
 use records::Framed;
 use records::Payload;
 use records::Read;
-use registers::Registers;
-
-// For each fault, how many of the newest verdicts of this waking spell are true, up to the first that is not.
-pub struct Streaks {
-    pub ov: u64,
-    pub uv: u64,
-    pub scd: u64,
-    pub ocd: u64,
-}
 
 pub enum Back {
     Is(Streaks),
     // Number 24: more than 65,536 bytes.
     TooLong,
-}
-
-// What is carried from record to record: a chip that has its mode, the bus's line and the settings alone, and what was said so far.
-pub struct Walk {
-    pub chip: Chip,
-    pub said: Streaks,
 }
 
 // The value of a tick and the place after it, or another record.
@@ -50,17 +35,6 @@ pub enum Tick {
 pub struct Passed {
     pub walk: Walk,
     pub next: usize,
-}
-
-fn none_said() -> Streaks
-    ensures { λ r. ⌜ r ≡ noStreaks ⌝ }
-{
-    Streaks {
-        ov: 0,
-        uv: 0,
-        scd: 0,
-        ocd: 0,
-    }
 }
 
 // More verdicts that are all alike: a streak goes on by them, or is over.
@@ -105,27 +79,6 @@ fn ticks_said(chip: Chip, value: i32, more: u32, said: Streaks) -> Streaks
     Streaks { scd, ocd, ..said }
 }
 
-// The mode, the line and the settings of a chip, and nothing else of it.
-fn bared(chip: Chip) -> Chip
-    ensures { λ r. ⌜ r ≡ bare (chip .setup) (coreOf chip) ⌝ }
-{
-    let bus = chip.bus;
-    let line = bus.line;
-    let registers = chip.registers;
-    let settings = registers.settings;
-    let ship = chip::in_ship(chip.setup);
-    let numbered = ship.bus;
-    let reset = ship.registers;
-    let bus = Bus { line, ..numbered };
-    let registers = Registers { settings, ..reset };
-    Chip {
-        normal: chip.normal,
-        bus,
-        registers,
-        ..ship
-    }
-}
-
 fn scanned(walk: Walk, counts: Counts) -> Walk
     requires { ⌜ Small (walk .said) ⌝ }
     ensures { λ r. ⌜ r ≡ scannedBy counts walk ⌝ }
@@ -142,21 +95,6 @@ fn ticked(walk: Walk, value: i32, more: u32) -> Walk
 {
     let chip = walk.chip;
     let said = ticks_said(chip, value, more, walk.said);
-    Walk { chip, said }
-}
-
-// Any other event moves the mode, the line and the settings, and says nothing; one that leaves the chip in SHIP ends the spell.
-fn moved(walk: Walk, event: Event, counts: Counts) -> Walk
-    ensures { λ r. ⌜ r ≡ movedBy event counts walk ⌝ }
-{
-    let chip = walk.chip;
-    let step = chip.step(event, counts);
-    let chip = bared(step.chip);
-    if chip.normal {
-        let said = walk.said;
-        return Walk { chip, said };
-    }
-    let said = none_said();
     Walk { chip, said }
 }
 
@@ -179,7 +117,7 @@ fn walked(walk: Walk, event: Event, counts: Counts) -> Walk
         | Event::Load(_)
         | Event::Xready
         | Event::OnBus(_)
-        | Event::Level(_) => moved(walk, event, counts),
+        | Event::Level(_) => plain_moves::moved(walk, event, counts),
     }
 }
 
@@ -244,13 +182,13 @@ fn walk_over(s: &[u8]) -> Streaks
 {
     let first = records::read_rest(s, 0);
     let Read::Record { event, next } = first else {
-        return none_said();
+        return plain_due::none_said();
     };
     let Event::Setup(setup) = event else {
-        return none_said();
+        return plain_due::none_said();
     };
     let chip = chip::in_ship(setup);
-    let said = none_said();
+    let said = plain_due::none_said();
     let mut walk = Walk { chip, said };
     let mut at = next;
     while at < s.len() {

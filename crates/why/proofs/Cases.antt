@@ -1,6 +1,6 @@
 -- The parts of the calls, by the tests of the code. Assumes nothing.
 use mathlib.Core.Path.{_≡_, refl, sym, ap, ap₂, subst, _∙_}
-use mathlib.Core.Bool.{Bool, true, false, _&&_, _||_, not, cond, true≢false}
+use mathlib.Core.Bool.{Bool, true, false, not, cond, true≢false}
 use mathlib.Core.List.{List, _++_}
 use Prim.Native.Nat.{ℕ, zero, suc, _+_, _-_, _*_, _%_, _≤_, _<_, _^_}
 use native.Mathlib.Omega.{arith}
@@ -8,60 +8,31 @@ use native.Mathlib.Nat.{div-zero}
 use native.Mathlib.Numerals.{add-one}
 use lib.Dec.{eqb, leb, ltb}
 use lib.IntN.{ℤ, pos, negℤ}
-use lib.ListN.{length, take, drop, getD}
+use lib.ListN.{length, take, drop}
 use lib.Seq.{sets, sets-eq}
-use borrow.Author.Tests.{eq-eqb, ne-eqb, le-leb, lt-leb, ltb-true, ltb-false, leb-true, leb-false}
+use borrow.Author.Tests.{ne-eqb, le-leb, lt-leb, leb-true, leb-false}
 use Rattle.bits.specs.Bit.{bit}
-use Rattle.events.specs.Fault.{Ov, Uv, Scd, Ocd}
 use Rattle.settings.specs.declared.Settings.{Settings}
-use Rattle.limits.specs.Rule.{scdLimit, ocdLimit, rule}
 use Rattle.turn.specs.Entries.{entries}
 use Rattle.turn.specs.Frames.{framesOf}
 use Rattle.turn.specs.CountedLaws.{entries-count}
 use Rattle.turn.proofs.Runs.{rest-is}
 use Rattle.writer.specs.Write.{wordBytes}
 use Rattle.writer.specs.BytesLaws.{words-length}
-use Rattle.why_walk.specs.declared.Says.{Says}
+use Rattle.why_rows.specs.declared.Why.{Why}
+use Rattle.causes.specs.Cause.{isJudged, causeOf, needOf, limitOf, knownBit}
+use Rattle.causes.specs.Hold.{heldBy, isDrive}
+use Rattle.why_rows.specs.Row.{whyWords, offWords}
+use Rattle.why_scan.specs.declared.Says.{Says}
 use Rattle.why_walk.specs.declared.Standing.{Standing}
 use Rattle.why_walk.specs.Says.{saysIn}
 use Rattle.why_walk.specs.Standing.{begun, advanced, standingAt}
-use Rattle.why.specs.declared.Rose.{Rose}
-use Rattle.why.specs.declared.Found.{Found}
-use Rattle.why.specs.declared.Why.{Why}
-use Rattle.why.specs.Rise.{isSuch, roseBy, roseOn, risen, searchedOn, searched, Few}
-use Rattle.why.specs.Why.{isJudged, causeOf, needOf, limitOf, leastOf, unjudged, judged, whyOf, whyWords, streamMost, isKnown, knownBit, whyRow, whyNumber, Explained}
-use Rattle.why.specs.Off.{heldBit, heldBy, offWords, offRow, isDrive, offNumber, Held}
+use Rattle.why_rise.specs.declared.Rose.{Rose}
+use Rattle.why_rise.specs.declared.Found.{Found}
+use Rattle.why_rise.specs.Rise.{isSuch, roseOn, risen, searchedOn, searched, Few}
+use Rattle.why.specs.Why.{leastOf, unjudged, judged, whyOf, streamMost, whyRow, whyNumber, Explained}
+use Rattle.why.specs.Off.{offRow, offNumber, Held}
 use Rattle.why.proofs.Few.{inside, few-short, last-is, place-is, stood-inside, rose-known, none-up}
-
--- ── a bit, or a drive ──
-module _ (b d : ℕ) (g : Standing) {x : Bool} where
-  pub such-off : b ≡ 0 → x ≡ bit (g .pins) d → not x ≡ isSuch b d g
-  such-off h e = ap not e ∙ sym (ap (λ (t : Bool). cond t (not (bit (g .pins) d)) (bit (g .stat) b)) (eq-eqb b 0 h))
-
-  pub such-up : (b ≡ 0 → ⊥) → x ≡ bit (g .stat) b → x ≡ isSuch b d g
-  such-up h e = e ∙ sym (ap (λ (t : Bool). cond t (not (bit (g .pins) d)) (bit (g .stat) b)) (ne-eqb b 0 h))
-
--- ── one record more ──
-module _ (b d n : ℕ) (g : Standing) (r : Rose) {x y : Bool} (p : x ≡ isSuch b d g) (q : y ≡ isSuch b d (r .last)) where
-  new-is : (t : Bool) → (x && not y) ≡ t → isSuch b d g && not (isSuch b d (r .last)) ≡ t
-  new-is t h = sym (ap₂ (λ (x y : Bool). x && not y) p q) ∙ h
-
-  pub rose-new : (x && not y) ≡ true → record { rose = n; stood = r .last; last = g } ≡ roseOn b d n g r
-  unfolding roseOn
-  rose-new h = sym (ap (λ (t : Bool). roseBy t n g r) (new-is true h))
-
-  pub rose-old : (x && not y) ≡ false → record { rose = r .rose; stood = r .stood; last = g } ≡ roseOn b d n g r
-  unfolding roseOn
-  rose-old h = sym (ap (λ (t : Bool). roseBy t n g r) (new-is false h))
-
-module _ (least n : ℕ) (g : Standing) (r : Found) where
-  pub search-new : r .place .streak ≤ least → record { first = n; place = g } ≡ searchedOn least n g r
-  unfolding searchedOn
-  search-new h = sym (ap (λ (t : Bool). record { first = cond t n (r .first); place = g }) (le-leb (r .place .streak) least h))
-
-  pub search-old : least < r .place .streak → record { first = r .first; place = g } ≡ searchedOn least n g r
-  unfolding searchedOn
-  search-old h = sym (ap (λ (t : Bool). record { first = cond t n (r .first); place = g }) (lt-leb (r .place .streak) least h))
 
 -- ── the loops ──
 standing-good : (s : List ℕ) (b n : ℕ) (g : Standing) → g ≡ standingAt s b n → Few s b → (g .at ≤ length s) × (g .streak < 2 ^ 63)
@@ -81,50 +52,6 @@ pub search-next : {g : Standing} {new : Found} (s : List ℕ) (b least n : ℕ) 
     → new ≡ searched s b least (n + 1)
 search-next s b least n r e q h =
     h ∙ ap (λ (g : Standing). searchedOn least n g r) q ∙ ap (λ (r : Found). searchedOn least n (advanced s b (r .place)) r) e ∙ ap (searched s b least) (sym (add-one n))
-
--- ── by the bit ──
-pub cause-as : (b : ℕ) (pin : Bool) (t u v w x : Bool) → (eqb b 4 || eqb b 8) ≡ t → (eqb b 2 || eqb b 1) ≡ u → eqb b 32 ≡ v → eqb b 128 ≡ w → pin ≡ x
-    → cond t 1 (cond u 2 (cond v 5 (cond w 6 (cond x 3 4)))) ≡ causeOf b pin
-cause-as b pin t u v w x p q r m n =
-    sym (ap₂ (λ (t u : Bool). cond {A = ℕ} t 1 (cond u 2 (cond (eqb b 32) 5 (cond (eqb b 128) 6 (cond pin 3 4))))) p q
-    ∙ ap₂ (λ (v w : Bool). cond {A = ℕ} t 1 (cond u 2 (cond v 5 (cond w 6 (cond pin 3 4))))) r m
-    ∙ ap (λ (x : Bool). cond {A = ℕ} t 1 (cond u 2 (cond v 5 (cond w 6 (cond x 3 4))))) n)
-
-module _ (b : ℕ) (s : Settings) (t u v : Bool) (p : eqb b 4 ≡ t) (q : eqb b 8 ≡ u) (r : eqb b 2 ≡ v) where
-  pub need-as : cond t (rule Ov s .need) (cond u (rule Uv s .need) (cond v (rule Scd s .need) (rule Ocd s .need))) ≡ needOf b s
-  need-as =
-      sym (ap₂ (λ (t u : Bool). cond t (rule Ov s .need) (cond u (rule Uv s .need) (cond (eqb b 2) (rule Scd s .need) (rule Ocd s .need)))) p q
-      ∙ ap (λ (v : Bool). cond t (rule Ov s .need) (cond u (rule Uv s .need) (cond v (rule Scd s .need) (rule Ocd s .need)))) r)
-
-  pub limit-as : cond t (rule Ov s .limit) (cond u (rule Uv s .limit) (cond v (rule Scd s .limit) (rule Ocd s .limit))) ≡ limitOf b s
-  limit-as =
-      sym (ap₂ (λ (t u : Bool). cond t (rule Ov s .limit) (cond u (rule Uv s .limit) (cond (eqb b 2) (rule Scd s .limit) (rule Ocd s .limit)))) p q
-      ∙ ap (λ (v : Bool). cond t (rule Ov s .limit) (cond u (rule Uv s .limit) (cond v (rule Scd s .limit) (rule Ocd s .limit)))) r)
-
-pub scd-limit-is : (s : Settings) → getD (scdLimit (bit (s .protect1) 128)) (s .protect1 % 8) 0 ≡ rule Scd s .limit
-unfolding rule
-scd-limit-is s = refl
-
-pub ocd-limit-is : (s : Settings) → getD (ocdLimit (bit (s .protect1) 128)) (s .protect2 % 16) 0 ≡ rule Ocd s .limit
-unfolding rule
-ocd-limit-is s = refl
-
-pub known-small : (b : ℕ) → isKnown b ≡ true → b < 256
-known-small b h = by (ltb b 256) refl
-  where
-    by : (t : Bool) → ltb b 256 ≡ t → b < 256
-    by true e = ltb-true b 256 e
-    by false e =
-        let m : 256 ≤ b = ltb-false b 256 e in
-        let n : isKnown b ≡ false =
-        simp (ne-eqb b 1 (λ z. omega (arith, z)), ne-eqb b 2 (λ z. omega (arith, z)), ne-eqb b 4 (λ z. omega (arith, z)), ne-eqb b 8 (λ z. omega (arith, z)), ne-eqb b 16 (λ z. omega (arith, z)), ne-eqb b 32 (λ z. omega (arith, z)), ne-eqb b 128 (λ z. omega (arith, z))) in
-        absurd (true≢false (sym h ∙ n))
-
-pub known-is : (b : ℕ) → isKnown b ≡ true → b ≡ knownBit b
-known-is b h = ap (λ (t : Bool). cond t b 0) (sym h)
-
-pub known-none : (b : ℕ) → isKnown b ≡ false → 0 ≡ knownBit b
-known-none b h = ap (λ (t : Bool). cond t b 0) (sym h)
 
 -- ── why it rose ──
 module _ (s : List ℕ) (b : ℕ) (r : Rose) {w : Says} {cause : ℕ} {j : Bool}
@@ -155,12 +82,6 @@ module _ (s : List ℕ) (b : ℕ) (r : Rose) {w : Says} {cause : ℕ} {j : Bool}
       ap (λ (f : Found). f .first) (k ∙ ap₂ (λ (x y : ℕ). searched s b x y) (m ∙ ap (leastOf (r .stood .streak)) n) (add-one (r .rose))) in
       (λ i. record { rose = r .rose; first = first-is i; cause = cause-is i; many = n i; limit = l i; input = said-is i .input; value = said-is i .value })
       ∙ why-as-is true h
-
--- ── what holds a drive ──
-pub held-as : (stat d : ℕ) (t : Bool) → eqb d 2 ≡ t
-    → cond t (heldBit stat 16 + heldBit stat 32 + heldBit stat 4) (heldBit stat 16 + heldBit stat 32 + heldBit stat 8 + heldBit stat 2 + heldBit stat 1) ≡ heldBy stat d
-held-as stat d t e =
-    sym (ap (λ (t : Bool). cond t (heldBit stat 16 + heldBit stat 32 + heldBit stat 4) (heldBit stat 16 + heldBit stat 32 + heldBit stat 8 + heldBit stat 2 + heldBit stat 1)) e)
 
 -- ── the calls ──
 pub explained-by : (s : List ℕ) (n b : ℕ) (old new : List ℕ) (z : ℤ) (k : ℕ) → whyNumber s n b (length old) ≡ k → z ≡ negℤ (pos k)

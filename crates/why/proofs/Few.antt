@@ -26,11 +26,12 @@ use Rattle.records.specs.SoundLaws.{first-setup, IsSetup, Meaning, later-means}
 use Rattle.bits.specs.Bit.{bit}
 use Rattle.chip.specs.declared.Chip.{Chip}
 use Rattle.turn.specs.Turn.{turned, turnOf}
-use Rattle.why_walk.specs.declared.Says.{Says}
+use Rattle.why_scan.specs.declared.Says.{Says}
 use Rattle.why_walk.specs.declared.Standing.{Standing}
-use Rattle.why_walk.specs.Says.{saysNone, saysScan, scanSays, ticksSay, eventSays, saysRead, saysIn, streakAfter}
+use Rattle.why_scan.specs.Scan.{saysNone, saysScan}
+use Rattle.why_walk.specs.Says.{scanSays, ticksSay, eventSays, saysRead, saysIn, streakAfter}
 use Rattle.why_walk.specs.Standing.{begun, past, advanced, standingAt}
-use Rattle.why.specs.Rise.{isSuch, roseOn, risen, searchedOn, searched, Few}
+use Rattle.why_rise.specs.Rise.{isSuch, roseOn, risen, searchedOn, searched, Few}
 
 abbrev more : ℕ
 more = 16777216

@@ -1,4 +1,3 @@
-pub mod Rise
 pub mod Why
 pub mod Off
 pub mod SameLaws

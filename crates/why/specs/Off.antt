@@ -1,35 +1,23 @@
 -- CHIP P18: since when a drive is off, and the bits of SYS_STAT that hold it. Assumes nothing.
 use mathlib.Core.Path.{_≡_}
-use mathlib.Core.Bool.{Bool, cond, _||_}
-use mathlib.Core.List.{List, [], _∷_, _++_}
-use Prim.Native.Nat.{ℕ, suc, _+_}
+use mathlib.Core.Bool.{cond}
+use mathlib.Core.List.{List, _++_}
+use Prim.Native.Nat.{ℕ, suc}
 use lib.Dec.{eqb, leb, ltb}
 use lib.IntN.{ℤ}
 use lib.ListN.{length, drop}
-use Rattle.constants.specs.Weight.{OV, UV, SCD, OCD, XREADY, «OVRD_ALERT», «PIN_CHG», «PIN_DSG»}
 use Rattle.constants.specs.Number.{DONE, «NO_ROOM», «NO_RECORD», «NOT_SO»}
 use Rattle.constants.specs.Size.{«OFF_ROW»}
 use Rattle.constants.specs.Answer.{minus}
-use Rattle.bits.specs.Bit.{bit, weighed}
+use Rattle.bits.specs.Bit.{bit}
 use Rattle.turn.specs.Entries.{entries}
+use Rattle.causes.specs.Hold.{heldBy, isDrive}
+use Rattle.why_rows.specs.Row.{offWords}
 use Rattle.writer.specs.Write.{wordBytes}
-use Rattle.why.specs.declared.Rose.{Rose}
-use Rattle.why.specs.Rise.{risen}
-use Rattle.why.specs.Why.{words64}
-
--- ── CHIP J13: OVRD_ALERT and XREADY hold both drives, OV CHG, and UV, SCD and OCD DSG ──
-abbrev pub heldBit : ℕ → ℕ → ℕ
-heldBit stat w = weighed (bit stat w) w
-
-abbrev pub heldBy : ℕ → ℕ → ℕ
-heldBy stat d =
-    cond (eqb d «PIN_CHG») (heldBit stat «OVRD_ALERT» + heldBit stat XREADY + heldBit stat OV)
-    (heldBit stat «OVRD_ALERT» + heldBit stat XREADY + heldBit stat UV + heldBit stat SCD + heldBit stat OCD)
+use Rattle.why_rise.specs.declared.Rose.{Rose}
+use Rattle.why_rise.specs.Rise.{risen}
 
 -- ── the row: 12 bytes, the low ones first ──
-abbrev pub offWords : ℕ → ℕ → List ℕ
-offWords since held = words64 since ++ held ∷ 0 ∷ []
-
 abbrev pub offBytes : Rose → ℕ → List ℕ
 offBytes r d = wordBytes (offWords (r .rose) (heldBy (r .last .stat) d))
 
@@ -37,9 +25,6 @@ abbrev pub offRow : List ℕ → ℕ → ℕ → List ℕ
 offRow s n d = offBytes (risen s 0 d (suc n)) d
 
 -- ── the call: 27, 28, then 5 ──
-abbrev pub isDrive : ℕ → Bool
-isDrive d = eqb d «PIN_DSG» || eqb d «PIN_CHG»
-
 abbrev pub offNumber : List ℕ → ℕ → ℕ → ℕ → ℕ
 offNumber s n d room =
     cond (leb (length (entries s)) n) «NO_RECORD»

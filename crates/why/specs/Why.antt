@@ -1,62 +1,26 @@
 -- CHIP P17: why a bit of SYS_STAT is up: the record at which it rose, what raised it, and for OV, UV, SCD and OCD the newest verdicts, as
 -- many as the delay then set, that made it due. Assumes nothing.
 use mathlib.Core.Path.{_≡_}
-use mathlib.Core.Bool.{Bool, cond, _||_}
-use mathlib.Core.List.{List, [], _∷_, _++_}
-use Prim.Native.Nat.{ℕ, suc, _+_, _-_, _/_, _%_}
+use mathlib.Core.Bool.{cond}
+use mathlib.Core.List.{List, _++_}
+use Prim.Native.Nat.{ℕ, suc, _-_}
 use lib.Dec.{eqb, leb, ltb}
 use lib.IntN.{ℤ}
 use lib.ListN.{length, drop}
-use Rattle.constants.specs.Weight.{OV, UV, SCD, OCD, XREADY, «OVRD_ALERT», «CC_READY»}
 use Rattle.constants.specs.Number.{DONE, «NO_ROOM», «TOO_LONG», «NO_RECORD», «NOT_SO»}
 use Rattle.constants.specs.Size.{«WHY_ROW»}
 use Rattle.constants.specs.Answer.{minus}
 use Rattle.bits.specs.Bit.{bit}
-use Rattle.events.specs.Fault.{Ov, Uv, Scd, Ocd}
 use Rattle.settings.specs.declared.Settings.{Settings}
-use Rattle.limits.specs.Rule.{rule}
 use Rattle.turn.specs.Entries.{entries}
+use Rattle.why_rows.specs.declared.Why.{Why}
+use Rattle.causes.specs.Cause.{isJudged, causeOf, needOf, limitOf, knownBit}
+use Rattle.why_rows.specs.Row.{whyWords}
 use Rattle.writer.specs.Write.{wordBytes}
-use Rattle.why_walk.specs.declared.Says.{Says}
+use Rattle.why_scan.specs.declared.Says.{Says}
 use Rattle.why_walk.specs.Says.{saysIn}
-use Rattle.why.specs.declared.Rose.{Rose}
-use Rattle.why.specs.declared.Why.{Why}
-use Rattle.why.specs.Rise.{risen, searched}
-
--- ── by the bit's weight ──
-abbrev pub isJudged : ℕ → Bool
-isJudged b = eqb b OV || eqb b UV || eqb b SCD || eqb b OCD
-
--- ── what raises a bit, as a number ──
-abbrev pub byScans : ℕ
-byScans = 1
-
-abbrev pub byTicks : ℕ
-byTicks = 2
-
-abbrev pub byPin : ℕ
-byPin = 3
-
-abbrev pub byLevel : ℕ
-byLevel = 4
-
-abbrev pub byXready : ℕ
-byXready = 5
-
-abbrev pub byCount : ℕ
-byCount = 6
-
-abbrev pub causeOf : ℕ → Bool → ℕ
-causeOf b pin =
-    cond (eqb b OV || eqb b UV) byScans
-    (cond (eqb b SCD || eqb b OCD) byTicks (cond (eqb b XREADY) byXready (cond (eqb b «CC_READY») byCount (cond pin byPin byLevel))))
-
-abbrev pub needOf : ℕ → Settings → ℕ
-needOf b s = cond (eqb b OV) (rule Ov s .need) (cond (eqb b UV) (rule Uv s .need) (cond (eqb b SCD) (rule Scd s .need) (rule Ocd s .need)))
-
-abbrev pub limitOf : ℕ → Settings → ℕ
-limitOf b s =
-    cond (eqb b OV) (rule Ov s .limit) (cond (eqb b UV) (rule Uv s .limit) (cond (eqb b SCD) (rule Scd s .limit) (rule Ocd s .limit)))
+use Rattle.why_rise.specs.declared.Rose.{Rose}
+use Rattle.why_rise.specs.Rise.{risen, searched}
 
 -- the streak before the first of the newest verdicts, as many as are needed, where the next one is true
 abbrev pub leastOf : ℕ → ℕ → ℕ
@@ -86,29 +50,12 @@ unfoldable pub whyOf : List ℕ → ℕ → Rose → Why
 whyOf s b r = whyBy s b r (saysIn b (r .stood .chip) (drop (r .stood .at) s))
 
 -- ── the row: 36 bytes, the low ones first ──
-abbrev pub words32 : ℕ → List ℕ
-words32 n = n % 65536 ∷ n / 65536 ∷ []
-
-abbrev pub words64 : ℕ → List ℕ
-words64 n = n % 65536 ∷ n / 65536 % 65536 ∷ n / 4294967296 % 65536 ∷ n / 281474976710656 % 65536 ∷ []
-
-unfoldable pub whyWords : Why → List ℕ
-whyWords w =
-    words64 (w .rose) ++ words64 (w .first) ++ words32 (w .cause) ++ words32 (w .many) ++ words32 (w .limit) ++ words32 (w .input)
-    ++ words32 (w .value)
-
 abbrev pub whyBytes : Why → List ℕ
 whyBytes w = wordBytes (whyWords w)
 
 -- ── the call: 24, 27, 28, then 5 ──
 abbrev pub streamMost : ℕ
 streamMost = 4294967295
-
-abbrev pub isKnown : ℕ → Bool
-isKnown b = eqb b OCD || eqb b SCD || eqb b OV || eqb b UV || eqb b «OVRD_ALERT» || eqb b XREADY || eqb b «CC_READY»
-
-abbrev pub knownBit : ℕ → ℕ
-knownBit b = cond (isKnown b) b 0
 
 abbrev pub whyRow : List ℕ → ℕ → ℕ → List ℕ
 whyRow s n b = whyBytes (whyOf s (knownBit b) (risen s (knownBit b) 0 (suc n)))

@@ -11,7 +11,7 @@ use Rattle.registers.specs.Read.{statusByte}
 use Rattle.registers.specs.Write.{holdsChg, holdsDsg}
 use Rattle.events.specs.Fault.{Ov, Uv, Scd, Ocd}
 use Rattle.demands.specs.BytesLaws.{status-bit}
-use Rattle.why.specs.Off.{heldBy}
+use Rattle.causes.specs.Hold.{heldBy}
 
 one-is : (b : Bool) → eqb (weighed b 1) 1 ≡ b
 one-is true = refl

@@ -24,8 +24,9 @@ use Rattle.chip.specs.Core.{bare}
 use Rattle.demands.specs.Demand.{ofCells, judges, core, standing, verdicts, delay}
 use Rattle.demands.specs.History.{verdicts-are}
 use Rattle.demands.specs.BytesLaws.{place}
-use Rattle.why_walk.specs.declared.Says.{Says}
-use Rattle.why_walk.specs.Says.{isOutside, lowest, saysScan, scanSays}
+use Rattle.why_scan.specs.declared.Says.{Says}
+use Rattle.why_scan.specs.Scan.{isOutside, lowest, saysScan}
+use Rattle.why_walk.specs.Says.{scanSays}
 use Rattle.why_laws.specs.LowestLaws.{LowestAt, lowest-is, lowest-some}
 use Rattle.why_laws.specs.DueLaws.{Alike, alikeBy, RisesAt}
 

@@ -8,7 +8,7 @@ use lib.Dec.{ltb}
 use lib.ListN.{length, getD}
 use borrow.Author.Tests.{lt-ltb}
 use Rattle.cell_counts.specs.Scan.{some, someAbove, someBetween}
-use Rattle.why_walk.specs.Says.{isOutside, lowest}
+use Rattle.why_scan.specs.Scan.{isOutside, lowest}
 
 -- place `at` of the counts, counted from 0, is such, and no place before it; r is its input, where the first is i
 pub record LowestAt (such : ℕ → Bool) (xs : List ℕ) (i r : ℕ) : Type 0 where

@@ -22,11 +22,13 @@ use Rattle.chip.specs.Chip.{steppedBy}
 use Rattle.chip.specs.Core.{coreOf, bare}
 use Rattle.demands.specs.BytesLaws.{place}
 use Rattle.demands.specs.Wired.{celled}
-use Rattle.plain_back.specs.declared.Streaks.{Streaks}
-use Rattle.plain_back.specs.declared.Walk.{Walk}
-use Rattle.plain_back.specs.Said.{streakOf, noStreaks}
-use Rattle.plain_back.specs.Walk.{goesOn, scanIn, ticksIn, scanSaid, ticksSaid, movedBy, walkedBy}
-use Rattle.why_walk.specs.Says.{saysScan, scanSays, ticksSay, eventSays, streakAfter}
+use Rattle.plain_due.specs.declared.Streaks.{Streaks}
+use Rattle.plain_due.specs.Streaks.{streakOf, noStreaks}
+use Rattle.plain_moves.specs.declared.Walk.{Walk}
+use Rattle.plain_moves.specs.Moved.{movedBy}
+use Rattle.plain_back.specs.Walk.{goesOn, scanIn, ticksIn, scanSaid, ticksSaid, walkedBy}
+use Rattle.why_scan.specs.Scan.{saysScan}
+use Rattle.why_walk.specs.Says.{scanSays, ticksSay, eventSays, streakAfter}
 use Rattle.why_laws.specs.LowestLaws.{above-some, between-some}
 
 -- the number of cells says nothing, nor anything else than the setup and the settings

@@ -32,14 +32,15 @@ use Rattle.demands.specs.History.{setup-is, core-is}
 use Rattle.demands.specs.Wired.{celled}
 use Rattle.demands.specs.Streams.{heardNext, a-part}
 use Rattle.demands.specs.BytesLaws.{noEntry, place, status-bit, heardTo, entry-shows}
-use Rattle.why_walk.specs.declared.Says.{Says}
+use Rattle.why_scan.specs.declared.Says.{Says}
 use Rattle.why_walk.specs.declared.Standing.{Standing}
 use Rattle.why_walk.specs.Says.{saysRead, saysIn, eventSays}
 use Rattle.why_walk.specs.Standing.{standingAt}
-use Rattle.why.specs.declared.Rose.{Rose}
-use Rattle.why.specs.declared.Why.{Why}
-use Rattle.why.specs.Rise.{risen}
-use Rattle.why.specs.Why.{isJudged, causeOf, needOf, limitOf, leastOf, judged, unjudged, whyOf}
+use Rattle.why_rows.specs.declared.Why.{Why}
+use Rattle.causes.specs.Cause.{isJudged, causeOf, needOf, limitOf}
+use Rattle.why_rise.specs.declared.Rose.{Rose}
+use Rattle.why_rise.specs.Rise.{risen}
+use Rattle.why.specs.Why.{leastOf, judged, unjudged, whyOf}
 use Rattle.why_laws.specs.RiseLaws.{shownIn, RoseAt, bit-rose, bit-stood}
 use Rattle.why_laws.specs.StreakLaws.{says-bare}
 use Rattle.why_laws.specs.AlongLaws.{says-in, Along, along, heard-next}

@@ -1,11 +1,11 @@
 -- CHIP P17: what a record says of a bit of SYS_STAT, by the chip that stands when it comes: one verdict of a scan on OV or UV, as many as
 -- its ticks on SCD or OCD. Assumes nothing.
-use mathlib.Core.Bool.{Bool, true, false, cond, _&&_}
-use mathlib.Core.List.{List, [], _∷_}
-use Prim.Native.Nat.{ℕ, suc, _+_, _-_}
-use lib.Dec.{eqb, leb, ltb}
+use mathlib.Core.Bool.{Bool, true, false, cond}
+use mathlib.Core.List.{List}
+use Prim.Native.Nat.{ℕ, _+_}
+use lib.Dec.{eqb}
 use lib.IntN.{ℤ}
-use lib.ListN.{take, getD}
+use lib.ListN.{take}
 use Rattle.events.specs.declared.Counts.{Counts}
 use Rattle.events.specs.declared.Event.{Event}
 use Rattle.events.specs.declared.Event.the-variants.{Setup, Por, Boot, Scan, Temp, Count, Sense, Pin, Load, Xready, OnBus, Level, Ticks}
@@ -18,30 +18,12 @@ use Rattle.records.specs.Record.{readOf, countsBeside}
 use Rattle.writer.specs.Write.{bits32}
 use Rattle.limits.specs.Rule.{rule, beyond}
 use Rattle.chip.specs.declared.Chip.{Chip}
-use Rattle.why_walk.specs.declared.Says.{Says}
-
--- ── the lowest input outside ──
--- above the line (CHIP J2), or between the floor and the line (CHIP J3)
-abbrev pub isOutside : Bool → ℕ → ℕ → ℕ → Bool
-isOutside over floor line x = cond over (ltb line x) (leb floor x && ltb x line)
-
--- the lowest, counted from i; 0 for none
-abbrev pub lowest : (ℕ → Bool) → ℕ → List ℕ → ℕ
-lowest such i [] = 0
-lowest such i (x ∷ xs) = cond (such x) i (lowest such (suc i) xs)
+use Rattle.why_scan.specs.declared.Says.{Says}
+use Rattle.why_scan.specs.Scan.{isOutside, saysNone, saysScan}
 
 -- ── what a record says ──
-abbrev pub saysNone : Says
-saysNone = record { many = 0; verdict = false; input = 0; value = 0; pin = false }
-
 abbrev pub saysPin : Says
 saysPin = record { many = 0; verdict = false; input = 0; value = 0; pin = true }
-
-abbrev pub saysAt : Bool → ℕ → List ℕ → Says
-saysAt on i xs = record { many = 1; verdict = on && ltb 0 i; input = i; value = cond (ltb 0 i) (getD xs (i - 1) 0) 0; pin = false }
-
-unfoldable pub saysScan : Bool → (ℕ → Bool) → List ℕ → Says
-saysScan on such xs = saysAt on (lowest such 1 xs) xs
 
 abbrev pub saysTicks : Bool → ℤ → ℕ → Says
 saysTicks verdict v n = record { many = n; verdict = verdict; input = 0; value = bits32 v; pin = false }

@@ -5,7 +5,7 @@ use mathlib.Core.List.{List}
 use Prim.Native.Nat.{ℕ, zero, suc, _+_}
 use lib.ListN.{length, drop}
 use Rattle.turn.specs.Turn.{none, Turn, turnOf}
-use Rattle.why_walk.specs.declared.Says.{Says}
+use Rattle.why_scan.specs.declared.Says.{Says}
 use Rattle.why_walk.specs.declared.Standing.{Standing}
 use Rattle.why_walk.specs.Says.{saysIn, streakAfter}
 

@@ -1,28 +1,18 @@
 // CHIP P17: what each record of a stream says of a bit of SYS_STAT, and where a stream stands between two of its records.
 ghost use mathlib.Core.Path.{_≡_};
-ghost use mathlib.Core.Bool.{cond, _&&_};
-ghost use Prim.Native.Nat.{_+_, _-_, _≤_, _<_, _^_, min};
-ghost use lib.Dec.{eqb, ltb};
-ghost use lib.ListN.{length, take, getD};
+ghost use mathlib.Core.Bool.{cond};
+ghost use Prim.Native.Nat.{_+_, _≤_, _<_, _^_};
+ghost use lib.ListN.{length, take};
 ghost use Rattle.events.specs.Setup.{inputs as inputsSpec};
 ghost use Rattle.writer.specs.Write.{bits32};
-ghost use Rattle.why_walk.specs.Says.{isOutside, lowest as lowestSpec, saysNone, saysScan, scanSays, ticksSay, eventSays, saysIn, streakAfter};
+ghost use Rattle.why_walk.specs.Says.{scanSays, ticksSay, eventSays, saysIn, streakAfter};
 ghost use Rattle.why_walk.specs.Standing.{begun as begunSpec, advanced};
 use chip::Chip;
 use constants::weight;
 use events::Counts;
 use events::Event;
 use records::Read;
-
-// What a record says of a bit: how many verdicts, all alike (0: it does not judge the bit), the verdict, the lowest input outside (0: none, or a tick), its count or the
-// 32 bits of the tick's value, and whether it is a PIN.
-pub struct Says {
-    pub many: u32,
-    pub verdict: bool,
-    pub input: u32,
-    pub value: u32,
-    pub pin: bool,
-}
+use why_scan::Says;
 
 // Before a record: the chip, whether a wiring record may follow, the record's place, the streak of the bit that is asked about (how many of the newest verdicts of
 // this waking spell are true, up to the first that is not), and SYS_STAT and the pins of the entry before.
@@ -35,84 +25,6 @@ pub struct Standing {
     pub pins: u8,
 }
 
-// A count above the line, or between the floor and the line.
-fn outside(over: bool, floor: u16, line: u16, x: u16) -> bool
-    ensures { λ r. ⌜ r ≡ isOutside over floor line x ⌝ }
-{
-    if over {
-        line < x
-    } else {
-        (floor <= x) & (x < line)
-    }
-}
-
-fn fifteen_at_most(n: u8) -> usize
-    ensures { λ r. ⌜ r ≡ min n 15 ⌝ }
-{
-    if n < 15 { n as usize } else { 15 }
-}
-
-// What was found, else one more.
-fn kept(found: usize, next: usize, such: bool) -> usize
-    requires { ⌜ found ≤ next ⌝ }
-    ensures { λ r. ⌜ (r ≡ cond (eqb found 0 && such) next found) × (r ≤ next) ⌝ }
-{
-    if (found == 0) & such { next } else { found }
-}
-
-// The lowest input whose count is outside, from 1; 0 for none.
-fn lowest(counts: [u16; 15], inputs: u8, over: bool, floor: u16, line: u16) -> usize
-    ensures { λ r. ⌜ (r ≡ lowestSpec (isOutside over floor line) 1 (take inputs counts)) × (r ≤ 15) ⌝ }
-{
-    let n = fifteen_at_most(inputs);
-    let mut found = 0;
-    for i in 0..n {
-        let such = outside(over, floor, line, counts[i]);
-        found = kept(found, i + 1, such);
-    }
-    found
-}
-
-// The count of an input, where it is one of the first `many`; 0 for no input.
-fn count_at(counts: [u16; 15], many: u8, input: usize) -> u16
-    requires { ⌜ input ≤ 15 ⌝ }
-    ensures { λ r. ⌜ r ≡ cond (ltb 0 input) (getD (take many counts) (input - 1) 0) 0 ⌝ }
-{
-    if input == 0 {
-        return 0;
-    }
-    let at = input - 1;
-    if at < many as usize { counts[at] } else { 0 }
-}
-
-// Nothing.
-fn says_none() -> Says
-    ensures { λ r. ⌜ r ≡ saysNone ⌝ }
-{
-    Says {
-        many: 0,
-        verdict: false,
-        input: 0,
-        value: 0,
-        pin: false,
-    }
-}
-
-// A scan: one verdict, of the cells above the line or between the floor and the line, where they are measured.
-fn scan_of(counts: [u16; 15], inputs: u8, on: bool, over: bool, floor: u16, line: u16) -> Says
-    ensures { λ r. ⌜ r ≡ saysScan on (isOutside over floor line) (take inputs counts) ⌝ }
-{
-    let input = lowest(counts, inputs, over, floor, line);
-    let count = count_at(counts, inputs, input);
-    Says {
-        many: 1,
-        verdict: on & (0 < input),
-        input: input as u32,
-        value: count as u32,
-        pin: false,
-    }
-}
-
 // What a SCAN says of OV and UV.
 fn scan_says(chip: Chip, counts: [u16; 15], bit: u8) -> Says
     ensures { λ r. ⌜ r ≡ scanSays bit chip (take (inputsSpec (chip .setup)) counts) ⌝ }
@@ -122,13 +34,13 @@ fn scan_says(chip: Chip, counts: [u16; 15], bit: u8) -> Says
     let s = registers.settings;
     if bit == weight::OV {
         let line = limits::over_line(s);
-        return scan_of(counts, setup.inputs(), s.adc_en, true, setup.floor, line);
+        return why_scan::scan_of(counts, setup.inputs(), s.adc_en, true, setup.floor, line);
     }
     if bit == weight::UV {
         let line = limits::under_line(s);
-        return scan_of(counts, setup.inputs(), s.adc_en, false, setup.floor, line);
+        return why_scan::scan_of(counts, setup.inputs(), s.adc_en, false, setup.floor, line);
     }
-    says_none()
+    why_scan::says_none()
 }
 
 // The 32 bits of a number with its sign.
@@ -144,7 +56,7 @@ fn ticks_say(chip: Chip, value: i32, many: u32, bit: u8) -> Says
 {
     let registers = chip.registers;
     let s = registers.settings;
-    let none = says_none();
+    let none = why_scan::says_none();
     if bit == weight::SCD {
         let verdict = limits::beyond_scd(s, value);
         let value = bits_of(value);
@@ -181,7 +93,7 @@ fn event_says(chip: Chip, event: Event, counts: Counts, bit: u8) -> Says
         Event::Ticks(value, repeat) => ticks_say(chip, value, repeat as u32, bit),
         Event::Soak(value, repeat) => ticks_say(chip, value, repeat, bit),
         Event::Pin => {
-            let none = says_none();
+            let none = why_scan::says_none();
             Says { pin: true, ..none }
         }
         Event::Setup(_)
@@ -193,7 +105,7 @@ fn event_says(chip: Chip, event: Event, counts: Counts, bit: u8) -> Says
         | Event::Xready
         | Event::OnBus(_)
         | Event::Level(_)
-        | Event::Wires(_) => says_none(),
+        | Event::Wires(_) => why_scan::says_none(),
     }
 }
 
@@ -203,8 +115,8 @@ pub fn said_by(chip: Chip, rest: &[u8], bit: u8) -> Says
 {
     let setup = chip.setup;
     match records::read_rest(rest, setup.part) {
-        Read::Cut => says_none(),
-        Read::Refused { number: _, next: _ } => says_none(),
+        Read::Cut => why_scan::says_none(),
+        Read::Refused { number: _, next: _ } => why_scan::says_none(),
         Read::Record { event, next } => {
             let counts = records::counts_in(event, &rest[4..next]);
             event_says(chip, event, counts, bit)

@@ -3,7 +3,7 @@ use mathlib.Core.Path.{_≡_, ap, _∙_}
 use mir.Syntax.{w32}
 use mir.Val.{toZ, ofZ}
 use borrow.Author.Tests.{not-true, not-false}
-use Rattle.plain.specs.Decision.{ticksDue}
+use Rattle.plain_due.specs.Decision.{ticksDue}
 use Rattle.plain.proofs.Cases.{ticks-asleep, ticks-awake}
 use borrow.Author.Needs.{needs}
 use Rattle.plain.proofs.ticks.Statement.{statement}

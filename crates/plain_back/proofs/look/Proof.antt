@@ -2,7 +2,7 @@
 use mathlib.Core.Path.{ap}
 use borrow.Author.Tests.{le-leb, lt-leb}
 use Rattle.constants.specs.Answer.{gives}
-use Rattle.plain_back.specs.declared.Streaks.{Streaks}
+use Rattle.plain_due.specs.declared.Streaks.{Streaks}
 use borrow.Author.Needs.{needs}
 use Rattle.plain_back.proofs.look.Statement.{statement}
 use Rattle.plain_back.proofs.look.Tie as tie

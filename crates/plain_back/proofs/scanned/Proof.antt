@@ -1,6 +1,6 @@
 -- The counts of a record.
 use mathlib.Core.Path.{ap}
-use Rattle.plain_back.specs.declared.Streaks.{Streaks}
+use Rattle.plain_due.specs.declared.Streaks.{Streaks}
 use borrow.Author.Needs.{needs}
 use Rattle.plain_back.proofs.scanned.Statement.{statement}
 use Rattle.plain_back.proofs.scanned.Tie as tie

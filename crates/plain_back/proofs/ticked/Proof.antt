@@ -3,7 +3,7 @@ use mathlib.Core.Path.{_≡_, ap, _∙_}
 use mir.Syntax.{w32}
 use mir.Val.{toZ, ofZ}
 use Rattle.plain_back.specs.Walk.{ticksSaid}
-use Rattle.plain_back.specs.declared.Streaks.{Streaks}
+use Rattle.plain_due.specs.declared.Streaks.{Streaks}
 use borrow.Author.Needs.{needs}
 use Rattle.plain_back.proofs.ticked.Statement.{statement}
 use Rattle.plain_back.proofs.ticked.Tie as tie

@@ -3,7 +3,7 @@ use mathlib.Core.Path.{_≡_, ap, _∙_}
 use mathlib.Core.Bool.{true}
 use mir.Syntax.{w32}
 use mir.Val.{toZ, ofZ}
-use Rattle.why_walk.specs.declared.Says.{Says}
+use Rattle.why_scan.specs.declared.Says.{Says}
 use Rattle.why_walk.specs.Says.{ticksSay, eventSays}
 use Rattle.why_walk.proofs.Cases.{says-as, says-other}
 use borrow.Author.Needs.{needs}

@@ -1,0 +1,2 @@
+pub mod Streaks
+pub mod Decision
