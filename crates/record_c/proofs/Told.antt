@@ -16,7 +16,7 @@ use Rattle.records.specs.declared.Payload.{Payload}
 use Rattle.records.specs.declared.Payload.the-variants.{Whole, Unfit}
 use Rattle.records.specs.declared.Read.{Read}
 use Rattle.records.specs.declared.Read.the-variants.{Record, Refused, Cut}
-use Rattle.writer.specs.Write.{kindFor, recordFor, refusalFor, Puts}
+use Rattle.writer.specs.Write.{recordFor, refusalFor, Puts}
 use Rattle.writer.specs.declared.Wrote.{Wrote}
 use Rattle.writer.specs.declared.Wrote.the-variants.{Done, Refused as Refused-}
 use Rattle.record_event.specs.Values.{partBy, eventBy, countsBy}

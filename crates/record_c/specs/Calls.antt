@@ -1,11 +1,11 @@
 -- What the two calls answer and leave: a record from its kind and values, and back. Assumes nothing.
 use mathlib.Core.Path.{_≡_}
 use mathlib.Core.Bool.{cond}
-use mathlib.Core.List.{List, _++_}
+use mathlib.Core.List.{List}
 use Prim.Native.Nat.{ℕ, _<_, _^_}
 use lib.Dec.{eqb, leb}
 use lib.IntN.{ℤ, pos}
-use lib.ListN.{length, drop}
+use lib.ListN.{length}
 use Rattle.constants.specs.Number.{«BAD_SETUP», «NO_ROOM», CUT}
 use Rattle.constants.specs.Answer.{Said, gives, refuses, minus}
 use Rattle.events.specs.declared.Counts.{Counts}
@@ -17,7 +17,7 @@ use Rattle.records.specs.declared.Read.{Read}
 use Rattle.records.specs.declared.Read.the-variants.{Record, Refused, Cut}
 use Rattle.writer.specs.declared.Wrote.{Wrote}
 use Rattle.writer.specs.declared.Wrote.the-variants.{Done, Refused as Refused-}
-use Rattle.writer.specs.Write.{kindFor, recordFor, refusalFor}
+use Rattle.writer.specs.Write.{recordFor, refusalFor}
 use Rattle.record_event.specs.Values.{partBy, eventBy, countsBy}
 use Rattle.record_values.specs.Named.{laid, Named, named}
 

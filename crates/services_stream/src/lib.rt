@@ -30,7 +30,7 @@ pub fn put_choice(out: &mut [u8], choice: Choice) -> u8
 pub extern "C" fn toralinge_bleed(stream: &[u8], margin: u32, cellbal: &mut [u8]) -> u8
     ensures { λ r. ⌜ Bled (proposalAt (now (stream .entry)) margin) (now (cellbal .entry)) r (now (cellbal .exit)) ⌝ }
 {
-    let chip = stream::last_chip(stream);
+    let chip = stream_run::last_chip(stream);
     let setup = chip.setup;
     if setup.part == 0 {
         return records::first_number(stream);
@@ -53,7 +53,7 @@ pub extern "C" fn toralinge_reply(
 ) -> u8
     ensures { λ r. ⌜ Replied (wordAt (now (stream .entry)) command milliohms) command (now (reply .entry)) r (now (reply .exit)) ⌝ }
 {
-    let chip = stream::last_chip(stream);
+    let chip = stream_run::last_chip(stream);
     let setup = chip.setup;
     if setup.part == 0 {
         return records::first_number(stream);

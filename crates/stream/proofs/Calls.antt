@@ -1,8 +1,8 @@
--- A run from no chip, and what the C call makes of it. Assumes nothing.
-use mathlib.Core.Path.{_≡_, ap, sym, _∙_, subst}
+-- What the C call makes of a run from no chip. Assumes nothing.
+use mathlib.Core.Path.{_≡_, ap, _∙_}
 use Prim.Native.Nat.{ℕ, _*_, _/_, _^_, _<_, _≤_}
 use mathlib.Core.List.{List}
-use mathlib.Core.Bool.{Bool, true, false}
+use mathlib.Core.Bool.{true, false}
 use native.Mathlib.Omega.{arith}
 use lib.ListN.{length}
 use lib.Dec.{leb}
@@ -11,20 +11,11 @@ use mir.Syntax.{w64}
 use mir.Val.{toZ}
 use mir.Facts.{toZ-pos}
 use borrow.Author.Tests.{le-leb, lt-leb}
-use Rattle.chip.specs.declared.Chip.{Chip}
-use Rattle.chip.specs.Calm.{Calmed, ship-calm}
 use Rattle.turn.specs.Turn.{none}
 use Rattle.turn.specs.Entries.{entries, entriesFrom}
 use Rattle.turn.proofs.Runs.{entered-all}
 use Rattle.stream_run.specs.declared.Left.{Left}
 use Rattle.stream_run.specs.Stream.{Ran, Played}
-
--- a run from the chip d, which is none
-pub none-calm : (d : Chip) → d ≡ none → Calmed d
-none-calm d e = subst Calmed (sym e) (ship-calm (none .setup))
-
-pub from-none : {s old new : List ℕ} {left : Left} (d : Chip) → d ≡ none → Ran false d s old left new → Ran false none s old left new
-from-none {s} {old} {new} {left} d e r = subst (λ (d : Chip). Ran false d s old left new) e r
 
 -- the C call: the count by framing, and a run that is lent room enough
 pub played-short : (s old : List ℕ) (n : ℕ) → n ≡ length (entries s) → length old / 5 < n → Played s old (negsuc 4) old

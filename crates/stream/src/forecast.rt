@@ -3,10 +3,10 @@ ghost use mathlib.Core.Path.{_≡_};
 ghost use Rattle.constants.specs.Answer.{numberSaid};
 ghost use Rattle.chip_voltage.specs.Voltage.{saidForecast};
 ghost use Rattle.stream.specs.Forecast.{Read4};
-use crate::last_chip;
 use chip_voltage::ForecastAnswer;
 use constants::number;
 use constants::size;
+use stream_run::last_chip;
 
 // The number of a reading, 0 where it is given.
 fn refusal_of(answer: ForecastAnswer) -> u8

@@ -21,8 +21,8 @@ use mathlib.Core.Logic.{⊎-elim}
 use Rattle.chip.specs.declared.Chip.{Chip}
 use Rattle.chip.specs.declared.Stepped.{Stepped}
 use Rattle.chip.specs.Chip.{numbered}
-use Rattle.chip.specs.Calm.{Calmed}
-use Rattle.turn.specs.Turn.{Turn, turn, turnOf, turned, entryOf}
+use Rattle.chip.specs.Calm.{Calmed, ship-calm}
+use Rattle.turn.specs.Turn.{Turn, turn, turnOf, turned, none, entryOf}
 use Rattle.turn.specs.Entries.{runs, stands, stays, entriesFrom, chipFrom, freshFrom, entryBytes, bytesOf, noted, entered}
 use Rattle.stream_count.specs.Passed.{passed}
 use Rattle.stream_run.specs.Stream.{Ran}
@@ -239,3 +239,10 @@ module _ (o₀ : Bool) (c₀ : Chip) (s old out : List ℕ) (o : Bool) (chip : C
         by true p = (omega (arith, room), omega (arith, room))
         by false p = (omega (arith, p), omega (arith, room, p))
     passes Cut q k = (omega (arith, room), omega (arith, room))
+
+-- a run from the chip d, which is none
+pub none-calm : (d : Chip) → d ≡ none → Calmed d
+none-calm d e = subst Calmed (sym e) (ship-calm (none .setup))
+
+pub from-none : {s old new : List ℕ} {left : Left} (d : Chip) → d ≡ none → Ran false d s old left new → Ran false none s old left new
+from-none {s} {old} {new} {left} d e r = subst (λ (d : Chip). Ran false d s old left new) e r

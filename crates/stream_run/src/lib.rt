@@ -34,6 +34,10 @@ use turn::born;
 use turn::numbered;
 use turn::rewired;
 
+pub mod end;
+
+pub use end::last_chip;
+
 // What a chip shows outside: SYS_STAT and the pins.
 pub struct Face {
     pub stat: u8,

@@ -2,7 +2,8 @@
 use mathlib.Core.Path.{sym, _∙_}
 use native.Mathlib.Omega.{arith}
 use Rattle.turn.specs.CountedLaws.{entries-count}
-use Rattle.stream.proofs.Calls.{none-calm, from-none, played-short, played-all}
+use Rattle.stream_run.proofs.Loop.{none-calm, from-none}
+use Rattle.stream.proofs.Calls.{played-short, played-all}
 use borrow.Author.Needs.{needs}
 use Rattle.stream.proofs.toralinge_play.Statement.{statement}
 use Rattle.stream.proofs.toralinge_play.Tie as tie

@@ -1,9 +1,9 @@
 // The chip that a stream leaves.
 ghost use mathlib.Core.Path.{_≡_};
 ghost use Rattle.turn.specs.Entries.{lastChip};
+use crate::run_from;
 use chip::Chip;
 use constants::size;
-use stream_run::run_from;
 use turn::no_chip;
 
 // Plays a whole stream; where no chip stands, part 0 is given.

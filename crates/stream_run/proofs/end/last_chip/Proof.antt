@@ -1,9 +1,9 @@
 -- The chip that a stream leaves, by a run from none.
 use Rattle.turn.specs.Entries.{chipFrom, lastChip}
-use Rattle.stream.proofs.Calls.{none-calm, from-none}
+use Rattle.stream_run.proofs.Loop.{none-calm, from-none}
 use borrow.Author.Needs.{needs}
-use Rattle.stream.proofs.end.last_chip.Statement.{statement}
-use Rattle.stream.proofs.end.last_chip.Tie as tie
+use Rattle.stream_run.proofs.end.last_chip.Statement.{statement}
+use Rattle.stream_run.proofs.end.last_chip.Tie as tie
 
 run-from-requires : tie.Need-run-from-requires
 run-from-requires c κs = none-calm (c .before .no-chip .result) (c .before .no-chip .ensures)
