@@ -1,6 +1,6 @@
 -- The bus of a chip that bytes have, event by event. Assumes nothing.
-use mathlib.Core.Path.{_≡_, refl, sym, ap, ap₂, _∙_}
-use mathlib.Core.Bool.{Bool, true, false, not}
+use mathlib.Core.Path.{_≡_, sym, ap, ap₂, _∙_}
+use mathlib.Core.Bool.{Bool}
 use mathlib.Core.List.{List}
 use Prim.Native.Nat.{ℕ}
 use Rattle.events.specs.declared.Setup.{Setup}
@@ -19,11 +19,6 @@ use Rattle.chip.specs.Chip.{takenBy}
 use Rattle.chip.specs.Parts.{unheard, sentOn, handedOver, heardOf}
 use Rattle.chip.proofs.Told.{told-pair, told-none}
 use Rattle.chip_bytes_layout.specs.Layout.{setupAt, busAt, registersAt, chipAt}
-
--- a test that says to go
-pub down : (t : Bool) → not t ≡ true → t ≡ false
-down true h = sym h
-down false h = refl
 
 module _ (b : List ℕ) {u : Bus} (hu : u ≡ busAt b) where
   -- IN

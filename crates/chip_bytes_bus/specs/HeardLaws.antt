@@ -13,7 +13,6 @@ use Rattle.bus.specs.declared.Store.the-variants.{Nothing, At}
 use Rattle.bus.specs.declared.Outed.{Outed}
 use Rattle.bus.specs.Bus.{withLine, outed}
 use Rattle.settings.specs.Write.{ships}
-use Rattle.writer.specs.BytesLaws.{bit-same}
 use Rattle.registers.specs.declared.Shown.{Shown}
 use Rattle.chip.specs.declared.Chip.{Chip}
 use Rattle.chip.specs.declared.Heard.{Heard}
@@ -23,17 +22,12 @@ use Rattle.chip.specs.Parts.{heardOf}
 use Rattle.chip_bytes_layout.specs.Place.{FRESH}
 use Rattle.chip_bytes_layout.specs.Layout.{plainOf, switchesOf, wordsOf, chipBytes, switchAt, shownAt, chipAt, goodOf}
 use Rattle.chip_bytes_event.specs.Did.{Awake, chipHere, says, Did}
-use Rattle.chip_bytes_event.specs.DidLaws.{calm, bytes-are, did}
+use Rattle.chip_bytes_event.specs.DidLaws.{calm, bytes-are, did, shown-back}
 use Rattle.chip_bytes_bus.specs.Heard.{busIn, KeptBy, keptChip}
 
 moved : (c : Chip) (f : Bool) (u : Bus) (rest : List ℕ) → busIn u (chipBytes c f ++ rest) ≡ chipBytes (withBus u c) false ++ rest
 unfolding chipBytes plainOf switchesOf wordsOf
 moved c f u rest = refl
-
--- what is shown, read back
-shown-back : (c : Chip) (f : Bool) (rest : List ℕ) → shownAt (take 96 (chipBytes c f ++ rest)) ≡ c .registers .shown
-unfolding chipBytes plainOf switchesOf wordsOf
-shown-back c f rest = simp bit-same
 
 -- ── the store ──
 pub kept-not : (t : Store) (b new : List ℕ) → KeptBy t b false new → new ≡ b

@@ -6,10 +6,9 @@ use native.Mathlib.Omega.{arith}
 use lib.ListN.{length}
 use lib.Seq.{length-take-le}
 use Rattle.chip_bytes_event.specs.Did.{Awake}
-use Rattle.chip_bytes_event.proofs.Bytes.{awake, up}
+use Rattle.chip_bytes_event.proofs.Bytes.{awake, up, down}
 use Rattle.chip_bytes_bus.specs.Heard.{KeptBy}
 use Rattle.chip_bytes_bus.specs.HeardLaws.{kept-not, hears-did}
-use Rattle.chip_bytes_bus.proofs.Cases.{down}
 use borrow.Author.Needs.{needs}
 use Rattle.chip_bytes_bus.proofs.heard.Statement.{statement}
 use Rattle.chip_bytes_bus.proofs.heard.Tie as tie
