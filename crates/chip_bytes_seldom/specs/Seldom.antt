@@ -1,8 +1,8 @@
 -- What the events that are seldom met write into the bytes of a chip. Assumes nothing.
 use mathlib.Core.Path.{_≡_}
-use mathlib.Core.Bool.{Bool, true, false}
+use mathlib.Core.Bool.{Bool, true, false, cond}
 use mathlib.Core.List.{List, [], _∷_, _++_}
-use Prim.Native.Nat.{ℕ}
+use Prim.Native.Nat.{ℕ, _+_, _*_}
 use lib.ListN.{set}
 use lib.Seq.{sets}
 use Rattle.events.specs.declared.Setup.{Setup}
@@ -13,7 +13,7 @@ use Rattle.registers.specs.declared.Shown.{Shown}
 use Rattle.chip.specs.declared.Chip.{Chip}
 use Rattle.chip.specs.Chip.{numbered, normally}
 use Rattle.chip.specs.Calm.{Calmed}
-use Rattle.chip_bytes_layout.specs.Place.{CELLBAL1, «CC_READY», XREADY, «OVRD_ALERT», «CC_ONESHOT», «DSG_ON»}
+use Rattle.chip_bytes_layout.specs.Place.{CELLBAL1, «CC_READY», XREADY, «OVRD_ALERT», «CC_ONESHOT», «DSG_ON», WORDS, CC, TS1}
 use Rattle.chip_bytes_layout.specs.Layout.{chipBytes, goodOf}
 use Rattle.chip_bytes_event.specs.declared.Done.{Done}
 use Rattle.chip_bytes_event.specs.declared.Done.the-variants.{Shows, Not}
@@ -27,7 +27,11 @@ abbrev pub readiedIn : List ℕ → List ℕ
 readiedIn b = sets (sets (set b XREADY 1) «DSG_ON» (0 ∷ 0 ∷ [])) CELLBAL1 (0 ∷ 0 ∷ 0 ∷ [])
 
 abbrev pub countingIn : ℕ → List ℕ → List ℕ
-countingIn n b = set (set (sets b 58 (wordBytes (n ∷ []))) «CC_READY» 1) «CC_ONESHOT» 0
+countingIn n b = set (set (sets b (WORDS + 2 * CC) (wordBytes (n ∷ []))) «CC_READY» 1) «CC_ONESHOT» 0
+
+-- the counts of TEMP, where they are kept
+abbrev pub warmedIn : Bool → List ℕ → List ℕ → List ℕ
+warmedIn kept ts b = cond kept (sets b (WORDS + 2 * TS1) (wordBytes ts)) b
 
 -- ── an event of the code, and what it leaves of the chip: where the bytes are those of a chip, the new ones are those of the chip after it, and the
 -- outside level has nothing to raise ──

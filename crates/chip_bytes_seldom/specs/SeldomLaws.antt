@@ -5,25 +5,31 @@ use mathlib.Core.List.{List, _++_}
 use Prim.Native.Nat.{ℕ}
 use native.Mathlib.Omega.{arith}
 use lib.Dec.{eqb}
-use lib.ListN.{getD, take, drop, set}
-use lib.Seq.{getD-take}
+use lib.ListN.{length, getD, take, drop, set}
+use lib.Seq.{sets, getD-take}
 use Rattle.events.specs.declared.Event.{Event as Coded}
 use Rattle.events.specs.declared.Event.the-variants.{Boot, Pin, Xready, Count, Load, Level}
-use Rattle.events.specs.Event.{Boot as Booted, Pin as Pulled, Xready as Unready, Count as Counted, Load as Loaded, Level as Leveled}
+use Rattle.events.specs.declared.Setup.{Setup}
+use Rattle.events.specs.Setup.{groups}
+use Rattle.cell_counts.specs.Scan.{padded}
+use Rattle.cell_counts.specs.PaddedLaws.{three-are}
+use Rattle.writer.specs.Write.{wordBytes}
+use Rattle.events.specs.Event.{Event, Temp, Boot as Booted, Pin as Pulled, Xready as Unready, Count as Counted, Load as Loaded, Level as Leveled}
 use Rattle.records.specs.Numbers.{bitOf}
 use Rattle.registers.specs.declared.Status.{Status}
 use Rattle.registers.specs.declared.Shown.{Shown}
-use Rattle.registers.specs.State.{alert, withShown, withLoadLevel, withOutsideLevel}
-use Rattle.registers.specs.Fault.{overridden}
-use Rattle.registers.specs.Judging.{coulombs, pulled, unready}
+use Rattle.registers.specs.State.{alert, withMeasured, withLoadLevel, withOutsideLevel}
+use Rattle.registers.specs.Judging.{tsKept, tsOf, warmed, coulombs, pulled, unready}
 use Rattle.registers.specs.LevelLaws.{pulled-calm, unready-calm, coulombs-calm}
 use Rattle.chip.specs.declared.Chip.{Chip}
-use Rattle.chip.specs.Chip.{withRegisters}
+use Rattle.chip.specs.Chip.{numbered, withRegisters, normally}
+use Rattle.chip.specs.Calm.{Calmed}
 use Rattle.chip_bytes_layout.specs.Place.{FRESH}
-use Rattle.chip_bytes_layout.specs.Layout.{plainOf, switchesOf, wordsOf, chipBytes, switchAt, statusAt, shownAt, chipAt, goodOf}
-use Rattle.chip_bytes_event.specs.Did.{Awake, chipHere}
-use Rattle.chip_bytes_event.specs.DidLaws.{calm, bytes-are, did, shown-back}
-use Rattle.chip_bytes_seldom.specs.Seldom.{overriddenIn, readiedIn, countingIn, Moved, Seldom}
+use Rattle.chip_bytes_layout.specs.Layout.{listed, plainOf, switchesOf, wordsOf, chipBytes, switchAt, setupAt, statusAt, shownAt, chipAt, goodOf, chipOf}
+use Rattle.chip_bytes_layout.specs.ListedLaws.{listed-all}
+use Rattle.chip_bytes_event.specs.Did.{Awake, chipHere, Did}
+use Rattle.chip_bytes_event.specs.DidLaws.{calm, bytes-are, chip-is, did, shown-back}
+use Rattle.chip_bytes_seldom.specs.Seldom.{overriddenIn, readiedIn, countingIn, warmedIn, Moved, Seldom}
 
 -- ── over the bytes of any chip ──
 module _ (c : Chip) (f : Bool) (rest : List ℕ) where
@@ -148,17 +154,54 @@ module _ (b : List ℕ) {new : List ℕ} where
         bytes = λ f rest e. m ∙ ap (λ (x : List ℕ). set x 40 (bitOf l)) e ∙ level-moved (chipHere b) f rest l;
       }
 
--- ── and the whole ──
+-- ── TEMP ──
+three-long : (xs : List ℕ) → length (padded 3 xs) ≡ 3
+three-long xs = ap length (three-are xs)
+
+module _ (c : Chip) (f : Bool) (rest : List ℕ) where
+  ts-moved : (ts : List ℕ) → sets (chipBytes c f ++ rest) 60 (wordBytes (listed ts 0 3))
+      ≡ chipBytes (withRegisters (withMeasured (tsKept ts (c .registers .measured)) (c .registers)) c) f ++ rest
+  unfolding chipBytes plainOf switchesOf wordsOf
+  ts-moved ts = refl
+
+  warmed-moved : (xs : List ℕ) (t : Bool) → warmedIn t (padded 3 xs) (chipBytes c f ++ rest)
+      ≡ chipBytes (withRegisters (withMeasured (cond t (tsOf xs (c .registers .measured)) (c .registers .measured)) (c .registers)) c) f ++ rest
+  warmed-moved xs true =
+      ap (λ (l : List ℕ). sets (chipBytes c f ++ rest) 60 (wordBytes l)) (sym (listed-all (padded 3 xs) 3 (three-long xs))) ∙ ts-moved (padded 3 xs)
+  warmed-moved xs false = refl
+
+-- ── and the whole: what an event leaves of the chip, before the wiring record is shut out ──
+module _ (b mid : List ℕ) {shown : Shown} {new : List ℕ} (w : Awake b) (m : new ≡ set mid FRESH 0) (s : shown ≡ shownAt (take 96 new))
+    (g : goodOf b ≡ true) where
+  left-did : (x : Event) (d : Chip) → numbered 0 d ≡ normally x (chipHere b) → d .setup .part ≡ chipHere b .setup .part → Calmed d
+      → mid ≡ chipBytes d (switchAt (take 96 b) FRESH) ++ drop 96 b → Did b x false 0 shown new
+  left-did x d l p k e =
+      let are : new ≡ chipBytes d false ++ drop 96 b =
+      m ∙ ap (λ (l : List ℕ). set l FRESH 0) e ∙ fresh-moved d (switchAt (take 96 b) FRESH) (drop 96 b) in
+      did b w g x d false 0 shown new p k l (s ∙ ap (λ (l : List ℕ). shownAt (take 96 l)) are ∙ shown-back d false (drop 96 b)) are
+
 pub moved-did : (b mid : List ℕ) (e : Coded) {shown : Shown} {new : List ℕ} → Awake b → Moved e b mid → new ≡ set mid FRESH 0
     → shown ≡ shownAt (take 96 new) → goodOf b ≡ true → Seldom b e false 0 shown new
-moved-did b mid e {shown = shown} {new = new} w v m s g =
-    let are : new ≡ chipBytes (v .chip) false ++ drop 96 b =
-    m ∙ ap (λ (l : List ℕ). set l FRESH 0) (v .bytes (switchAt (take 96 b) FRESH) (drop 96 b) (sym (bytes-are b w g)))
-    ∙ fresh-moved (v .chip) (switchAt (take 96 b) FRESH) (drop 96 b) in
+moved-did b mid e w v m s g =
     record {
       event = v .event;
       meant = v .meant;
       did =
-          did b w g (v .event) (v .chip) false 0 shown new (v .part) (v .calm (calm b w g)) (v .leaves)
-          (s ∙ ap (λ (l : List ℕ). shownAt (take 96 l)) are ∙ shown-back (v .chip) false (drop 96 b)) are;
+          left-did b mid w m s g (v .event) (v .chip) (v .leaves) (v .part) (v .calm (calm b w g))
+          (v .bytes (switchAt (take 96 b) FRESH) (drop 96 b) (sym (bytes-are b w g)));
     }
+
+pub warms-did : (b mid counts : List ℕ) {u : Setup} {n : ℕ} {ts : List ℕ} {shown : Shown} {new : List ℕ} → Awake b → u ≡ setupAt (take 96 b)
+    → n ≡ groups u → ts ≡ padded 3 (take n counts) → mid ≡ warmedIn (eqb (getD b 24 0) 1) ts b → new ≡ set mid FRESH 0
+    → shown ≡ shownAt (take 96 new) → goodOf b ≡ true → Did b (Temp (take (groups (chipOf b .setup)) counts)) false 0 shown new
+unfolding chipAt
+warms-did b mid counts {shown = shown} {new = new} w hu hn ht hm m s g =
+    let xs : List ℕ = take (groups (chipHere b .setup)) counts in
+    let fresh : Bool = switchAt (take 96 b) FRESH in
+    let ts : _ ≡ padded 3 xs = ht ∙ ap (λ (k : ℕ). padded 3 (take k counts)) (hn ∙ ap groups hu) in
+    let up : eqb (getD b 24 0) 1 ≡ switchAt (take 96 b) 24 = ap (λ (x : ℕ). eqb x 1) (sym (getD-take 96 b 24 0 (omega arith))) in
+    subst (λ (c : Chip). Did b (Temp (take (groups (c .setup)) counts)) false 0 shown new) (sym (chip-is b w g))
+    (left-did b mid w m s g (Temp xs) (withRegisters (warmed xs (chipHere b .registers)) (chipHere b)) refl refl (calm b w g)
+    (hm ∙ ap (λ (l : List ℕ). warmedIn (eqb (getD b 24 0) 1) l b) ts ∙ ap (λ (t : Bool). warmedIn t (padded 3 xs) b) up
+    ∙ ap (warmedIn (switchAt (take 96 b) 24) (padded 3 xs)) (sym (bytes-are b w g))
+    ∙ warmed-moved (chipHere b) fresh (drop 96 b) xs (switchAt (take 96 b) 24)))

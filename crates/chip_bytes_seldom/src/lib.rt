@@ -1,19 +1,32 @@
-// The events that are seldom met and move registers alone, done in the bytes of a kept chip: BOOT, COUNT, PIN, LOAD, XREADY and the outside level.
+// The events that are seldom met and move registers alone, done in the bytes of a kept chip: BOOT, TEMP, COUNT, PIN, LOAD, XREADY and the outside level.
 ghost use mathlib.Core.Path.{_≡_};
 ghost use mathlib.Core.Bool.{true};
 ghost use Prim.Native.Nat.{_≤_};
-ghost use lib.ListN.{length};
+ghost use lib.ListN.{length, take};
 ghost use Rattle.events.specs.declared.Event.the-variants.{Pin, Count, Level};
+ghost use Rattle.events.specs.Setup.{groups};
+ghost use Rattle.events.specs.Event.{Temp};
 ghost use Rattle.constants.specs.Size.{«KEPT_CHIP»};
-ghost use Rattle.chip_bytes_seldom.specs.Seldom.{readiedIn, Moved, MovedBy, SeldomBy};
+ghost use Rattle.chip_bytes_layout.specs.Layout.{chipOf};
+ghost use Rattle.chip_bytes_event.specs.Did.{DidBy};
+ghost use Rattle.chip_bytes_seldom.specs.Seldom.{readiedIn, warmedIn, Moved, MovedBy, SeldomBy};
 use bits::weigh;
 use chip_bytes_event::Done;
 use chip_bytes_event::awake;
 use chip_bytes_layout::place;
+use chip_bytes_read::setup_at;
 use chip_bytes_read::shown_at;
 use chip_bytes_read::status_at;
+use chip_bytes_write::put_words;
 use constants::size;
 use events::Event;
+
+// The low bytes of the counter and of the first thermistor, and the high byte of the counter.
+const CC_LOW: usize = place::WORDS + 2 * place::CC;
+
+const CC_HIGH: usize = place::WORDS_HIGH + 2 * place::CC;
+
+const TS1_LOW: usize = place::WORDS + 2 * place::TS1;
 
 // PIN: where SYS_STAT is 0 OVRD_ALERT rises, and puts off both drives.
 fn put_pin(out: &mut [u8])
@@ -48,8 +61,8 @@ fn put_count(out: &mut [u8], cc: u16)
 {
     let on = (out[place::CC_EN] == 1) | (out[place::CC_ONESHOT] == 1);
     if on {
-        out[place::WORDS + 2 * place::CC] = (cc % 256) as u8;
-        out[place::WORDS_HIGH + 2 * place::CC] = (cc / 256) as u8;
+        out[CC_LOW] = (cc % 256) as u8;
+        out[CC_HIGH] = (cc / 256) as u8;
         out[place::CC_READY] = 1;
         out[place::CC_ONESHOT] = 0;
     }
@@ -106,6 +119,32 @@ pub fn happened(bytes: &mut [u8], event: Event) -> Done
     if !put_event(bytes, event) {
         return Done::Not;
     }
+    bytes[place::FRESH] = 0;
+    let shown = shown_at(&bytes[..size::KEPT_CHIP]);
+    Done::Shows(false, 0, shown)
+}
+
+// The counts of TEMP, where they are kept.
+fn put_temp(out: &mut [u8], kept: bool, ts: [u16; 3])
+    requires { ⌜ «KEPT_CHIP» ≤ length (now out) ⌝ }
+    ensures { λ _. ⌜ now (out .exit) ≡ warmedIn kept ts (now (out .entry)) ⌝ }
+{
+    if kept {
+        put_words(out, TS1_LOW, &ts);
+    }
+}
+
+// TEMP, whose counts are in range.
+pub fn warmed(bytes: &mut [u8], counts: [u16; 15]) -> Done
+    ensures { λ r. ⌜ DidBy (now (bytes .entry)) (Temp (take (groups (chipOf (now (bytes .entry)) .setup)) counts)) r (now (bytes .exit)) ⌝ }
+{
+    if !awake(&bytes[..]) {
+        return Done::Not;
+    }
+    let setup = setup_at(&bytes[..size::KEPT_CHIP]);
+    let ts = cell_counts::three(counts, setup.groups());
+    let kept = bytes[place::ADC_EN] == 1;
+    put_temp(bytes, kept, ts);
     bytes[place::FRESH] = 0;
     let shown = shown_at(&bytes[..size::KEPT_CHIP]);
     Done::Shows(false, 0, shown)

@@ -32,10 +32,6 @@ put-count-spec =
     (λ c. search needs)
     (λ c. search needs)
     (λ c. search needs)
-    (λ c. search needs)
-    (λ c. search needs)
-    (λ c. search needs)
-    (λ c. search needs)
     slice-write-out-2
     slice-write-out-3
     slice-write-out-4
