@@ -84,10 +84,20 @@ module _ (v : ℕ) (c : Chip) (f : Bool) (rest : List ℕ) where
 above : (u : Setup) (a v : ℕ) (r : Registers) → 12 ≤ a → written u a v r ≡ r
 unfolding settingsWith shownWith cellbalWith
 above u a v r h =
-    simp (ne-eqb a 0x00 (λ e. omega arith), ne-eqb a 0x01 (λ e. omega arith), ne-eqb a 0x02 (λ e. omega arith),
-    ne-eqb a 0x03 (λ e. omega arith), ne-eqb a 0x04 (λ e. omega arith), ne-eqb a 0x05 (λ e. omega arith),
-    ne-eqb a 0x06 (λ e. omega arith), ne-eqb a 0x07 (λ e. omega arith), ne-eqb a 0x08 (λ e. omega arith),
-    ne-eqb a 0x09 (λ e. omega arith), ne-eqb a 0x0A (λ e. omega arith), ne-eqb a 0x0B (λ e. omega arith))
+    simp (
+      ne-eqb a 0x00 (λ e. omega arith),
+      ne-eqb a 0x01 (λ e. omega arith),
+      ne-eqb a 0x02 (λ e. omega arith),
+      ne-eqb a 0x03 (λ e. omega arith),
+      ne-eqb a 0x04 (λ e. omega arith),
+      ne-eqb a 0x05 (λ e. omega arith),
+      ne-eqb a 0x06 (λ e. omega arith),
+      ne-eqb a 0x07 (λ e. omega arith),
+      ne-eqb a 0x08 (λ e. omega arith),
+      ne-eqb a 0x09 (λ e. omega arith),
+      ne-eqb a 0x0A (λ e. omega arith),
+      ne-eqb a 0x0B (λ e. omega arith),
+    )
 
 pub past : (a : ℕ) → 6 ≤ a → (a ≡ 0x06 → ⊥) → (a ≡ 0x07 → ⊥) → (a ≡ 0x08 → ⊥) → (a ≡ 0x09 → ⊥) → (a ≡ 0x0A → ⊥) → (a ≡ 0x0B → ⊥) → 12 ≤ a
 past a h six seven eight nine ten eleven = omega arith

@@ -12,12 +12,12 @@ use borrow.Author.Needs.{needs}
 use borrow.Author.Tests.{eqb-true, le-ltb, le-leb}
 use Rattle.events.specs.declared.BusEvent.{BusEvent}
 use Rattle.events.specs.declared.Event.{Event}
-use Rattle.events.specs.declared.Event.the-variants.{Scan, Sense, OnBus}
+use Rattle.events.specs.declared.Event.the-variants.{Scan, Temp, Sense, OnBus}
 use Rattle.events.specs.declared.Setup.{Setup}
 use Rattle.events.specs.declared.Role.the-variants.{Happens}
 use Rattle.events.specs.Role.{roleOf, by-role}
-use Rattle.events.specs.Setup.{inputs}
-use Rattle.events.specs.Event.{Event as Happening, Meant, means, unfit, eventOf, Scan as Scanned, Sense as Ticked, OnBus as Signalled}
+use Rattle.events.specs.Setup.{groups, inputs}
+use Rattle.events.specs.Event.{Event as Happening, Meant, means, unfit, eventOf, Scan as Scanned, Temp as Warmed, Sense as Ticked, OnBus as Signalled}
 use Rattle.records.specs.declared.Payload.{Payload}
 use Rattle.records.specs.declared.Payload.the-variants.{Whole, Unfit}
 use Rattle.records.specs.declared.Read.the-variants.{Record}
@@ -111,6 +111,20 @@ scan-one b payload event p new xs (Shows flag byte shown) w e c h =
       leaves = h g .leaves;
     }
 scan-one b payload event p new xs Not w e c h = h
+
+pub temp-one : (b : List ℕ) (payload : Payload) (event : Event) (p : List ℕ) (new xs : List ℕ) (r : Done) → payload ≡ Whole event → event ≡ Temp
+    → xs ≡ countsIn Temp p .of → DidBy b (Warmed (take (groups (chipOf b .setup)) xs)) r new → CountedBy b payload p r new
+temp-one b payload event p new xs (Shows flag byte shown) w e c h =
+    λ g. record {
+      event = Temp;
+      befalls = refl;
+      is = w ∙ ap Whole e;
+      left = h g .left;
+      happens = h g .happens ∙ ap (λ (xs : List ℕ). happened (Warmed (take (groups (chipOf b .setup)) xs)) (chipOf b)) c;
+      shows = h g .shows;
+      leaves = h g .leaves;
+    }
+temp-one b payload event p new xs Not w e c h = h
 
 -- a payload of a kind
 pub signal-is : (kind part : ℕ) (p : List ℕ) {k : ℕ} (q : Payload) → kind ≡ k → q ≡ payloadOf k part p → Signal kind part p q

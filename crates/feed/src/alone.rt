@@ -72,6 +72,21 @@ fn scan_by(chip: &mut [u8], payload: Payload, b: &[u8]) -> Done
     chip_bytes_scan::scanned(chip, of)
 }
 
+// TEMP, whose counts are the payload.
+fn temp_by(chip: &mut [u8], payload: Payload, b: &[u8]) -> Done
+    ensures { λ r. ⌜ CountedBy (now (chip .entry)) payload (now (b .entry)) r (now (chip .exit)) ⌝ }
+{
+    let Payload::Whole(event) = payload else {
+        return Done::Not;
+    };
+    let Event::Temp = event else {
+        return Done::Not;
+    };
+    let counts = records::counts_in(Event::Temp, b);
+    let of = counts.of;
+    chip_bytes_seldom::warmed(chip, of)
+}
+
 // START, OUT, IN and STOP.
 fn bus_by(chip: &mut [u8], payload: Payload) -> Done
     ensures { λ r. ⌜ BareBy (now (chip .entry)) payload r (now (chip .exit)) ⌝ }
@@ -135,6 +150,9 @@ fn done_by(chip: &mut [u8], part: u8, kind: u16, b: &[u8]) -> Done
     }
     if (kind::START <= kind) & (kind <= kind::STOP) {
         return bus_by(chip, signal_of(kind, part, b));
+    }
+    if kind == kind::TEMP {
+        return temp_by(chip, records::payload_of(kind::TEMP, part, b), b);
     }
     seldom_by(chip, seldom_of(kind, part, b))
 }
