@@ -69,7 +69,8 @@ heard-normal (Out b) c n = by (outed (c .setup) (c .bus .line) b .store) n
     o : Outed
     o = outed (c .setup) (c .bus .line) b
 
-    by : (t : Store) → Stays t c → answered (o .byte) (withBus (withLine (o .line) (c .bus)) (keptChip t c)) ≡ answered (o .byte) (stored (o .line) t c)
+    by : (t : Store) → Stays t c
+        → answered (o .byte) (withBus (withLine (o .line) (c .bus)) (keptChip t c)) ≡ answered (o .byte) (stored (o .line) t c)
     by Nothing n = refl
     by (At a v) n = ap (λ (t : Bool). answered (o .byte) (cond t (inShip (c .setup)) (accepted (o .line) a v c))) (sym n)
 
@@ -82,7 +83,8 @@ hears-did b e {h = h} mid {shown = shown} {new = new} w q k m s g =
     let are : new ≡ chipBytes (withBus (h .bus) c) false ++ drop 96 b =
     m ∙ ap (busIn (h .bus)) (kept-are b mid (h .store) k (switchAt (take 96 b) FRESH) (drop 96 b) (sym (bytes-are b w g)))
     ∙ moved c (switchAt (take 96 b) FRESH) (h .bus) (drop 96 b) in
-    did b w g (OnBus e) (withBus (h .bus) c) (h .flag) (h .byte) shown new (kept-part b mid (h .store)) (kept-calm b mid (h .store) k (calm b w g))
+    did b w g (OnBus e) (withBus (h .bus) c) (h .flag) (h .byte) shown new (kept-part b mid (h .store))
+    (kept-calm b mid (h .store) k (calm b w g))
     (ap (λ (h : Heard). says (h .flag) (h .byte) (withBus (h .bus) (keptChip (h .store) (chipHere b)))) q
     ∙ heard-normal e (chipHere b) (subst (λ (h : Heard). Stays (h .store) (chipHere b)) q (kept-stays b mid (h .store) k)))
     (s ∙ ap (λ (l : List ℕ). shownAt (take 96 l)) are ∙ shown-back (withBus (h .bus) c) false (drop 96 b))

@@ -18,7 +18,8 @@ use Rattle.chip.specs.declared.Stepped.{Stepped}
 use Rattle.chip.specs.Chip.{normally, asleep, settled, happened}
 use Rattle.chip.specs.Calm.{Calmed, settles}
 use Rattle.chip_bytes_layout.specs.Place.{PART}
-use Rattle.chip_bytes_layout.specs.Layout.{plainOf, switchesOf, wordsOf, chipBytes, switchAt, shownAt, chipAt, formed, setupStands, levelStands, freshStands, couldStand}
+use Rattle.chip_bytes_layout.specs.Layout.{plainOf, switchesOf, wordsOf, chipBytes, switchAt, shownAt, chipAt, formed}
+use Rattle.chip_bytes_layout.specs.Layout.{setupStands, levelStands, freshStands, couldStand}
 use Rattle.chip_bytes_layout.specs.Layout.{none, keptBytes, goodAt, chipIn, goodOf, chipOf, keptIn}
 use Rattle.chip_bytes_layout.specs.OneLaws.{part-not}
 use Rattle.chip_bytes_layout.specs.TripLaws.{forth}

@@ -33,8 +33,8 @@ countingIn n b = set (set (sets b (WORDS + 2 * CC) (wordBytes (n ∷ []))) «CC_
 abbrev pub warmedIn : Bool → List ℕ → List ℕ → List ℕ
 warmedIn kept ts b = cond kept (sets b (WORDS + 2 * TS1) (wordBytes ts)) b
 
--- ── an event of the code, and what it leaves of the chip: where the bytes are those of a chip, the new ones are those of the chip after it, and the
--- outside level has nothing to raise ──
+-- ── an event of the code, and what it leaves of the chip: where the bytes are those of a chip, the new ones are those of the chip
+-- after it, and the outside level has nothing to raise ──
 pub record Moved (e : Coded) (b new : List ℕ) : Type 0 where
   pub event : Event
   pub meant : (u : Setup) (xs : List ℕ) → eventOf u e xs ≡ means event

@@ -14,7 +14,8 @@ use Rattle.events.specs.Setup.{groups}
 use Rattle.cell_counts.specs.Scan.{padded}
 use Rattle.cell_counts.specs.PaddedLaws.{three-are}
 use Rattle.writer.specs.Write.{wordBytes}
-use Rattle.events.specs.Event.{Event, Temp, Boot as Booted, Pin as Pulled, Xready as Unready, Count as Counted, Load as Loaded, Level as Leveled}
+use Rattle.events.specs.Event.{Event, Temp, Boot as Booted, Pin as Pulled, Xready as Unready}
+use Rattle.events.specs.Event.{Count as Counted, Load as Loaded, Level as Leveled}
 use Rattle.records.specs.Numbers.{bitOf}
 use Rattle.registers.specs.declared.Status.{Status}
 use Rattle.registers.specs.declared.Shown.{Shown}
@@ -25,7 +26,8 @@ use Rattle.chip.specs.declared.Chip.{Chip}
 use Rattle.chip.specs.Chip.{numbered, withRegisters, normally}
 use Rattle.chip.specs.Calm.{Calmed}
 use Rattle.chip_bytes_layout.specs.Place.{FRESH}
-use Rattle.chip_bytes_layout.specs.Layout.{listed, plainOf, switchesOf, wordsOf, chipBytes, switchAt, setupAt, statusAt, shownAt, chipAt, goodOf, chipOf}
+use Rattle.chip_bytes_layout.specs.Layout.{listed, plainOf, switchesOf, wordsOf, chipBytes}
+use Rattle.chip_bytes_layout.specs.Layout.{switchAt, setupAt, statusAt, shownAt, chipAt, goodOf, chipOf}
 use Rattle.chip_bytes_layout.specs.ListedLaws.{listed-all}
 use Rattle.chip_bytes_event.specs.Did.{Awake, chipHere, Did}
 use Rattle.chip_bytes_event.specs.DidLaws.{calm, bytes-are, chip-is, did, shown-back}
@@ -38,7 +40,8 @@ module _ (c : Chip) (f : Bool) (rest : List ℕ) where
   fresh-moved = refl
 
   pin-moved : (t : Bool) → alert (c .registers .shown .status) ≡ t
-      → cond t (chipBytes c f ++ rest) (overriddenIn (chipBytes c f ++ rest)) ≡ chipBytes (withRegisters (pulled (c .registers)) c) f ++ rest
+      → cond t (chipBytes c f ++ rest) (overriddenIn (chipBytes c f ++ rest))
+      ≡ chipBytes (withRegisters (pulled (c .registers)) c) f ++ rest
   unfolding chipBytes plainOf switchesOf wordsOf
   pin-moved true h = simp h
   pin-moved false h = simp h
@@ -48,16 +51,19 @@ module _ (c : Chip) (f : Bool) (rest : List ℕ) where
   xready-moved = refl
 
   count-moved : (n : ℕ) (t : Bool) → (c .registers .settings .«cc_en» || c .registers .shown .«cc_oneshot») ≡ t
-      → cond t (countingIn n (chipBytes c f ++ rest)) (chipBytes c f ++ rest) ≡ chipBytes (withRegisters (coulombs n (c .registers)) c) f ++ rest
+      → cond t (countingIn n (chipBytes c f ++ rest)) (chipBytes c f ++ rest)
+      ≡ chipBytes (withRegisters (coulombs n (c .registers)) c) f ++ rest
   unfolding chipBytes plainOf switchesOf wordsOf
   count-moved n true h = simp h
   count-moved n false h = simp h
 
-  load-moved : (l : Bool) → set (chipBytes c f ++ rest) 39 (bitOf l) ≡ chipBytes (withRegisters (withLoadLevel l (c .registers)) c) f ++ rest
+  load-moved : (l : Bool)
+      → set (chipBytes c f ++ rest) 39 (bitOf l) ≡ chipBytes (withRegisters (withLoadLevel l (c .registers)) c) f ++ rest
   unfolding chipBytes plainOf switchesOf wordsOf
   load-moved l = refl
 
-  level-moved : (l : Bool) → set (chipBytes c f ++ rest) 40 (bitOf l) ≡ chipBytes (withRegisters (withOutsideLevel l (c .registers)) c) f ++ rest
+  level-moved : (l : Bool)
+      → set (chipBytes c f ++ rest) 40 (bitOf l) ≡ chipBytes (withRegisters (withOutsideLevel l (c .registers)) c) f ++ rest
   unfolding chipBytes plainOf switchesOf wordsOf
   level-moved l = refl
 
@@ -81,7 +87,8 @@ module _ (b : List ℕ) {new : List ℕ} where
         bytes = λ f rest e. m ∙ e;
       })
 
-  pub pin-moves : {t : Status} {up : Bool} (w : Bool) → t ≡ statusAt (take 96 b) → up ≡ alert t → up ≡ w → new ≡ cond w b (overriddenIn b) → Moved Pin b new
+  pub pin-moves : {t : Status} {up : Bool} (w : Bool) → t ≡ statusAt (take 96 b) → up ≡ alert t → up ≡ w
+      → new ≡ cond w b (overriddenIn b) → Moved Pin b new
   unfolding chipAt
   pin-moves {t} {up} w q p h m =
       record {
@@ -109,7 +116,8 @@ module _ (b : List ℕ) {new : List ℕ} where
         bytes = λ f rest e. m ∙ ap readiedIn e ∙ xready-moved (chipHere b) f rest;
       })
 
-  pub count-moves : (n : ℕ) (w : Bool) → (eqb (getD b 28 0) 1 || eqb (getD b 36 0) 1) ≡ w → new ≡ cond w (countingIn n b) b → Moved (Count n) b new
+  pub count-moves : (n : ℕ) (w : Bool) → (eqb (getD b 28 0) 1 || eqb (getD b 36 0) 1) ≡ w → new ≡ cond w (countingIn n b) b
+      → Moved (Count n) b new
   unfolding chipAt
   count-moves n w h m =
       let one : getD (take 96 b) 28 0 ≡ getD b 28 0 = getD-take 96 b 28 0 (omega arith) in
@@ -124,7 +132,8 @@ module _ (b : List ℕ) {new : List ℕ} where
         bytes =
             λ f rest e.
             m ∙ ap (λ (l : List ℕ). cond w (countingIn n l) l) e
-            ∙ count-moved (chipHere b) f rest n w (ap (λ (x : ℕ). eqb x 1 || eqb (getD (take 96 b) 36 0) 1) one ∙ ap (λ (x : ℕ). eqb (getD b 28 0) 1 || eqb x 1) two ∙ h);
+            ∙ count-moved (chipHere b) f rest n w
+            (ap (λ (x : ℕ). eqb x 1 || eqb (getD (take 96 b) 36 0) 1) one ∙ ap (λ (x : ℕ). eqb (getD b 28 0) 1 || eqb x 1) two ∙ h);
       }
 
   pub load-moves : (l : Bool) {e : Coded} → e ≡ Load l → new ≡ set b 39 (bitOf l) → Moved e b new
@@ -140,8 +149,8 @@ module _ (b : List ℕ) {new : List ℕ} where
         bytes = λ f rest e. m ∙ ap (λ (x : List ℕ). set x 39 (bitOf l)) e ∙ load-moved (chipHere b) f rest l;
       })
 
-  pub level-moves : (l : Bool) {t : Status} {up : Bool} → t ≡ statusAt (take 96 b) → up ≡ alert t → (l && not up) ≡ false → new ≡ set b 40 (bitOf l)
-      → Moved (Level l) b new
+  pub level-moves : (l : Bool) {t : Status} {up : Bool} → t ≡ statusAt (take 96 b) → up ≡ alert t → (l && not up) ≡ false
+      → new ≡ set b 40 (bitOf l) → Moved (Level l) b new
   unfolding chipAt
   level-moves l {t} {up} q p n m =
       record {
@@ -165,9 +174,11 @@ module _ (c : Chip) (f : Bool) (rest : List ℕ) where
   ts-moved ts = refl
 
   warmed-moved : (xs : List ℕ) (t : Bool) → warmedIn t (padded 3 xs) (chipBytes c f ++ rest)
-      ≡ chipBytes (withRegisters (withMeasured (cond t (tsOf xs (c .registers .measured)) (c .registers .measured)) (c .registers)) c) f ++ rest
+      ≡ chipBytes (withRegisters (withMeasured (cond t (tsOf xs (c .registers .measured)) (c .registers .measured)) (c .registers)) c) f
+      ++ rest
   warmed-moved xs true =
-      ap (λ (l : List ℕ). sets (chipBytes c f ++ rest) 60 (wordBytes l)) (sym (listed-all (padded 3 xs) 3 (three-long xs))) ∙ ts-moved (padded 3 xs)
+      ap (λ (l : List ℕ). sets (chipBytes c f ++ rest) 60 (wordBytes l)) (sym (listed-all (padded 3 xs) 3 (three-long xs)))
+      ∙ ts-moved (padded 3 xs)
   warmed-moved xs false = refl
 
 -- ── and the whole: what an event leaves of the chip, before the wiring record is shut out ──

@@ -40,7 +40,8 @@ cellbalIn a v has b = cond has (set b (CELLBAL1 + (a - address.CELLBAL1)) (fiveO
 abbrev pub wroteChip : ℕ → ℕ → Chip → Chip
 wroteChip a v c = withRegisters (written (c .setup) a v (c .registers)) c
 
--- the write does not ship, leaves the outside level nothing to raise, and where the bytes are those of a chip, the new ones are those of the chip after it
+-- the write does not ship, leaves the outside level nothing to raise, and where the bytes are those of a chip, the new ones are those of
+-- the chip after it
 pub record Wrote (a v : ℕ) (b new : List ℕ) : Type 0 where
   pub stays : ships a v (chipHere b .registers .settings) ≡ false
   pub calm : Calmed (chipHere b) → Calmed (wroteChip a v (chipHere b))

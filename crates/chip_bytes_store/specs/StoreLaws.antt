@@ -26,7 +26,8 @@ use Rattle.chip_bytes_store.specs.Store.{statIn, pairIn, drivenIn, cellb
 
 -- ── register by register, over the bytes of any chip ──
 module _ (v : ℕ) (c : Chip) (f : Bool) (rest : List ℕ) where
-  stat-moved : statIn (without (statusOf v) (c .registers .shown .status)) (chipBytes c f ++ rest) ≡ chipBytes (wroteChip 0x00 v c) f ++ rest
+  stat-moved : statIn (without (statusOf v) (c .registers .shown .status)) (chipBytes c f ++ rest)
+      ≡ chipBytes (wroteChip 0x00 v c) f ++ rest
   unfolding chipBytes plainOf switchesOf wordsOf settingsWith shownWith cellbalWith
   stat-moved = refl
 
@@ -116,7 +117,10 @@ module _ (b : List ℕ) (v : ℕ) {new : List ℕ} where
   wrote-stat {t} {up} q p n m =
       record {
         stays = refl;
-        calm = λ k h. sym (p ∙ ap alert q) ∙ held (eqb (getD b 40 0) 1) up n (ap (λ (x : ℕ). eqb x 1) (sym (getD-take 96 b 40 0 (omega arith))) ∙ h);
+        calm =
+            λ k h.
+            sym (p ∙ ap alert q)
+            ∙ held (eqb (getD b 40 0) 1) up n (ap (λ (x : ℕ). eqb x 1) (sym (getD-take 96 b 40 0 (omega arith))) ∙ h);
         leaves =
             λ f rest e.
             m ∙ ap (λ (t : Status). statIn t b) q ∙ ap (statIn (without (statusOf v) (statusAt (take 96 b)))) e
@@ -146,7 +150,8 @@ module _ (b : List ℕ) (v : ℕ) {new : List ℕ} where
         calm = λ k. k;
         leaves =
             λ f rest e.
-            m ∙ ap (λ (s : Shown). drivenIn v s b) q ∙ ap (drivenIn v (driven v (shownAt (take 96 b)))) e ∙ ctrl2-moved v (chipHere b) f rest;
+            m ∙ ap (λ (s : Shown). drivenIn v s b) q ∙ ap (drivenIn v (driven v (shownAt (take 96 b)))) e
+            ∙ ctrl2-moved v (chipHere b) f rest;
       }
 
   pub wrote-above : (a : ℕ) → 12 ≤ a → new ≡ b → Wrote a v b new
@@ -164,37 +169,61 @@ module _ (b : List ℕ) (v : ℕ) {new : List ℕ} where
   unfolding chipAt settingsWith shownWith cellbalWith
   wrote-protect1 h m =
       subst (λ (a : ℕ). Wrote a v b new) (sym h)
-      (record { stays = refl; calm = λ k. k; leaves = λ f rest e. m ∙ ap (λ (l : List ℕ). set l 12 (protect1Of v)) e ∙ protect1-moved v (chipHere b) f rest })
+      (record {
+        stays = refl;
+        calm = λ k. k;
+        leaves = λ f rest e. m ∙ ap (λ (l : List ℕ). set l 12 (protect1Of v)) e ∙ protect1-moved v (chipHere b) f rest;
+      })
 
   pub wrote-protect2 : {a : ℕ} → a ≡ 0x07 → new ≡ set b 13 (protect2Of v) → Wrote a v b new
   unfolding chipAt settingsWith shownWith cellbalWith
   wrote-protect2 h m =
       subst (λ (a : ℕ). Wrote a v b new) (sym h)
-      (record { stays = refl; calm = λ k. k; leaves = λ f rest e. m ∙ ap (λ (l : List ℕ). set l 13 (protect2Of v)) e ∙ protect2-moved v (chipHere b) f rest })
+      (record {
+        stays = refl;
+        calm = λ k. k;
+        leaves = λ f rest e. m ∙ ap (λ (l : List ℕ). set l 13 (protect2Of v)) e ∙ protect2-moved v (chipHere b) f rest;
+      })
 
   pub wrote-protect3 : {a : ℕ} → a ≡ 0x08 → new ≡ set b 14 (protect3Of v) → Wrote a v b new
   unfolding chipAt settingsWith shownWith cellbalWith
   wrote-protect3 h m =
       subst (λ (a : ℕ). Wrote a v b new) (sym h)
-      (record { stays = refl; calm = λ k. k; leaves = λ f rest e. m ∙ ap (λ (l : List ℕ). set l 14 (protect3Of v)) e ∙ protect3-moved v (chipHere b) f rest })
+      (record {
+        stays = refl;
+        calm = λ k. k;
+        leaves = λ f rest e. m ∙ ap (λ (l : List ℕ). set l 14 (protect3Of v)) e ∙ protect3-moved v (chipHere b) f rest;
+      })
 
   pub wrote-over : {a : ℕ} → a ≡ 0x09 → new ≡ set b 15 v → Wrote a v b new
   unfolding chipAt settingsWith shownWith cellbalWith
   wrote-over h m =
       subst (λ (a : ℕ). Wrote a v b new) (sym h)
-      (record { stays = refl; calm = λ k. k; leaves = λ f rest e. m ∙ ap (λ (l : List ℕ). set l 15 v) e ∙ over-moved v (chipHere b) f rest })
+      (record {
+        stays = refl;
+        calm = λ k. k;
+        leaves = λ f rest e. m ∙ ap (λ (l : List ℕ). set l 15 v) e ∙ over-moved v (chipHere b) f rest;
+      })
 
   pub wrote-under : {a : ℕ} → a ≡ 0x0A → new ≡ set b 16 v → Wrote a v b new
   unfolding chipAt settingsWith shownWith cellbalWith
   wrote-under h m =
       subst (λ (a : ℕ). Wrote a v b new) (sym h)
-      (record { stays = refl; calm = λ k. k; leaves = λ f rest e. m ∙ ap (λ (l : List ℕ). set l 16 v) e ∙ under-moved v (chipHere b) f rest })
+      (record {
+        stays = refl;
+        calm = λ k. k;
+        leaves = λ f rest e. m ∙ ap (λ (l : List ℕ). set l 16 v) e ∙ under-moved v (chipHere b) f rest;
+      })
 
   pub wrote-cc : {a : ℕ} → a ≡ 0x0B → new ≡ set b 17 (ccCfgOf v) → Wrote a v b new
   unfolding chipAt settingsWith shownWith cellbalWith
   wrote-cc h m =
       subst (λ (a : ℕ). Wrote a v b new) (sym h)
-      (record { stays = refl; calm = λ k. k; leaves = λ f rest e. m ∙ ap (λ (l : List ℕ). set l 17 (ccCfgOf v)) e ∙ cc-moved v (chipHere b) f rest })
+      (record {
+        stays = refl;
+        calm = λ k. k;
+        leaves = λ f rest e. m ∙ ap (λ (l : List ℕ). set l 17 (ccCfgOf v)) e ∙ cc-moved v (chipHere b) f rest;
+      })
 
   cellbal1 : (t : Bool) → leb 1 (groups (setupAt (take 96 b))) ≡ t → new ≡ cellbalIn 1 v t b → Wrote 1 v b new
   unfolding chipAt settingsWith shownWith cellbalWith
@@ -223,8 +252,8 @@ module _ (b : List ℕ) (v : ℕ) {new : List ℕ} where
         leaves = λ f rest e. m ∙ ap (cellbalIn 3 v t) e ∙ cellbal3-moved v (chipHere b) f rest t h;
       }
 
-  pub wrote-cellbal : (a : ℕ) {u : Setup} {n : ℕ} (t : Bool) → 1 ≤ a → a ≤ 3 → u ≡ setupAt (take 96 b) → n ≡ groups u → leb a n ≡ t → new ≡ cellbalIn a v t b
-      → Wrote a v b new
+  pub wrote-cellbal : (a : ℕ) {u : Setup} {n : ℕ} (t : Bool) → 1 ≤ a → a ≤ 3 → u ≡ setupAt (take 96 b) → n ≡ groups u → leb a n ≡ t
+      → new ≡ cellbalIn a v t b → Wrote a v b new
   wrote-cellbal zero t h k = λ q p n m. absurd (omega arith)
   wrote-cellbal (suc zero) t h k = λ q p n m. cellbal1 t (ap (leb 1) (sym (p ∙ ap groups q)) ∙ n) m
   wrote-cellbal (suc (suc zero)) t h k = λ q p n m. cellbal2 t (ap (leb 2) (sym (p ∙ ap groups q)) ∙ n) m

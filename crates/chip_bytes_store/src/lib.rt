@@ -172,8 +172,8 @@ fn put_setting(out: &mut [u8], a: u8, v: u8)
     }
 }
 
-// The accepted write of `v` at `a`; false, and nothing is changed, where it ships or the outside level then raises OVRD_ALERT.
-pub fn put(out: &mut [u8], a: u8, v: u8) -> bool
+// By the address.
+fn put_at(out: &mut [u8], a: u8, v: u8) -> bool
     requires { ⌜ «KEPT_CHIP» ≤ length (now out) ⌝ }
     ensures { λ r. ⌜ WroteBy a v (now (out .entry)) r (now (out .exit)) ⌝ }
 {
@@ -193,4 +193,15 @@ pub fn put(out: &mut [u8], a: u8, v: u8) -> bool
     }
     put_setting(out, a, v);
     true
+}
+
+// The accepted write of `v` at `a`; false, and nothing is changed, where there is no room for a chip, where it ships, and where the outside level then raises
+// OVRD_ALERT.
+pub fn put(out: &mut [u8], a: u8, v: u8) -> bool
+    ensures { λ r. ⌜ WroteBy a v (now (out .entry)) r (now (out .exit)) ⌝ }
+{
+    if out.len() < size::KEPT_CHIP {
+        return false;
+    }
+    put_at(out, a, v)
 }

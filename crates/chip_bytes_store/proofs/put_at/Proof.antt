@@ -3,8 +3,8 @@ use mathlib.Core.Path.{sym, subst}
 use Prim.Native.Nat.{ℕ}
 use Rattle.chip_bytes_store.specs.Store.{Wrote, WroteBy}
 use borrow.Author.Needs.{needs}
-use Rattle.chip_bytes_store.proofs.put.Statement.{statement}
-use Rattle.chip_bytes_store.proofs.put.Tie as tie
+use Rattle.chip_bytes_store.proofs.put_at.Statement.{statement}
+use Rattle.chip_bytes_store.proofs.put_at.Tie as tie
 
 returns : tie.Need-returns
 returns c =
@@ -24,8 +24,8 @@ returns-3 c =
     let a = p .before .before .before .before .before .before .args in
     subst (λ (n : ℕ). Wrote n (a .v) (a .out .now) (p .put-ctrl2 .last .0)) (sym (p .before .before .if3 .taken)) (p .put-ctrl2 .ensures)
 
-pub put-spec : {M : Type 1} → statement M
-put-spec =
+pub put-at-spec : {M : Type 1} → statement M
+put-at-spec =
     tie.close
     (tie.spec
     (λ c κs. search needs)
