@@ -9,7 +9,7 @@ ghost use Rattle.chip.specs.Parts.{unheard as unheardSpec, sentOn, handedOver, 
 ghost use Rattle.constants.specs.Size.{«KEPT_CHIP»};
 ghost use Rattle.chip_bytes_layout.specs.Layout.{chipAt, busAt};
 ghost use Rattle.chip_bytes_event.specs.Did.{DidBy};
-ghost use Rattle.chip_bytes_bus.specs.Heard.{busIn};
+ghost use Rattle.chip_bytes_bus.specs.Heard.{busIn, KeptBy};
 use bus::Bus;
 use bus::Line;
 use bus::Outed;
@@ -125,7 +125,18 @@ fn put_bus(out: &mut [u8], bus: Bus)
     out[place::SECOND] = second_of(phase);
 }
 
-// An event of the bus: in NORMAL, where it stores nothing, the bus is all that it moves.
+// The store that an event asks for; false, and nothing is changed, where `chip_bytes_store` leaves it.
+fn put_store(out: &mut [u8], store: Store) -> bool
+    requires { ⌜ «KEPT_CHIP» ≤ length (now out) ⌝ }
+    ensures { λ r. ⌜ KeptBy store (now (out .entry)) r (now (out .exit)) ⌝ }
+{
+    match store {
+        Store::Nothing => true,
+        Store::At(at, value) => chip_bytes_store::put(out, at, value),
+    }
+}
+
+// An event of the bus: in NORMAL the bus, and what it stores, are all that it moves.
 pub fn heard(bytes: &mut [u8], event: BusEvent) -> Done
     ensures { λ r. ⌜ DidBy (now (bytes .entry)) (OnBus event) r (now (bytes .exit)) ⌝ }
 {
@@ -134,10 +145,10 @@ pub fn heard(bytes: &mut [u8], event: BusEvent) -> Done
     }
     let heard = heard_at(&bytes[..size::KEPT_CHIP], event);
     let store = heard.store;
-    let Store::Nothing = store else {
+    if !put_store(bytes, store) {
         return Done::Not;
-    };
-    let shown = shown_at(&bytes[..size::KEPT_CHIP]);
+    }
     put_bus(bytes, heard.bus);
+    let shown = shown_at(&bytes[..size::KEPT_CHIP]);
     Done::Shows(heard.flag, heard.byte, shown)
 }

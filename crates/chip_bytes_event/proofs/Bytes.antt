@@ -29,5 +29,10 @@ pub up : (t : Bool) → not t ≡ false → t ≡ true
 up true h = refl
 up false h = sym h
 
+-- and one that says to
+pub down : (t : Bool) → not t ≡ true → t ≡ false
+down true h = sym h
+down false h = refl
+
 pub awake : (b : List ℕ) (r : Bool) → AwakeBy b r → not r ≡ false → Awake b
 awake b r h n = subst (AwakeBy b) (up r n) h

@@ -10,6 +10,7 @@ use lib.Seq.{length-take-le}
 use borrow.Author.Tests.{le-ltb, eqb-true, ne-eqb}
 use Rattle.events.specs.Event.{Event, within}
 use Rattle.bits.specs.BoolLaws.{and-left, and-right}
+use Rattle.writer.specs.BytesLaws.{bit-same}
 use Rattle.registers.specs.declared.Shown.{Shown}
 use Rattle.registers.specs.State.{alert}
 use Rattle.chip.specs.declared.Chip.{Chip}
@@ -17,12 +18,18 @@ use Rattle.chip.specs.declared.Stepped.{Stepped}
 use Rattle.chip.specs.Chip.{normally, asleep, settled, happened}
 use Rattle.chip.specs.Calm.{Calmed, settles}
 use Rattle.chip_bytes_layout.specs.Place.{PART}
-use Rattle.chip_bytes_layout.specs.Layout.{chipBytes, switchAt, chipAt, formed, setupStands, levelStands, freshStands, couldStand}
+use Rattle.chip_bytes_layout.specs.Layout.{plainOf, switchesOf, wordsOf, chipBytes, switchAt, shownAt, chipAt, formed}
+use Rattle.chip_bytes_layout.specs.Layout.{setupStands, levelStands, freshStands, couldStand}
 use Rattle.chip_bytes_layout.specs.Layout.{none, keptBytes, goodAt, chipIn, goodOf, chipOf, keptIn}
 use Rattle.chip_bytes_layout.specs.OneLaws.{part-not}
 use Rattle.chip_bytes_layout.specs.TripLaws.{forth}
 use Rattle.chip_bytes_layout.specs.GoodLaws.{zero-at}
 use Rattle.chip_bytes_event.specs.Did.{Awake, chipHere, says, Did}
+
+-- what is shown, read back
+pub shown-back : (c : Chip) (fresh : Bool) (rest : List ℕ) → shownAt (take 96 (chipBytes c fresh ++ rest)) ≡ c .registers .shown
+unfolding chipBytes plainOf switchesOf wordsOf
+shown-back c fresh rest = simp bit-same
 
 -- good bytes in NORMAL are no zeros
 not-none : (b : List ℕ) → goodAt b ≡ true → switchAt b 22 ≡ true → (formed b && couldStand (chipAt b) (switchAt b 23)) ≡ true

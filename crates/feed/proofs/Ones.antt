@@ -1,20 +1,23 @@
 -- One record, done in the bytes, is that record fed. Assumes nothing.
 use mathlib.Core.Path.{_≡_, refl, sym, ap, ap₂, _∙_, subst}
-use mathlib.Core.Bool.{Bool, true, false, not, cond}
+use mathlib.Core.Bool.{Bool, true, false, not, _&&_, _||_, cond}
 use mathlib.Core.List.{List, [], _∷_, _++_}
 use Prim.Native.Nat.{ℕ, zero, suc, _-_, _*_, _≤_}
 use native.Mathlib.Omega.{arith}
-use lib.Dec.{leb, ltb}
+use lib.Dec.{eqb, leb, ltb}
 use lib.IntN.{ℤ, pos}
 use lib.ListN.{length, getD, take, drop, drop-of-length-le}
 use lib.Seq.{sets, sets-eq}
 use borrow.Author.Needs.{needs}
-use borrow.Author.Tests.{le-ltb, le-leb}
+use borrow.Author.Tests.{eqb-true, le-ltb, le-leb}
 use Rattle.events.specs.declared.BusEvent.{BusEvent}
 use Rattle.events.specs.declared.Event.{Event}
-use Rattle.events.specs.declared.Event.the-variants.{Scan, Sense, OnBus}
-use Rattle.events.specs.Setup.{inputs}
-use Rattle.events.specs.Event.{Scan as Scanned, Sense as Ticked, OnBus as Signalled}
+use Rattle.events.specs.declared.Event.the-variants.{Scan, Temp, Sense, OnBus}
+use Rattle.events.specs.declared.Setup.{Setup}
+use Rattle.events.specs.declared.Role.the-variants.{Happens}
+use Rattle.events.specs.Role.{roleOf, by-role}
+use Rattle.events.specs.Setup.{groups, inputs}
+use Rattle.events.specs.Event.{Event as Happening, Meant, means, unfit, eventOf, Scan as Scanned, Temp as Warmed, Sense as Ticked, OnBus as Signalled}
 use Rattle.records.specs.declared.Payload.{Payload}
 use Rattle.records.specs.declared.Payload.the-variants.{Whole, Unfit}
 use Rattle.records.specs.declared.Read.the-variants.{Record}
@@ -22,17 +25,17 @@ use Rattle.records.specs.FramingLaws.{framed-reads}
 use Rattle.records.specs.ReadingLaws.{Placed, placed}
 use Rattle.records.specs.declared.Framed.the-variants.{Header}
 use Rattle.records.specs.Frame.{headerOf}
-use Rattle.records.specs.Record.{payloadOf, asRead, readOf, countsIn, countsBeside}
+use Rattle.records.specs.SoundLaws.{first-setup, no-setup}
+use Rattle.records.specs.Record.{standing, payloadOf, asRead, readOf, countsIn, countsBeside}
 use Rattle.registers.specs.declared.Shown.{Shown}
 use Rattle.chip.specs.declared.Chip.{Chip}
 use Rattle.chip.specs.declared.Stepped.{Stepped}
-use Rattle.chip.specs.Chip.{happened, happenedBy}
+use Rattle.chip.specs.Chip.{happened, happenedAs, happenedBy}
 use Rattle.chip.specs.Calm.{Calmed}
 use Rattle.turn.specs.declared.Entry.{Entry}
-use Rattle.turn.specs.Turn.{Turn, acted, turn, turnOf, entryOf}
+use Rattle.turn.specs.Turn.{Turn, acted, staysFresh, turn, turnOf, entryOf}
 use Rattle.turn.specs.Entries.{runs, stands, stays, entriesFrom, chipFrom, freshFrom, bytesOf}
-use Rattle.stream_run.specs.Often.{often}
-use Rattle.stream_run.proofs.Steps.{often-is, done-turn, closes}
+use Rattle.stream_run.proofs.Steps.{other-is, done-turn}
 use Rattle.chip_bytes_layout.specs.declared.Kept.{Kept}
 use Rattle.chip_bytes_layout.specs.Layout.{keeps, keptOf, goodOf, chipOf, freshOf, keptIn}
 use Rattle.chip_bytes_layout.specs.GoodLaws.{good-keeps}
@@ -40,9 +43,17 @@ use Rattle.chip_bytes_event.specs.declared.Done.{Done}
 use Rattle.chip_bytes_event.specs.declared.Done.the-variants.{Shows, Not}
 use Rattle.chip_bytes_event.specs.Did.{says, DidBy}
 use Rattle.chip_bytes_event.specs.DidLaws.{part-of}
+use Rattle.chip_bytes_seldom.specs.Seldom.{SeldomBy}
 use Rattle.feed.specs.Fed.{allFit, answerBy, feedsBy, chipAfter, entriesAfter, Fed}
 use Rattle.feed.specs.Alone.{doneBytes, One, OneBy, CountedBy, RecordBy, Signal, Alone, AloneBy}
 use Rattle.feed.proofs.Calls.{kept-calm, done-answer, done-feeds}
+
+-- what means an event of a chip that stands is neither SETUP nor a wiring record
+meant-befalls : (e : Event) (x : Happening) → ((u : Setup) → eventOf u e [] ≡ means x) → roleOf e ≡ Happens
+meant-befalls = by-role (λ (e : Event). (x : Happening) → ((u : Setup) → eventOf u e [] ≡ means x) → roleOf e ≡ Happens) (λ v x h. unfit-not x (h v)) (λ n x h. unfit-not x (h (standing 0))) (λ e r x h. r)
+  where
+    unfit-not : {A : Type 0} (x : Happening) → unfit ≡ means x → A
+    unfit-not x h = let z : _≡_ {A = ℕ} 0 1 = cc in absurd (omega arith)
 
 -- what was done in the bytes, with the payload that it was read from; a tick and the bus have no counts beside them
 module _ (b : List ℕ) (payload : Payload) (event : Event) (counts : Event → List ℕ) (w : payload ≡ Whole event) (new : List ℕ) where
@@ -50,7 +61,7 @@ module _ (b : List ℕ) (payload : Payload) (event : Event) (counts : Event → 
   tick-one v (Shows flag byte shown) e h =
       λ g. record {
         event = Sense v;
-        frequent = refl;
+        befalls = refl;
         is = w ∙ ap Whole e;
         left = h g .left;
         happens = h g .happens;
@@ -63,7 +74,7 @@ module _ (b : List ℕ) (payload : Payload) (event : Event) (counts : Event → 
   bus-one s (Shows flag byte shown) e h =
       λ g. record {
         event = OnBus s;
-        frequent = refl;
+        befalls = refl;
         is = w ∙ ap Whole e;
         left = h g .left;
         happens = h g .happens;
@@ -72,12 +83,27 @@ module _ (b : List ℕ) (payload : Payload) (event : Event) (counts : Event → 
       }
   bus-one s Not e h = h
 
+-- one that is seldom met, by what it means
+pub seldom-one : (b : List ℕ) (payload : Payload) (event : Event) (counts : Event → List ℕ) (new : List ℕ) (r : Done) → payload ≡ Whole event
+    → SeldomBy b event r new → OneBy b payload counts r new
+seldom-one b payload event counts new (Shows flag byte shown) w h =
+    λ g. record {
+      event = event;
+      befalls = meant-befalls event (h g .event) (λ u. h g .meant u []);
+      is = w;
+      left = h g .did .left;
+      happens = h g .did .happens ∙ ap (λ (m : Meant). happenedAs m (chipOf b)) (sym (h g .meant (chipOf b .setup) (counts event)));
+      shows = h g .did .shows;
+      leaves = h g .did .leaves;
+    }
+seldom-one b payload event counts new Not w h = h
+
 pub scan-one : (b : List ℕ) (payload : Payload) (event : Event) (p : List ℕ) (new xs : List ℕ) (r : Done) → payload ≡ Whole event → event ≡ Scan
     → xs ≡ countsIn Scan p .of → DidBy b (Scanned (take (inputs (chipOf b .setup)) xs)) r new → CountedBy b payload p r new
 scan-one b payload event p new xs (Shows flag byte shown) w e c h =
     λ g. record {
       event = Scan;
-      frequent = refl;
+      befalls = refl;
       is = w ∙ ap Whole e;
       left = h g .left;
       happens = h g .happens ∙ ap (λ (xs : List ℕ). happened (Scanned (take (inputs (chipOf b .setup)) xs)) (chipOf b)) c;
@@ -85,6 +111,20 @@ scan-one b payload event p new xs (Shows flag byte shown) w e c h =
       leaves = h g .leaves;
     }
 scan-one b payload event p new xs Not w e c h = h
+
+pub temp-one : (b : List ℕ) (payload : Payload) (event : Event) (p : List ℕ) (new xs : List ℕ) (r : Done) → payload ≡ Whole event → event ≡ Temp
+    → xs ≡ countsIn Temp p .of → DidBy b (Warmed (take (groups (chipOf b .setup)) xs)) r new → CountedBy b payload p r new
+temp-one b payload event p new xs (Shows flag byte shown) w e c h =
+    λ g. record {
+      event = Temp;
+      befalls = refl;
+      is = w ∙ ap Whole e;
+      left = h g .left;
+      happens = h g .happens ∙ ap (λ (xs : List ℕ). happened (Warmed (take (groups (chipOf b .setup)) xs)) (chipOf b)) c;
+      shows = h g .shows;
+      leaves = h g .leaves;
+    }
+temp-one b payload event p new xs Not w e c h = h
 
 -- a payload of a kind
 pub signal-is : (kind part : ℕ) (p : List ℕ) {k : ℕ} (q : Payload) → kind ≡ k → q ≡ payloadOf k part p → Signal kind part p q
@@ -96,7 +136,7 @@ pub one-signal : (b : List ℕ) (kind part : ℕ) (p : List ℕ) (q : Payload) (
 one-signal b kind part p q counts (Shows flag byte shown) new s h =
     λ g. record {
       event = h g .event;
-      frequent = h g .frequent;
+      befalls = h g .befalls;
       is = subst (Signal kind part p) (h g .is) s;
       left = h g .left;
       happens = h g .happens;
@@ -153,13 +193,27 @@ single-by : (o : Bool) (c : Chip) (s : List ℕ) (d : Stepped) → 4 ≤ length 
 single-by o c [] d h t = absurd (omega arith)
 single-by o c (x ∷ s) d h t = record { entry = one-entry o c x s d false t; chip = one-chip o c x s d false t; fresh = one-fresh o c x s d false t }
 
--- a record that is often met, and done
-module _ (o : Bool) (c : Chip) (s : List ℕ) (e : Event) (d : Stepped) (q : readOf (c .setup .part) s ≡ Record e (length s)) (f : often e ≡ true)
+-- a record of an event that happens to a chip that stands, and done: no wiring record is taken after it
+module _ (o : Bool) (c : Chip) (s : List ℕ) (e : Event) (d : Stepped) (q : readOf (c .setup .part) s ≡ Record e (length s)) (f : roleOf e ≡ Happens)
     (z : d .number ≡ 0) (h : d ≡ happenedBy e (countsBeside s (Record e (length s)) .of) c) where
+  stood : (t : Bool) → eqb (c .setup .part) 0 ≡ t → t ≡ false
+  stood true p =
+      absurd (no-setup e f (first-setup s e (length s) (subst (λ (n : ℕ). readOf n s ≡ Record e (length s)) (eqb-true (c .setup .part) 0 p) q)))
+  stood false p = refl
+
+  closes : staysFresh o c d ≡ false
+  closes =
+      ap (λ (t : Bool). t || (o && not (eqb (d .number) 0))) (stood (eqb (c .setup .part) 0) refl)
+      ∙ ap (λ (n : ℕ). o && not (eqb n 0)) z ∙ never o
+    where
+      never : (t : Bool) → (t && false) ≡ false
+      never true = refl
+      never false = refl
+
   turn-is : turnOf o c s ≡ turn d false (length s) false
   turn-is =
-      sym (done-turn o c s e (length s) d q (often-is o c s e e (length s) (countsBeside s (Record e (length s)) .of) q refl f refl h))
-      ∙ ap (λ (f : Bool). turn d f (length s) false) (sym (closes o c s e e (length s) d q refl f z))
+      sym (done-turn o c s e (length s) d q (other-is o c s e (length s) (countsBeside s (Record e (length s)) .of) q f refl h))
+      ∙ ap (λ (f : Bool). turn d f (length s) false) closes
 
   long : 4 ≤ length s
   long = let p : Placed (length s) (Record e (length s)) = subst (Placed (length s)) q (placed (c .setup .part) s) in p .0
@@ -183,7 +237,7 @@ module _ (b s old : List ℕ) {chip new : List ℕ} (g : goodOf b ≡ true) (t :
       ∙ ap (asRead (length s)) (one .is)
 
   sole : Single (freshOf b) (chipOf b) s (says (t .flag) (t .byte) (one .left))
-  sole = single (freshOf b) (chipOf b) s (one .event) (says (t .flag) (t .byte) (one .left)) reads (one .frequent) refl (one .happens)
+  sole = single (freshOf b) (chipOf b) s (one .event) (says (t .flag) (t .byte) (one .left)) reads (one .befalls) refl (one .happens)
 
   wide : ltb (length b) 96 ≡ false
   wide = le-ltb (length b) 96 (t .room)

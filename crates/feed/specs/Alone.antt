@@ -7,6 +7,8 @@ use lib.ListN.{length, getD, take, drop}
 use lib.Seq.{sets}
 use Rattle.bits.specs.Bit.{weighed}
 use Rattle.events.specs.declared.Event.{Event}
+use Rattle.events.specs.declared.Role.the-variants.{Happens}
+use Rattle.events.specs.Role.{roleOf}
 use Rattle.records.specs.declared.Framed.the-variants.{Header}
 use Rattle.records.specs.declared.Payload.{Payload}
 use Rattle.records.specs.declared.Payload.the-variants.{Whole, Unfit}
@@ -17,7 +19,6 @@ use Rattle.registers.specs.State.{alert}
 use Rattle.registers.specs.Read.{statusByte}
 use Rattle.chip.specs.declared.Chip.{Chip}
 use Rattle.chip.specs.Chip.{happenedBy}
-use Rattle.stream_run.specs.Often.{often}
 use Rattle.constants.specs.Size.{«KEPT_CHIP»}
 use Rattle.chip_bytes_layout.specs.Place.{PART}
 use Rattle.chip_bytes_layout.specs.Layout.{goodOf, chipOf, keptIn}
@@ -32,11 +33,11 @@ doneBytes flag byte s =
     0 ∷ weighed flag 1 ∷ byte ∷ statusByte (s .status)
     ∷ (weighed (alert (s .status)) 4 + weighed (s .«chg_on») 2 + weighed (s .«dsg_on») 1) ∷ []
 
--- a payload's event, one that is often met, has happened to the chip that bytes kept, with the counts that stand beside it
+-- a payload's event, one that happens to a chip that stands, has happened to the one that bytes kept, with the counts that stand beside it
 pub record One (b : List ℕ) (payload : Payload) (counts : Event → List ℕ) (flag : Bool) (byte : ℕ) (shown : Shown) (new : List ℕ)
     : Type 0 where
   pub event : Event
-  pub frequent : often event ≡ true
+  pub befalls : roleOf event ≡ Happens
   pub is : payload ≡ Whole event
   pub left : Chip
   pub happens : says flag byte left ≡ happenedBy event (counts event) (chipOf b)

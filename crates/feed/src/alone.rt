@@ -72,6 +72,21 @@ fn scan_by(chip: &mut [u8], payload: Payload, b: &[u8]) -> Done
     chip_bytes_scan::scanned(chip, of)
 }
 
+// TEMP, whose counts are the payload.
+fn temp_by(chip: &mut [u8], payload: Payload, b: &[u8]) -> Done
+    ensures { λ r. ⌜ CountedBy (now (chip .entry)) payload (now (b .entry)) r (now (chip .exit)) ⌝ }
+{
+    let Payload::Whole(event) = payload else {
+        return Done::Not;
+    };
+    let Event::Temp = event else {
+        return Done::Not;
+    };
+    let counts = records::counts_in(Event::Temp, b);
+    let of = counts.of;
+    chip_bytes_seldom::warmed(chip, of)
+}
+
 // START, OUT, IN and STOP.
 fn bus_by(chip: &mut [u8], payload: Payload) -> Done
     ensures { λ r. ⌜ BareBy (now (chip .entry)) payload r (now (chip .exit)) ⌝ }
@@ -83,6 +98,16 @@ fn bus_by(chip: &mut [u8], payload: Payload) -> Done
         return Done::Not;
     };
     chip_bytes_bus::heard(chip, signal)
+}
+
+// BOOT, COUNT, PIN, LOAD, XREADY and the outside level.
+fn seldom_by(chip: &mut [u8], payload: Payload) -> Done
+    ensures { λ r. ⌜ BareBy (now (chip .entry)) payload r (now (chip .exit)) ⌝ }
+{
+    let Payload::Whole(event) = payload else {
+        return Done::Not;
+    };
+    chip_bytes_seldom::happened(chip, event)
 }
 
 // The payload of a kind of the bus; each kind by itself, so that the compiler keeps of the reader only what it needs.
@@ -98,6 +123,21 @@ fn signal_of(kind: u16, part: u8, b: &[u8]) -> Payload
     }
 }
 
+// The same of a kind that is seldom met.
+fn seldom_of(kind: u16, part: u8, b: &[u8]) -> Payload
+    ensures { λ r. ⌜ Signal kind part (now (b .entry)) r ⌝ }
+{
+    match kind {
+        kind::BOOT => records::payload_of(kind::BOOT, part, b),
+        kind::COUNT => records::payload_of(kind::COUNT, part, b),
+        kind::PIN => records::payload_of(kind::PIN, part, b),
+        kind::LOAD => records::payload_of(kind::LOAD, part, b),
+        kind::XREADY => records::payload_of(kind::XREADY, part, b),
+        kind::LEVEL => records::payload_of(kind::LEVEL, part, b),
+        _ => Payload::Unfit(number::BAD_KIND),
+    }
+}
+
 // A record by its kind and payload.
 fn done_by(chip: &mut [u8], part: u8, kind: u16, b: &[u8]) -> Done
     ensures { λ r. ⌜ RecordBy (now (chip .entry)) part kind (now (b .entry)) r (now (chip .exit)) ⌝ }
@@ -108,10 +148,17 @@ fn done_by(chip: &mut [u8], part: u8, kind: u16, b: &[u8]) -> Done
     if kind == kind::SCAN {
         return scan_by(chip, records::payload_of(kind::SCAN, part, b), b);
     }
-    bus_by(chip, signal_of(kind, part, b))
+    if (kind::START <= kind) & (kind <= kind::STOP) {
+        return bus_by(chip, signal_of(kind, part, b));
+    }
+    if kind == kind::TEMP {
+        return temp_by(chip, records::payload_of(kind::TEMP, part, b), b);
+    }
+    seldom_by(chip, seldom_of(kind, part, b))
 }
 
-// Does records that are one scan, one tick that raises nothing, or one event of the bus that stores nothing, on a chip in NORMAL; else it changes nothing.
+// Does records that are one scan, one tick that raises nothing, one event of the bus that does not ship, or one of those that are seldom met, on a chip in
+// NORMAL; else it changes nothing.
 pub fn done(chip: &mut [u8], records: &[u8], entries: &mut [u8]) -> bool
     ensures { λ r. ⌜ AloneBy (now (chip .entry)) (now (records .entry)) (now (entries .entry)) r (now (chip .exit)) (now (entries .exit)) ⌝ }
 {

@@ -11,6 +11,10 @@ use constants::size;
 
 mod alone;
 
+// How long the longest record is that is done in the bytes. A piece that is longer is played at once; and as two calls of `played` stand here, the compiler keeps
+// its loop apart from what one record takes.
+const ONE_MOST: usize = size::HEADER + size::PAYLOAD_MOST;
+
 // Records played on a chip that bytes keep: read from them, and written again.
 fn played(chip: &mut [u8], records: &[u8], entries: &mut [u8]) -> i64
     requires { ⌜ («KEPT_CHIP» ≤ length (now chip)) × (goodOf (now chip) ≡ true) ⌝ }
@@ -42,8 +46,11 @@ pub extern "C" fn toralinge_feed(chip: &mut [u8], records: &[u8], entries: &mut 
     if !chip_bytes::good(&chip[..]) {
         return answer::NO_CHIP;
     }
-    if alone::done(chip, records, entries) {
-        return 1;
+    if records.len() <= ONE_MOST {
+        if alone::done(chip, records, entries) {
+            return 1;
+        }
+        return played(chip, records, entries);
     }
     played(chip, records, entries)
 }

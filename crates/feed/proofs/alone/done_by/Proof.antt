@@ -27,9 +27,24 @@ returns-2 c =
 returns-3 : tie.Need-returns-3
 returns-3 c =
     let t = c .before .before in
-    let a = t .before .before .before .before .before .before .before .args in
+    let a = t .before .before .before .before .before .before .before .before .args in
     one-signal (a .chip .now) (a .kind) (a .part) (a .b .now) (t .before .signal-of .result) (λ (e : Event). countsIn e (a .b .now) .of) (t .bus-by .result) (t .bus-by .last .0)
     (t .before .signal-of .ensures) (t .bus-by .ensures (λ (e : Event). countsIn e (a .b .now) .of))
+
+returns-4 : tie.Need-returns-4
+returns-4 c =
+    let t = c .before .before in
+    let a = t .before .before .before .before .before .before .before .before .before .args in
+    one-as (a .chip .now) (λ (e : Event). countsIn e (a .b .now) .of) (t .temp-by .result) (t .temp-by .last .0)
+    (t .before .payload-of3 .ensures ∙ ap (λ (k : ℕ). payloadOf k (a .part) (a .b .now)) (sym (t .before .before .before .if4 .taken)))
+    (t .temp-by .ensures)
+
+returns-5 : tie.Need-returns-5
+returns-5 c =
+    let t = c .before .before in
+    let a = t .before .before .before .before .before .before .before .before .before .args in
+    one-signal (a .chip .now) (a .kind) (a .part) (a .b .now) (t .before .seldom-of .result) (λ (e : Event). countsIn e (a .b .now) .of) (t .seldom-by .result) (t .seldom-by .last .0)
+    (t .before .seldom-of .ensures) (t .seldom-by .ensures (λ (e : Event). countsIn e (a .b .now) .of))
 
 pub done-by-spec : {M : Type 1} → statement M
 done-by-spec =
@@ -46,4 +61,12 @@ done-by-spec =
     (λ c κs. search needs)
     (λ c κs. search needs)
     (λ c. search needs)
-    returns-3)
+    returns-3
+    (λ c κs. search needs)
+    (λ c κs. search needs)
+    (λ c. search needs)
+    returns-4
+    (λ c κs. search needs)
+    (λ c κs. search needs)
+    (λ c. search needs)
+    returns-5)

@@ -1,0 +1,2 @@
+pub mod Seldom
+pub mod SeldomLaws
