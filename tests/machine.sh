@@ -201,7 +201,7 @@ at_a_time() {
 }
 
 # The crates whose calls include/toralinge.h declares, those first that take longest.
-calls=(stream record_c season_c season_stream why plain feed chip_c i2c_lists services_stream season_scans values_c)
+calls=(feed why season_c plain chip_c services_stream i2c_lists season_scans stream season_stream record_c values_c)
 
 # want_calls: all of them in one library, with those of c/ that are text; sets `library`.
 want_calls() {
