@@ -193,7 +193,7 @@ in_memory() (
 # down in memory.
 at_a_time() {
     local room jobs
-    room=$(awk '/^MemAvailable:/ { print int($2 / 2400000) }' /proc/meminfo)
+    room=$(awk '/^MemAvailable:/ { print int($2 / 2200000) }' /proc/meminfo)
     jobs=$((5 * $(nproc)))
     ((jobs <= room)) || jobs=$room
     ((jobs >= 1)) || jobs=1
