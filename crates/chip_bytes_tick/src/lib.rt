@@ -1,10 +1,12 @@
-// A tick done in the bytes of a kept chip.
+// A tick, and ticks of one value, done in the bytes of a kept chip.
 ghost use mathlib.Core.Path.{_≡_};
 ghost use Prim.Native.Nat.{_≤_};
 ghost use lib.ListN.{length};
 ghost use Rattle.events.specs.Event.{Sense};
 ghost use Rattle.constants.specs.Size.{«KEPT_CHIP»};
-ghost use Rattle.chip_bytes_event.specs.Did.{DidBy};
+ghost use Rattle.chip.specs.Chip.{ticked as ticksSpec};
+ghost use Rattle.chip_bytes_layout.specs.Layout.{chipOf};
+ghost use Rattle.chip_bytes_event.specs.Did.{CameBy, DidBy};
 ghost use Rattle.chip_bytes_tick.specs.Tick.{runsIn};
 use chip_bytes_event::Done;
 use chip_bytes_event::awake;
@@ -38,6 +40,24 @@ pub fn ticked(bytes: &mut [u8], value: i32) -> Done
     let judged = runs.sensed(settings_at(&bytes[..size::KEPT_CHIP]), value);
     let risen = judged.risen;
     if risen.scd | risen.ocd {
+        return Done::Not;
+    }
+    let shown = shown_at(&bytes[..size::KEPT_CHIP]);
+    put_runs(bytes, judged.runs);
+    Done::Shows(false, 0, shown)
+}
+
+// That many ticks of one value, by their number: the same, where none of them raises anything.
+pub fn repeated(bytes: &mut [u8], value: i32, repeat: u32) -> Done
+    ensures { λ r. ⌜ CameBy (now (bytes .entry)) (ticksSpec repeat value (chipOf (now (bytes .entry)))) r (now (bytes .exit)) ⌝ }
+{
+    if !awake(&bytes[..]) {
+        return Done::Not;
+    }
+    let runs = runs_at(&bytes[..size::KEPT_CHIP]);
+    let judged = runs.ticked(settings_at(&bytes[..size::KEPT_CHIP]), value, repeat);
+    let due = judged.risen;
+    if due.scd | due.ocd {
         return Done::Not;
     }
     let shown = shown_at(&bytes[..size::KEPT_CHIP]);
