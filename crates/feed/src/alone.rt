@@ -189,8 +189,8 @@ fn done_by(chip: &mut [u8], part: u8, kind: u16, b: &[u8]) -> Done
     seldom_by(chip, seldom_of(kind, part, b))
 }
 
-// Does records that are one scan, one tick or ticks of one value that raise nothing, one event of the bus that does not ship, or one of those that are seldom
-// met, on a chip in NORMAL; else it changes nothing.
+// Does records that are one scan, one tick, ticks of one value, one event of the bus that does not ship, or one of those that are seldom met, on a chip in
+// NORMAL; else it changes nothing.
 pub fn done(chip: &mut [u8], records: &[u8], entries: &mut [u8]) -> bool
     ensures { λ r. ⌜ AloneBy (now (chip .entry)) (now (records .entry)) (now (entries .entry)) r (now (chip .exit)) (now (entries .exit)) ⌝ }
 {

@@ -44,35 +44,19 @@ settings-at-requires c κs =
     let i = c .before .before .before in
     length-take-le 96 (i .before .before .before .before .args .bytes .now) (room i)
 
-slice-reshare-prefix-shown-at : tie.Need-slice-reshare-prefix-shown-at
-slice-reshare-prefix-shown-at c = room (c .before .before .before .before .before .before .before .before)
+put-judged-requires : tie.Need-put-judged-requires
+put-judged-requires c κs = room (c .before .before .before .before .before .before)
 
-slice-aggregate-shown-at : tie.Need-slice-aggregate-shown-at
-slice-aggregate-shown-at c =
-    let i = c .before .before .before .before .before .before .before .before .before in
-    sym (length-take-le 96 (i .before .before .before .before .args .bytes .now) (room i))
-
-shown-at-requires : tie.Need-shown-at-requires
-shown-at-requires c κs =
-    let i = c .before .before .before .before .before .before .before .before .before in
-    length-take-le 96 (i .before .before .before .before .args .bytes .now) (room i)
-
-put-runs-requires : tie.Need-put-runs-requires
-put-runs-requires c κs = room (c .before .before .before .before .before .before .before .before .before .before .before)
-
-returns-3 : tie.Need-returns-3
-returns-3 c =
+returns-2 : tie.Need-returns-2
+returns-2 c =
     let p = c .before .before in
-    let s = p .before .before in
-    let i = s .before .before in
-    let j = i .before .before .before in
+    let j = p .before .before in
     let r = j .before .before .before in
     let w = r .before .before in
     let a = w .before .before .before .before .args in
     let y : toZ w32 (ofZ w32 (a .value)) ≡ a .value = search needs in
     repeats-came (a .bytes .now) (a .value) (a .repeat) (stands w) (r .runs-at .ensures) (j .before .settings-at .ensures)
-    (j .ticked .ensures ∙ ap (λ (z : ℤ). ticksJudged (a .repeat) (j .before .settings-at .result) z (r .runs-at .result)) y) (i .if2 .left)
-    (s .shown-at .ensures) (p .put-runs .ensures)
+    (j .ticked .ensures ∙ ap (λ (z : ℤ). ticksJudged (a .repeat) (j .before .settings-at .result) z (r .runs-at .result)) y) (p .put-judged .ensures)
 
 pub repeated-spec : {M : Type 1} → statement M
 repeated-spec =
@@ -88,11 +72,6 @@ repeated-spec =
     slice-aggregate-settings-at
     settings-at-requires
     (λ c κs. search needs)
+    put-judged-requires
     (λ c. search needs)
-    (λ c. search needs)
-    slice-reshare-prefix-shown-at
-    slice-aggregate-shown-at
-    shown-at-requires
-    put-runs-requires
-    (λ c. search needs)
-    returns-3)
+    returns-2)
