@@ -31,7 +31,7 @@ static void add_any(struct stream *to, uint8_t part)
     for (at = 0; at < 15; at++) {
         words[at] = (uint16_t)(any(4) == 0 ? any(16384) : 8000 + any(3500));
     }
-    switch (any(14)) {
+    switch (any(15)) {
     case 0: add_bare(to, TORALINGE_KIND_BOOT); break;
     case 1:
     case 2: add_words(to, TORALINGE_KIND_SCAN, words, 5 * (size_t)part); break;
@@ -46,12 +46,17 @@ static void add_any(struct stream *to, uint8_t part)
         payload[5] = 0;
         add(to, TORALINGE_KIND_TICKS, payload, 6);
         break;
-    case 7: add_byte(to, TORALINGE_KIND_LEVEL, (uint8_t)any(2)); break;
-    case 8: add_bare(to, any(2) ? TORALINGE_KIND_PIN : TORALINGE_KIND_XREADY); break;
-    case 9: add_byte(to, TORALINGE_KIND_WIRING, (uint8_t)any(16)); break;
-    case 10: add_byte(to, TORALINGE_KIND_IN, (uint8_t)any(2)); break;
-    case 11: add_byte(to, TORALINGE_KIND_OUT, payload[0]); break;
-    case 12:
+    case 7:
+        payload[2] = payload[3] = 0xFF;
+        payload[6] = payload[7] = 0;
+        add(to, TORALINGE_KIND_SOAK, payload, 8);
+        break;
+    case 8: add_byte(to, TORALINGE_KIND_LEVEL, (uint8_t)any(2)); break;
+    case 9: add_bare(to, any(2) ? TORALINGE_KIND_PIN : TORALINGE_KIND_XREADY); break;
+    case 10: add_byte(to, TORALINGE_KIND_WIRING, (uint8_t)any(16)); break;
+    case 11: add_byte(to, TORALINGE_KIND_IN, (uint8_t)any(2)); break;
+    case 12: add_byte(to, TORALINGE_KIND_OUT, payload[0]); break;
+    case 13:
         add_bare(to, TORALINGE_KIND_START);
         add_byte(to, TORALINGE_KIND_OUT, any(2) ? 0x10 : 0x11);
         break;

@@ -34,14 +34,21 @@ chipHere b = chipAt (take «KEPT_CHIP» b)
 abbrev pub says : Bool → ℕ → Chip → Stepped
 says flag byte c = record { chip = c; number = 0; flag = flag; byte = byte }
 
--- the event has happened to the chip that the bytes kept, they keep the chip that it left, and no wiring record is taken any more
-pub record Did (b : List ℕ) (e : Event) (flag : Bool) (byte : ℕ) (shown : Shown) (new : List ℕ) : Type 0 where
+-- the chip that the bytes kept came to s, they keep the chip that this left, and no wiring record is taken any more
+pub record Came (b : List ℕ) (s : Stepped) (flag : Bool) (byte : ℕ) (shown : Shown) (new : List ℕ) : Type 0 where
   pub left : Chip
-  pub happens : says flag byte left ≡ happened e (chipOf b)
+  pub happens : says flag byte left ≡ s
   pub shows : shown ≡ left .registers .shown
   pub leaves : new ≡ keptIn left false b
 
 -- .. where they are good; or nothing changed
+abbrev pub CameBy : List ℕ → Stepped → Done → List ℕ → Type 0
+CameBy b s (Shows flag byte shown) new = goodOf b ≡ true → Came b s flag byte shown new
+CameBy b s Not new = new ≡ b
+
+-- the event has happened to it
+abbrev pub Did : List ℕ → Event → Bool → ℕ → Shown → List ℕ → Type 0
+Did b e flag byte shown new = Came b (happened e (chipOf b)) flag byte shown new
+
 abbrev pub DidBy : List ℕ → Event → Done → List ℕ → Type 0
-DidBy b e (Shows flag byte shown) new = goodOf b ≡ true → Did b e flag byte shown new
-DidBy b e Not new = new ≡ b
+DidBy b e r new = CameBy b (happened e (chipOf b)) r new

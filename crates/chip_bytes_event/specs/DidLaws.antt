@@ -24,7 +24,7 @@ use Rattle.chip_bytes_layout.specs.Layout.{none, keptBytes, goodAt, chipIn, goo
 use Rattle.chip_bytes_layout.specs.OneLaws.{part-not}
 use Rattle.chip_bytes_layout.specs.TripLaws.{forth}
 use Rattle.chip_bytes_layout.specs.GoodLaws.{zero-at}
-use Rattle.chip_bytes_event.specs.Did.{Awake, chipHere, says, Did}
+use Rattle.chip_bytes_event.specs.Did.{Awake, chipHere, says, Came, Did}
 
 -- what is shown, read back
 pub shown-back : (c : Chip) (fresh : Bool) (rest : List ℕ) → shownAt (take 96 (chipBytes c fresh ++ rest)) ≡ c .registers .shown
@@ -103,15 +103,21 @@ module _ (b : List ℕ) (w : Awake b) (g : goodOf b ≡ true) where
   unfolding happened chipAt
   normal e = ap (λ (t : Bool). cond t (settled (normally e (chipHere b))) (asleep e (chipHere b))) (w .normal)
 
-  -- THE LAW
+  -- THE LAW, of whatever the chip comes to
+  pub came : (step : Chip → Stepped) (d : Chip) (flag : Bool) (byte : ℕ) (shown : Shown) (new : List ℕ)
+      → d .setup .part ≡ chipHere b .setup .part → says flag byte d ≡ step (chipHere b) → shown ≡ d .registers .shown
+      → new ≡ chipBytes d false ++ drop 96 b → Came b (step (chipOf b)) flag byte shown new
+  came step d flag byte shown new p h s m =
+      record {
+        left = d;
+        happens = h ∙ ap step (sym chip-is);
+        shows = s;
+        leaves = m ∙ kept-in d (ap (λ (n : ℕ). eqb n 0) p ∙ its-part);
+      }
+
+  -- .. and of an event
   pub did : (e : Event) (d : Chip) (flag : Bool) (byte : ℕ) (shown : Shown) (new : List ℕ) → d .setup .part ≡ chipHere b .setup .part
       → Calmed d → says flag byte d ≡ normally e (chipHere b) → shown ≡ d .registers .shown → new ≡ chipBytes d false ++ drop 96 b
       → Did b e flag byte shown new
   did e d flag byte shown new p k h s m =
-      record {
-        left = d;
-        happens =
-            sym (settles (says flag byte d) k) ∙ ap settled h ∙ sym (normal e) ∙ ap (happened e) (sym chip-is);
-        shows = s;
-        leaves = m ∙ kept-in d (ap (λ (n : ℕ). eqb n 0) p ∙ its-part);
-      }
+      came (happened e) d flag byte shown new p (sym (settles (says flag byte d) k) ∙ ap settled h ∙ sym (normal e)) s m

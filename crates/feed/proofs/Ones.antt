@@ -12,7 +12,7 @@ use borrow.Author.Needs.{needs}
 use borrow.Author.Tests.{eqb-true, le-ltb, le-leb}
 use Rattle.events.specs.declared.BusEvent.{BusEvent}
 use Rattle.events.specs.declared.Event.{Event}
-use Rattle.events.specs.declared.Event.the-variants.{Scan, Temp, Sense, OnBus}
+use Rattle.events.specs.declared.Event.the-variants.{Scan, Temp, Sense, OnBus, Ticks, Soak}
 use Rattle.events.specs.declared.Setup.{Setup}
 use Rattle.events.specs.declared.Role.the-variants.{Happens}
 use Rattle.events.specs.Role.{roleOf, by-role}
@@ -30,7 +30,7 @@ use Rattle.records.specs.Record.{standing, payloadOf, asRead, readOf, countsIn,
 use Rattle.registers.specs.declared.Shown.{Shown}
 use Rattle.chip.specs.declared.Chip.{Chip}
 use Rattle.chip.specs.declared.Stepped.{Stepped}
-use Rattle.chip.specs.Chip.{happened, happenedAs, happenedBy}
+use Rattle.chip.specs.Chip.{happened, ticked, happenedAs, happenedBy}
 use Rattle.chip.specs.Calm.{Calmed}
 use Rattle.turn.specs.declared.Entry.{Entry}
 use Rattle.turn.specs.Turn.{Turn, acted, staysFresh, turn, turnOf, entryOf}
@@ -41,7 +41,7 @@ use Rattle.chip_bytes_layout.specs.Layout.{keeps, keptOf, goodOf, chipOf, fresh
 use Rattle.chip_bytes_layout.specs.GoodLaws.{good-keeps}
 use Rattle.chip_bytes_event.specs.declared.Done.{Done}
 use Rattle.chip_bytes_event.specs.declared.Done.the-variants.{Shows, Not}
-use Rattle.chip_bytes_event.specs.Did.{says, DidBy}
+use Rattle.chip_bytes_event.specs.Did.{says, CameBy, DidBy}
 use Rattle.chip_bytes_event.specs.DidLaws.{part-of}
 use Rattle.chip_bytes_seldom.specs.Seldom.{SeldomBy}
 use Rattle.feed.specs.Fed.{allFit, answerBy, feedsBy, chipAfter, entriesAfter, Fed}
@@ -55,33 +55,33 @@ meant-befalls = by-role (λ (e : Event). (x : Happening) → ((u : Setup) → ev
     unfit-not : {A : Type 0} (x : Happening) → unfit ≡ means x → A
     unfit-not x h = let z : _≡_ {A = ℕ} 0 1 = cc in absurd (omega arith)
 
--- what was done in the bytes, with the payload that it was read from; a tick and the bus have no counts beside them
+-- what was done in the bytes, with the payload that it was read from; a tick, ticks and the bus have no counts beside them
 module _ (b : List ℕ) (payload : Payload) (event : Event) (counts : Event → List ℕ) (w : payload ≡ Whole event) (new : List ℕ) where
-  pub tick-one : (v : ℤ) (r : Done) → event ≡ Sense v → DidBy b (Ticked v) r new → OneBy b payload counts r new
-  tick-one v (Shows flag byte shown) e h =
+  one-of : (x : Event) (s : Stepped) (r : Done) → event ≡ x → roleOf x ≡ Happens → s ≡ happenedBy x (counts x) (chipOf b) → CameBy b s r new
+      → OneBy b payload counts r new
+  one-of x s (Shows flag byte shown) e f q h =
       λ g. record {
-        event = Sense v;
-        befalls = refl;
+        event = x;
+        befalls = f;
         is = w ∙ ap Whole e;
         left = h g .left;
-        happens = h g .happens;
+        happens = h g .happens ∙ q;
         shows = h g .shows;
         leaves = h g .leaves;
       }
-  tick-one v Not e h = h
+  one-of x s Not e f q h = h
+
+  pub tick-one : (v : ℤ) (r : Done) → event ≡ Sense v → DidBy b (Ticked v) r new → OneBy b payload counts r new
+  tick-one v r e h = one-of (Sense v) (happened (Ticked v) (chipOf b)) r e refl refl h
 
   pub bus-one : (s : BusEvent) (r : Done) → event ≡ OnBus s → DidBy b (Signalled s) r new → OneBy b payload counts r new
-  bus-one s (Shows flag byte shown) e h =
-      λ g. record {
-        event = OnBus s;
-        befalls = refl;
-        is = w ∙ ap Whole e;
-        left = h g .left;
-        happens = h g .happens;
-        shows = h g .shows;
-        leaves = h g .leaves;
-      }
-  bus-one s Not e h = h
+  bus-one s r e h = one-of (OnBus s) (happened (Signalled s) (chipOf b)) r e refl refl h
+
+  pub ticks-one : (v : ℤ) (n : ℕ) (r : Done) → event ≡ Ticks v n → CameBy b (ticked n v (chipOf b)) r new → OneBy b payload counts r new
+  ticks-one v n r e h = one-of (Ticks v n) (ticked n v (chipOf b)) r e refl refl h
+
+  pub soak-one : (v : ℤ) (n : ℕ) (r : Done) → event ≡ Soak v n → CameBy b (ticked n v (chipOf b)) r new → OneBy b payload counts r new
+  soak-one v n r e h = one-of (Soak v n) (ticked n v (chipOf b)) r e refl refl h
 
 -- one that is seldom met, by what it means
 pub seldom-one : (b : List ℕ) (payload : Payload) (event : Event) (counts : Event → List ℕ) (new : List ℕ) (r : Done) → payload ≡ Whole event

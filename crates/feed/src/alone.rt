@@ -87,6 +87,32 @@ fn temp_by(chip: &mut [u8], payload: Payload, b: &[u8]) -> Done
     chip_bytes_seldom::warmed(chip, of)
 }
 
+// TICKS.
+fn ticks_by(chip: &mut [u8], payload: Payload) -> Done
+    ensures { λ r. ⌜ BareBy (now (chip .entry)) payload r (now (chip .exit)) ⌝ }
+{
+    let Payload::Whole(event) = payload else {
+        return Done::Not;
+    };
+    let Event::Ticks(value, repeat) = event else {
+        return Done::Not;
+    };
+    chip_bytes_tick::repeated(chip, value, repeat as u32)
+}
+
+// SOAK.
+fn soak_by(chip: &mut [u8], payload: Payload) -> Done
+    ensures { λ r. ⌜ BareBy (now (chip .entry)) payload r (now (chip .exit)) ⌝ }
+{
+    let Payload::Whole(event) = payload else {
+        return Done::Not;
+    };
+    let Event::Soak(value, repeat) = event else {
+        return Done::Not;
+    };
+    chip_bytes_tick::repeated(chip, value, repeat)
+}
+
 // START, OUT, IN and STOP.
 fn bus_by(chip: &mut [u8], payload: Payload) -> Done
     ensures { λ r. ⌜ BareBy (now (chip .entry)) payload r (now (chip .exit)) ⌝ }
@@ -154,10 +180,16 @@ fn done_by(chip: &mut [u8], part: u8, kind: u16, b: &[u8]) -> Done
     if kind == kind::TEMP {
         return temp_by(chip, records::payload_of(kind::TEMP, part, b), b);
     }
+    if kind == kind::TICKS {
+        return ticks_by(chip, records::payload_of(kind::TICKS, part, b));
+    }
+    if kind == kind::SOAK {
+        return soak_by(chip, records::payload_of(kind::SOAK, part, b));
+    }
     seldom_by(chip, seldom_of(kind, part, b))
 }
 
-// Does records that are one scan, one tick that raises nothing, one event of the bus that does not ship, or one of those that are seldom met, on a chip in
+// Does records that are one scan, one tick, ticks of one value, one event of the bus that does not ship, or one of those that are seldom met, on a chip in
 // NORMAL; else it changes nothing.
 pub fn done(chip: &mut [u8], records: &[u8], entries: &mut [u8]) -> bool
     ensures { λ r. ⌜ AloneBy (now (chip .entry)) (now (records .entry)) (now (entries .entry)) r (now (chip .exit)) (now (entries .exit)) ⌝ }

@@ -9,7 +9,7 @@ use lib.Seq.{length-take-le}
 use Rattle.protection.specs.Judged.{tickJudged}
 use Rattle.chip_bytes_event.specs.Did.{Awake}
 use Rattle.chip_bytes_event.proofs.Bytes.{awake}
-use Rattle.chip_bytes_tick.specs.TickLaws.{ticks-did}
+use Rattle.chip_bytes_tick.specs.TickLaws.{ticks-did, rises-did}
 use borrow.Author.Needs.{needs}
 use Rattle.chip_bytes_tick.proofs.ticked.Statement.{statement}
 use Rattle.chip_bytes_tick.proofs.ticked.Tie as tie
@@ -43,6 +43,20 @@ settings-at-requires : tie.Need-settings-at-requires
 settings-at-requires c κs =
     let i = c .before .before .before in
     length-take-le 96 (i .before .before .before .before .args .bytes .now) (room i)
+
+put-judged-requires : tie.Need-put-judged-requires
+put-judged-requires c κs = room (c .before .before .before .before .before .before .before .before .before)
+
+returns-2 : tie.Need-returns-2
+returns-2 c =
+    let p = c .before .before in
+    let j = p .before .before .before .before .before in
+    let r = j .before .before .before in
+    let w = r .before .before in
+    let a = w .before .before .before .before .args in
+    let y : toZ w32 (ofZ w32 (a .value)) ≡ a .value = search needs in
+    rises-did (a .bytes .now) (a .value) (stands w) (r .runs-at .ensures) (j .before .settings-at .ensures)
+    (j .sensed .ensures ∙ ap (λ (z : ℤ). tickJudged (j .before .settings-at .result) z (r .runs-at .result)) y) (p .put-judged .ensures)
 
 slice-reshare-prefix-shown-at : tie.Need-slice-reshare-prefix-shown-at
 slice-reshare-prefix-shown-at c = room (c .before .before .before .before .before .before .before .before)
@@ -88,8 +102,9 @@ ticked-spec =
     slice-aggregate-settings-at
     settings-at-requires
     (λ c κs. search needs)
+    put-judged-requires
     (λ c. search needs)
-    (λ c. search needs)
+    returns-2
     slice-reshare-prefix-shown-at
     slice-aggregate-shown-at
     shown-at-requires

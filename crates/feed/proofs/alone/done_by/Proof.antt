@@ -42,7 +42,23 @@ returns-4 c =
 returns-5 : tie.Need-returns-5
 returns-5 c =
     let t = c .before .before in
-    let a = t .before .before .before .before .before .before .before .before .before .args in
+    let a = t .before .before .before .before .before .before .before .before .before .before .args in
+    one-as (a .chip .now) (λ (e : Event). countsIn e (a .b .now) .of) (t .ticks-by .result) (t .ticks-by .last .0)
+    (t .before .payload-of4 .ensures ∙ ap (λ (k : ℕ). payloadOf k (a .part) (a .b .now)) (sym (t .before .before .before .if5 .taken)))
+    (t .ticks-by .ensures (λ (e : Event). countsIn e (a .b .now) .of))
+
+returns-6 : tie.Need-returns-6
+returns-6 c =
+    let t = c .before .before in
+    let a = t .before .before .before .before .before .before .before .before .before .before .before .args in
+    one-as (a .chip .now) (λ (e : Event). countsIn e (a .b .now) .of) (t .soak-by .result) (t .soak-by .last .0)
+    (t .before .payload-of5 .ensures ∙ ap (λ (k : ℕ). payloadOf k (a .part) (a .b .now)) (sym (t .before .before .before .if6 .taken)))
+    (t .soak-by .ensures (λ (e : Event). countsIn e (a .b .now) .of))
+
+returns-7 : tie.Need-returns-7
+returns-7 c =
+    let t = c .before .before in
+    let a = t .before .before .before .before .before .before .before .before .before .before .before .args in
     one-signal (a .chip .now) (a .kind) (a .part) (a .b .now) (t .before .seldom-of .result) (λ (e : Event). countsIn e (a .b .now) .of) (t .seldom-by .result) (t .seldom-by .last .0)
     (t .before .seldom-of .ensures) (t .seldom-by .ensures (λ (e : Event). countsIn e (a .b .now) .of))
 
@@ -69,4 +85,12 @@ done-by-spec =
     (λ c κs. search needs)
     (λ c κs. search needs)
     (λ c. search needs)
-    returns-5)
+    returns-5
+    (λ c κs. search needs)
+    (λ c κs. search needs)
+    (λ c. search needs)
+    returns-6
+    (λ c κs. search needs)
+    (λ c κs. search needs)
+    (λ c. search needs)
+    returns-7)
