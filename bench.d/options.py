@@ -3,8 +3,6 @@ import os
 import re
 import shutil
 import sys
-from dataclasses import dataclass, field
-from typing import List, Optional
 
 import place
 
@@ -29,18 +27,20 @@ Makes a chip, boots it, and runs the command, or a shell, in which /dev/i2c-9 is
 ./bench-event makes things happen to the chip. docs/BENCH.md and man -l man/bench.1 say more.'''
 
 
-@dataclass
 class Options:
-    part: int = 1
-    crc: int = 0
-    address: int = 0x08
-    gain: int = 10
-    offset: int = 30
-    floor: int = 1000
-    cells: Optional[int] = None
-    bus: int = place.BUS
-    record: Optional[str] = None
-    command: List[str] = field(default_factory=list)
+    """A plain class: what makes classes out of annotations takes longer to load than all else that ./bench-event does."""
+    part = 1
+    crc = 0
+    address = 0x08
+    gain = 10
+    offset = 30
+    floor = 1000
+    cells = None
+    bus = place.BUS
+    record = None
+
+    def __init__(self):
+        self.command = []
 
     def name(self):
         return NAMES[self.part]

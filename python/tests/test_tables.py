@@ -138,15 +138,15 @@ def worked() -> float:
 
 
 def test_two_thousand_streams_take_less_than_a_second():  # type: ignore[no-untyped-def]
-    """Engine and table, of some 300 records each; the best of three tries. Under the emulator, whose times say nothing, ten seconds."""
+    """Engine and table, of some 300 records each; one of three tries. Under the emulator, whose times say nothing, ten seconds."""
     made = [pack(seed, 300) for seed in range(20)]
     streams = [made[at % 20] for at in range(2000)]
-    took = []
-    for _ in range(3):
+    most = 1 if getattr(library(), "_process", None) is None else 10
+    took: list[float] = []
+    while len(took) < 3 and min(took, default=most) >= most:
         begun = worked()
         table = toralinge.seasons(streams)
         took.append(worked() - begun)
     assert table["pack"].nunique() == 2000
     print(f"2,000 streams of {len(toralinge.play(made[0]))} records: {min(took):.2f} s")
-    emulated = getattr(library(), "_process", None) is not None
-    assert min(took) < (10 if emulated else 1), took
+    assert min(took) < most, took

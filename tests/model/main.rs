@@ -74,6 +74,9 @@ fn plants(options: &Options) -> Result<String, String> {
             missed.push(format!("{plant:?}"));
         }
     }
+    // The short ones are tried first, and before them those that showed the errors before: what shows one mostly shows the next.
+    let (mut places, long): (Vec<usize>, Vec<usize>) = (0..streams.len()).partition(|at| streams[*at].len() < 60_000);
+    places.extend(long);
     for plant in &plants {
         let shown = |at: &usize| {
             let outcome = stream::play(&streams[*at], *plant);
@@ -81,11 +84,12 @@ fn plants(options: &Options) -> Result<String, String> {
                 || !same_reading(&outcome.reading, &expected[*at].reading)
                 || season::rows(&outcome.chip, Plant::None) != season::rows(&expected[*at].chip, Plant::None)
         };
-        let short_first = |at: &usize| streams[*at].len() < 60_000;
-        let places: Vec<usize> = (0..streams.len()).collect();
-        let (short, long): (Vec<usize>, Vec<usize>) = places.into_iter().partition(short_first);
-        if !short.iter().chain(&long).any(shown) && values::grid(*plant) == grid {
-            missed.push(format!("{plant:?}"));
+        if values::grid(*plant) != grid {
+            continue;
+        }
+        match places.iter().position(shown) {
+            Some(at) => places[..=at].rotate_right(1),
+            None => missed.push(format!("{plant:?}")),
         }
     }
     let many = plants.len() + plant::ASKS.len() + plant::RISES.len();

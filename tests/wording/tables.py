@@ -117,9 +117,9 @@ def most_memory(records):
 
 def hold_memory():
     few, _ = most_memory(1_000)
-    many, rows = most_memory(1_000_000)
-    hold(rows == 1_000_001, f"a stream of 1,000,001 records gives {rows} rows")
-    hold(many < few + 4_000, f"1,000,001 records take {many} KB, 1,001 take {few}")
+    many, rows = most_memory(250_000)
+    hold(rows == 250_001, f"a stream of 250,001 records gives {rows} rows")
+    hold(many < few + 1_000, f"250,001 records take {many} KB, 1,001 take {few}")
     return many - few
 
 
@@ -133,4 +133,4 @@ with tempfile.TemporaryDirectory() as name:
 for path in ROOT.glob("examples/*.hex"):
     hold_forecast(path)
 print(f"tests/tables: {scenes} streams, {records} records, are read by pandas as the model has them;"
-      f" 1,000,000 records more take {hold_memory()} KB more")
+      f" 249,000 records more take {hold_memory()} KB more")
