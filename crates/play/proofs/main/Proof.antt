@@ -1,4 +1,5 @@
--- The text fits its buffer, which has room for the longest one: so it is never refused, and its length is no more than the buffer's.
+-- The text fits its buffer, which has room for the longest one: so it is never refused, and its length is no more than the buffer's. How long a new
+-- buffer is, is a lemma, not counted out.
 use mathlib.Core.Path.{_≡_, ap, sym, _∙_, subst}
 use mathlib.Core.List.{List}
 use Prim.Native.Nat.{ℕ, _≤_}
@@ -42,11 +43,11 @@ pub main-spec : {M : Type 1} → statement M
 main-spec =
     tie.close
     (tie.spec
-    (λ c. search needs)
+    (λ c. sym (length-replicate {A = ℕ} 65537 0))
     (λ c κs. search needs)
     (λ c. search needs)
     (λ c. search needs)
-    (λ c. search needs)
+    (λ c. sym (length-replicate {A = ℕ} 442368 0))
     (λ c κs. search needs)
     cast-k
     array-share-prefix-out
