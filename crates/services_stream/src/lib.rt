@@ -31,8 +31,7 @@ pub extern "C" fn toralinge_bleed(stream: &[u8], margin: u32, cellbal: &mut [u8]
     ensures { λ r. ⌜ Bled (proposalAt (now (stream .entry)) margin) (now (cellbal .entry)) r (now (cellbal .exit)) ⌝ }
 {
     let chip = stream_run::last_chip(stream);
-    let setup = chip.setup;
-    if setup.part == 0 {
+    if chip.setup.part == 0 {
         return records::first_number(stream);
     }
     let answer = services_chip::bleeding(chip, margin);
@@ -54,8 +53,7 @@ pub extern "C" fn toralinge_reply(
     ensures { λ r. ⌜ Replied (wordAt (now (stream .entry)) command milliohms) command (now (reply .entry)) r (now (reply .exit)) ⌝ }
 {
     let chip = stream_run::last_chip(stream);
-    let setup = chip.setup;
-    if setup.part == 0 {
+    if chip.setup.part == 0 {
         return records::first_number(stream);
     }
     if COMMAND_MOST < command {

@@ -26,8 +26,7 @@ pub extern "C" fn toralinge_reading(stream: &[u8], reading: &mut [f64]) -> u8
     ensures { λ r. ⌜ Read4 (now (stream .entry)) (now (reading .entry)) r (now (reading .exit)) ⌝ }
 {
     let chip = last_chip(stream);
-    let setup = chip.setup;
-    if setup.part == 0 {
+    if chip.setup.part == 0 {
         return records::first_number(stream);
     }
     let answer = chip_voltage::forecast(chip);

@@ -10,14 +10,14 @@ use Rattle.services_stream.proofs.toralinge_reply.Tie as tie
 
 returns : tie.Need-returns
 returns c =
-    let k = c .before .before .before .before in
+    let k = c .before .before .before in
     let a = k .before .before .before .args in
     replied-refused (a .command) (a .reply .now) _ (none-said (a .stream .now) (k .last-chip .result) (k .last-chip .ensures) _ _ (c .before .if1 .taken) (c .first-number .ensures))
 
 returns-2 : tie.Need-returns-2
 returns-2 c =
     let i = c .before in
-    let k = i .before .before .before in
+    let k = i .before .before in
     let a = k .before .before .before .args in
     replied-refused (a .command) (a .reply .now) _
     (some-said (a .stream .now) (k .last-chip .result) (k .last-chip .ensures) (λ (d : Chip). wordFor (packOf d) (linkedTotal d) (a .command) (a .milliohms)) (i .if1 .left)
@@ -26,7 +26,7 @@ returns-2 c =
 returns-3 : tie.Need-returns-3
 returns-3 c =
     let i = c .before .before .before .before .before in
-    let k = i .before .before .before in
+    let k = i .before .before in
     let a = k .before .before .before .args in
     replied-as (a .command) (a .reply .now) _ _
     (some-said (a .stream .now) (k .last-chip .result) (k .last-chip .ensures) (λ (d : Chip). wordFor (packOf d) (linkedTotal d) (a .command) (a .milliohms)) (i .if1 .left)) (c .before .before .reply .ensures)
