@@ -25,13 +25,11 @@ pub fn bleeding(chip: Chip, margin: u32) -> Proposal
 {
     if (1 <= margin) & (margin <= MARGIN_MOST) {
         if chip.normal {
-            let registers = chip.registers;
-            let measured = registers.measured;
-            let cells = measured.cells;
             let linked = chip_voltage::linked(chip);
             if linked == 0 {
                 return Proposal::No(number::NOT_CONNECTED);
             }
+            let cells = chip.registers.measured.cells;
             return Proposal::Is(bleed::propose(cells, linked, margin as u16));
         }
         return Proposal::No(number::ASLEEP);
@@ -43,17 +41,14 @@ pub fn bleeding(chip: Chip, margin: u32) -> Proposal
 fn pack_of(chip: Chip) -> Pack
     ensures { λ r. ⌜ r ≡ packSpec chip ⌝ }
 {
-    let registers = chip.registers;
-    let settings = registers.settings;
-    let measured = registers.measured;
-    let ts = measured.ts;
+    let ts = chip.registers.measured.ts;
     let linked = chip_voltage::linked(chip);
     Pack {
         normal: chip.normal,
-        external: settings.temp_sel,
+        external: chip.registers.settings.temp_sel,
         warmth: ts[0],
         connected: linked != 0,
-        cc: measured.cc,
+        cc: chip.registers.measured.cc,
     }
 }
 
@@ -61,14 +56,16 @@ fn pack_of(chip: Chip) -> Pack
 fn total(chip: Chip) -> Microvolts
     ensures { λ r. ⌜ r .0 ≡ linkedTotal chip ⌝ }
 {
-    let setup = chip.setup;
-    let registers = chip.registers;
-    let measured = registers.measured;
-    let cells = measured.cells;
-    let held = wiring::link(setup, cells);
+    let cells = chip.registers.measured.cells;
+    let held = wiring::link(chip.setup, cells);
     let of = held.of;
     let looked = cell_counts::look(of, held.many, 0, 0, 0);
-    values::microvolts_by(setup.gain_code, setup.offset, held.many as u32, looked.sum)
+    values::microvolts_by(
+        chip.setup.gain_code,
+        chip.setup.offset,
+        held.many as u32,
+        looked.sum,
+    )
 }
 
 // The reply to a Smart Battery command, with the sense resistor in milliohms: low byte, high byte and the PEC. Answers 0, or with nothing written the number that refuses it.

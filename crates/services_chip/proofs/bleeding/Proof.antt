@@ -38,7 +38,7 @@ module _ (margin : ℕ) (c : Chip) where
 returns : tie.Need-returns
 returns c =
     let l = c .before in
-    let i = l .before .before .before .before in
+    let i = l .before in
     let a = i .before .before .args in
     none (a .margin) (a .chip) (i .before .if1 .taken) (i .if2 .taken) _ (l .linked .ensures) (c .if3 .taken)
 
@@ -48,15 +48,16 @@ narrow margin f = let h : margin ≤ 16383 = leb-true margin 16383 (right-of (le
 
 cast-propose : tie.Need-cast-propose
 cast-propose c =
-    let i = c .before .before .before .before .before in
+    let i = c .before .before .before in
     narrow (i .before .before .args .margin) (i .before .if1 .taken)
 
 returns-2 : tie.Need-returns-2
 returns-2 c =
-    let l = c .before .before in
-    let i = l .before .before .before .before in
+    let f = c .before .before in
+    let l = f .before in
+    let i = l .before in
     let a = i .before .before .args in
-    some (a .margin) (a .chip) (i .before .if1 .taken) (i .if2 .taken) _ (l .linked .ensures) (c .before .if3 .left) _ (c .propose .ensures)
+    some (a .margin) (a .chip) (i .before .if1 .taken) (i .if2 .taken) _ (l .linked .ensures) (f .if3 .left) _ (c .propose .ensures)
 
 returns-3 : tie.Need-returns-3
 returns-3 c = let a = c .before .before .args in asleep (a .margin) (a .chip) (c .before .if1 .taken) (c .if2 .left)

@@ -37,7 +37,7 @@ returns : tie.Need-returns
 returns c =
     let o = c .before .before in
     let h = o .before .before in
-    let k = h .before .before .before .before .before .args .chip in
+    let k = h .before .before .args .chip in
     c .microvolts-by .ensures ∙ total-of k (h .link .result) (o .look .result) (h .link .ensures) (o .look .ensures)
 
 pub total-spec : {M : Type 1} → statement M
