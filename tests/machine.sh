@@ -134,16 +134,21 @@ told_library() {
     printf '%s: %s is %s (%s s), %d left\n' "$me" "$2" "$([[ " ${fell[*]-} " = *" $2 "* ]] && echo 'not built' || echo 'built')" "$3" "$to_build" >&2
 }
 
-# side_by_side FOLDER WORK TOLD NAME..: runs `WORK NAME` for each name, as many at once as there are processors and four at most, each in a lane
+# How many more lanes than processors there are side by side.
+more_lanes=0
+
+# side_by_side FOLDER WORK TOLD NAME..: runs `WORK NAME` for each name, as many at once as there are processors and four at most, and `more_lanes`, each in a lane
 # with the number `lane`. What one says goes to FOLDER/NAME.log, its status and seconds to FOLDER/NAME.end. As they end, in the order of the names,
 # `TOLD FOLDER NAME SECONDS` is called. Sets `fell` to those that did not end with 0. Not to be called after `if` or before `||`, where bash
 # would pass over what goes wrong in them.
 side_by_side() {
-    local folder=$1 work=$2 told=$3 name status seconds
+    local folder=$1 work=$2 told=$3 name status seconds lanes
     shift 3
+    lanes=$(nproc)
+    lanes=$(((lanes < 4 ? lanes : 4) + more_lanes))
     rm -rf "$folder"
     mkdir -p "$folder"
-    for ((lane = 0; lane < 4 && lane < $(nproc); lane++)); do
+    for ((lane = 0; lane < lanes; lane++)); do
         in_lane "$folder" "$work" "$@" &
     done
     fell=()
