@@ -13,6 +13,14 @@ use borrow.Author.Tests.{lt-ltb, le-ltb, ltb-true, ltb-false}
 use Rattle.crc8.specs.Crc.{reduced, remainder, bits, crc, turn, turns, byteOn, crcOn}
 use Rattle.crc8.specs.Laws.{crcOn-append}
 
+-- high bit first: the lowest bit of a byte is its last; and no bytes have the CRC 0
+pub high-first : bits (1 ∷ []) ≡ (0 ∷ 0 ∷ 0 ∷ 0 ∷ 0 ∷ 0 ∷ 0 ∷ 1 ∷ [])
+high-first = refl
+
+pub crc-none : crc [] ≡ 0
+unfolding crc
+crc-none = refl
+
 -- a bit is 0 or 1
 data Bit : ℕ → Type 0 where
   off : Bit 0
