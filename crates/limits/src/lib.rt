@@ -93,12 +93,10 @@ pub fn scd_limit(protect1: u8) -> u32
     ensures { λ r. ⌜ r ≡ getD (scdLimit (bit protect1 128)) (protect1 % 8) 0 ⌝ }
 {
     let code = (protect1 % 8) as usize;
-    let low = SCD_LOW[code];
-    let high = SCD_HIGH[code];
     if bits::bit(protect1, weight::RSNS) {
-        high
+        SCD_HIGH[code]
     } else {
-        low
+        SCD_LOW[code]
     }
 }
 
@@ -106,12 +104,10 @@ pub fn ocd_limit(protect1: u8, protect2: u8) -> u32
     ensures { λ r. ⌜ r ≡ getD (ocdLimit (bit protect1 128)) (protect2 % 16) 0 ⌝ }
 {
     let code = (protect2 % 16) as usize;
-    let low = OCD_LOW[code];
-    let high = OCD_HIGH[code];
     if bits::bit(protect1, weight::RSNS) {
-        high
+        OCD_HIGH[code]
     } else {
-        low
+        OCD_LOW[code]
     }
 }
 
