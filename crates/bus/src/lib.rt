@@ -123,19 +123,18 @@ fn stores(pointer: u8, value: u8) -> Outed
     }
 }
 
-// The address byte.
+// The address byte: the chip's address, and a last bit that is 1 for a read.
 fn address_byte(setup: Setup, pointer: u8, byte: u8) -> Outed
     ensures { λ r. ⌜ r ≡ addressed setup pointer byte ⌝ }
 {
-    let own = setup.address as u16 * 2;
+    if byte / 2 != setup.address {
+        return refuses(pointer);
+    }
     let crc = crc_byte(0, byte);
-    if byte as u16 == own {
+    if byte % 2 == 0 {
         return goes(Phase::Pointing(crc), pointer);
     }
-    if byte as u16 == own + 1 {
-        return goes(Phase::Reading(crc, false), pointer);
-    }
-    refuses(pointer)
+    goes(Phase::Reading(crc, false), pointer)
 }
 
 fn write_byte(setup: Setup, crc: u8, pointer: u8, byte: u8) -> Outed
