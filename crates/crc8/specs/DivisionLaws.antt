@@ -137,8 +137,20 @@ abbrev pub Bytes : List ℕ → Type 0
 Bytes [] = Unit
 Bytes (b ∷ s) = (b < 256) × Bytes s
 
+-- a 0 brought down is a turn; eight of them
+turned-by : (r : ℕ) (bs : List ℕ) → remainder r (0 ∷ bs) ≡ remainder (turn r) bs
+turned-by r bs = ap (λ (n : ℕ). remainder (reduced n) bs) (add-zero (2 * r))
+
 zeros : (r : ℕ) → remainder r (replicate 8 0) ≡ turns r
-zeros r = simp add-zero
+zeros r =
+    turned-by r (replicate 7 0)
+    ∙ turned-by (turn r) (replicate 6 0)
+    ∙ turned-by (turn (turn r)) (replicate 5 0)
+    ∙ turned-by (turn (turn (turn r))) (replicate 4 0)
+    ∙ turned-by (turn (turn (turn (turn r)))) (replicate 3 0)
+    ∙ turned-by (turn (turn (turn (turn (turn r))))) (replicate 2 0)
+    ∙ turned-by (turn (turn (turn (turn (turn (turn r)))))) (replicate 1 0)
+    ∙ turned-by (turn (turn (turn (turn (turn (turn (turn r))))))) (replicate 0 0)
 
 whole : (r : ℕ) (s : List ℕ) → r < 256 → Bytes s → remainder r (bits s ++ replicate 8 0) ≡ crcOn (turns r) s
 unfolding byteOn
