@@ -123,19 +123,18 @@ fn stores(pointer: u8, value: u8) -> Outed
     }
 }
 
-// The address byte.
+// The address byte: the chip's address, and a last bit that is 1 for a read.
 fn address_byte(setup: Setup, pointer: u8, byte: u8) -> Outed
     ensures { λ r. ⌜ r ≡ addressed setup pointer byte ⌝ }
 {
-    let own = setup.address as u16 * 2;
+    if byte / 2 != setup.address {
+        return refuses(pointer);
+    }
     let crc = crc_byte(0, byte);
-    if byte as u16 == own {
+    if byte % 2 == 0 {
         return goes(Phase::Pointing(crc), pointer);
     }
-    if byte as u16 == own + 1 {
-        return goes(Phase::Reading(crc, false), pointer);
-    }
-    refuses(pointer)
+    goes(Phase::Reading(crc, false), pointer)
 }
 
 fn write_byte(setup: Setup, crc: u8, pointer: u8, byte: u8) -> Outed
@@ -177,13 +176,11 @@ impl Line {
         let phase = self.phase;
         let at = self.pointer;
         match phase {
-            Phase::Idle => refuses(at),
             Phase::Address => address_byte(setup, at, byte),
             Phase::Pointing(s) => goes(Phase::Writing(crc_byte(s, byte)), byte),
             Phase::Writing(s) => write_byte(setup, s, at, byte),
             Phase::Checking(v, s) => check_byte(v, s, at, byte),
-            Phase::Reading(_, _) => refuses(at),
-            Phase::Summing(_) => refuses(at),
+            Phase::Idle | Phase::Reading(_, _) | Phase::Summing(_) => refuses(at),
         }
     }
 }
@@ -218,12 +215,6 @@ fn after_sum(kept: bool, nack: bool) -> Phase
     Phase::Reading(0, kept)
 }
 
-fn line_of(phase: Phase, pointer: u8) -> Line
-    ensures { λ r. ⌜ r ≡ lineOf phase pointer ⌝ }
-{
-    Line { phase, pointer }
-}
-
 // The byte that a read gives: the kept low byte, or what the register reads.
 fn next_byte(kept: bool, low: u8, here: u8) -> u8
     ensures { λ r. ⌜ r ≡ nextByte kept low here ⌝ }
@@ -240,10 +231,8 @@ fn owe(owed: Owed, crc: u8, kept: bool, at: u8, here: u8, low: u8) -> Owed
 {
     let byte = next_byte(kept, owed.low, here);
     let sum = crc_byte(crc, byte);
-    if is_high(at) {
-        return Owed { sum, low };
-    }
-    Owed { sum, low: owed.low }
+    let low = next_byte(is_high(at), low, owed.low);
+    Owed { sum, low }
 }
 
 impl Bus {
@@ -255,12 +244,12 @@ impl Bus {
         let phase = line.phase;
         match phase {
             Phase::Reading(_, _) => Want::Register(line.pointer),
-            Phase::Summing(_) => Want::Nothing,
-            Phase::Idle => Want::Nothing,
-            Phase::Address => Want::Nothing,
-            Phase::Pointing(_) => Want::Nothing,
-            Phase::Writing(_) => Want::Nothing,
-            Phase::Checking(_, _) => Want::Nothing,
+            Phase::Idle
+            | Phase::Address
+            | Phase::Pointing(_)
+            | Phase::Writing(_)
+            | Phase::Checking(_, _)
+            | Phase::Summing(_) => Want::Nothing,
         }
     }
 
@@ -274,23 +263,25 @@ impl Bus {
         let phase = line.phase;
         match phase {
             Phase::Reading(crc, kept) => gives(
-                line_of(after_data(setup.crc, at, nack), grown(at)),
+                after_data(setup.crc, at, nack),
+                grown(at),
                 owe(owed, crc, kept, at, here, low),
                 next_byte(kept, owed.low, here),
             ),
-            Phase::Summing(kept) => gives(line_of(after_sum(kept, nack), at), owed, owed.sum),
-            Phase::Idle => gives(line, owed, NOTHING_READ),
-            Phase::Address => gives(line, owed, NOTHING_READ),
-            Phase::Pointing(_) => gives(line, owed, NOTHING_READ),
-            Phase::Writing(_) => gives(line, owed, NOTHING_READ),
-            Phase::Checking(_, _) => gives(line, owed, NOTHING_READ),
+            Phase::Summing(kept) => gives(after_sum(kept, nack), at, owed, owed.sum),
+            Phase::Idle
+            | Phase::Address
+            | Phase::Pointing(_)
+            | Phase::Writing(_)
+            | Phase::Checking(_, _) => gives(phase, at, owed, NOTHING_READ),
         }
     }
 }
 
-fn gives(line: Line, owed: Owed, byte: u8) -> Taken
-    ensures { λ r. ⌜ r ≡ givesSpec line owed byte ⌝ }
+fn gives(phase: Phase, pointer: u8, owed: Owed, byte: u8) -> Taken
+    ensures { λ r. ⌜ r ≡ givesSpec (lineOf phase pointer) owed byte ⌝ }
 {
+    let line = Line { phase, pointer };
     let bus = Bus { line, owed };
     Taken { bus, byte }
 }

@@ -1,5 +1,7 @@
 // One look over the counts of a scan.
 ghost use mathlib.Core.Path.{_≡_};
+ghost use mathlib.Core.Bool.{_&&_};
+ghost use lib.Dec.{leb, ltb};
 ghost use lib.ListN.{take, getD};
 ghost use Prim.Native.Nat.{_<_, min};
 ghost use Rattle.cell_counts.specs.Scan.{lookedAt, padded, tsPlaces};
@@ -10,6 +12,13 @@ pub struct Looked {
     pub sum: u32,
     pub over: bool,
     pub under: bool,
+}
+
+// Whether a count is under: not below the floor, and below the line.
+fn between(x: u16, floor: u16, least: u16) -> bool
+    ensures { λ r. ⌜ r ≡ (leb floor x && ltb x least) ⌝ }
+{
+    (floor <= x) & (x < least)
 }
 
 // The first `inputs` counts: stored, summed and judged in one loop.
@@ -26,7 +35,7 @@ pub fn look(counts: [u16; 15], inputs: u8, most: u16, floor: u16, least: u16) ->
         cells[i] = x;
         sum += x as u32;
         over = over | (most < x);
-        under = under | ((floor <= x) & (x < least));
+        under = under | between(x, floor, least);
     }
     Looked {
         cells,

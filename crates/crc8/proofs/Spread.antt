@@ -2,21 +2,15 @@
 use mathlib.Core.Path.{_≡_, refl, ap, sym, _∙_}
 use mathlib.Core.Logic.{_≢_}
 use mathlib.Core.Bool.{Bool, true, false, _&&_, and-eq-true-iff}
-use Prim.Native.Nat.{ℕ, zero, suc, _*_, _/_, _%_, _<_}
+use Prim.Native.Nat.{ℕ, zero, suc, _/_, _%_, _<_}
 use native.Mathlib.Omega.{arith}
 use lib.Bits.{bitXor}
 use lib.Dec.{eqb}
 use borrow.Author.Tests.{eqb-true, eqb-false}
-use Rattle.crc8.specs.Crc.{turns}
-
-abbrev product : ℕ → ℕ
-product x = bitXor (bitXor x (x * 2)) (x * 4)
-
-abbrev over : ℕ → ℕ
-over x = product x / 256 % 4
+use Rattle.crc8.specs.Crc.{bySeven, turns}
 
 abbrev pub spread : ℕ → ℕ
-spread x = bitXor (bitXor (bitXor (product x % 256) (over x)) (over x * 2)) (over x * 4) % 256
+spread x = bitXor (bySeven x % 256) (bySeven (bySeven x / 256 % 4)) % 256
 
 abbrev agrees : ℕ → Bool
 agrees zero = true

@@ -39,6 +39,10 @@ turn r = reduced (2 * r)
 abbrev pub turns : ℕ → ℕ
 turns r = turn (turn (turn (turn (turn (turn (turn (turn r)))))))
 
+-- what the code multiplies by instead, x^2 + x + 1
+abbrev pub bySeven : ℕ → ℕ
+bySeven x = bitXor (bitXor x (x * 2)) (x * 4)
+
 -- one byte more, on the CRC of the bytes before it
 unfoldable pub byteOn : ℕ → ℕ → ℕ
 byteOn c b = turns (bitXor c b)

@@ -13,6 +13,14 @@ use borrow.Author.Tests.{lt-ltb, le-ltb, ltb-true, ltb-false}
 use Rattle.crc8.specs.Crc.{reduced, remainder, bits, crc, turn, turns, byteOn, crcOn}
 use Rattle.crc8.specs.Laws.{crcOn-append}
 
+-- high bit first: the lowest bit of a byte is its last; and no bytes have the CRC 0
+pub high-first : bits (1 ∷ []) ≡ (0 ∷ 0 ∷ 0 ∷ 0 ∷ 0 ∷ 0 ∷ 0 ∷ 1 ∷ [])
+high-first = refl
+
+pub crc-none : crc [] ≡ 0
+unfolding crc
+crc-none = refl
+
 -- a bit is 0 or 1
 data Bit : ℕ → Type 0 where
   off : Bit 0
@@ -129,8 +137,20 @@ abbrev pub Bytes : List ℕ → Type 0
 Bytes [] = Unit
 Bytes (b ∷ s) = (b < 256) × Bytes s
 
+-- a 0 brought down is a turn; eight of them
+turned-by : (r : ℕ) (bs : List ℕ) → remainder r (0 ∷ bs) ≡ remainder (turn r) bs
+turned-by r bs = ap (λ (n : ℕ). remainder (reduced n) bs) (add-zero (2 * r))
+
 zeros : (r : ℕ) → remainder r (replicate 8 0) ≡ turns r
-zeros r = simp add-zero
+zeros r =
+    turned-by r (replicate 7 0)
+    ∙ turned-by (turn r) (replicate 6 0)
+    ∙ turned-by (turn (turn r)) (replicate 5 0)
+    ∙ turned-by (turn (turn (turn r))) (replicate 4 0)
+    ∙ turned-by (turn (turn (turn (turn r)))) (replicate 3 0)
+    ∙ turned-by (turn (turn (turn (turn (turn r))))) (replicate 2 0)
+    ∙ turned-by (turn (turn (turn (turn (turn (turn r)))))) (replicate 1 0)
+    ∙ turned-by (turn (turn (turn (turn (turn (turn (turn r))))))) (replicate 0 0)
 
 whole : (r : ℕ) (s : List ℕ) → r < 256 → Bytes s → remainder r (bits s ++ replicate 8 0) ≡ crcOn (turns r) s
 unfolding byteOn

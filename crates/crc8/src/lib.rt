@@ -1,15 +1,23 @@
 // CRC-8 with x^8 + x^2 + x + 1: start 0, high bit first, nothing inverted.
 ghost use mathlib.Core.Path.{_≡_};
-ghost use Rattle.crc8.specs.Crc.{turns, byteOn, crcOn};
+ghost use Prim.Native.Nat.{_<_};
+ghost use Rattle.crc8.specs.Crc.{bySeven, turns, byteOn, crcOn};
+
+// A polynomial times x^2 + x + 1.
+fn by_seven(x: u16) -> u16
+    requires { ⌜ x < 256 ⌝ }
+    ensures { λ r. ⌜ r ≡ bySeven x ⌝ }
+{
+    x ^ x * 2 ^ x * 4
+}
 
 // The remainder times x^8. Since x^8 is x^2 + x + 1 here, that is the remainder times x^2 + x + 1, and again for what passes x^7.
 fn crc_turns(c: u8) -> u8
     ensures { λ r. ⌜ r ≡ turns c ⌝ }
 {
-    let wide = c as u16;
-    let product = wide ^ wide * 2 ^ wide * 4;
-    let over = product / 256 % 4;
-    ((product % 256 ^ over ^ over * 2 ^ over * 4) % 256) as u8
+    let product = by_seven(c as u16);
+    let over = by_seven(product / 256 % 4);
+    ((product % 256 ^ over) % 256) as u8
 }
 
 // One byte taken into a running CRC.

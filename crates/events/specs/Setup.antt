@@ -8,6 +8,10 @@ use Rattle.events.specs.declared.Setup.{Setup}
 use Rattle.events.specs.declared.Checked.{Checked}
 use Rattle.events.specs.declared.Checked.the-variants.{Good, Bad}
 
+-- a number from the least to the most
+abbrev pub between : ℕ → ℕ → ℕ → Bool
+between least most n = leb least n && leb n most
+
 -- the ranges of CHIP S4
 abbrev pub setupFits : ℕ → ℕ → ℕ → ℕ → ℕ → Bool
 setupFits part crc address gain floor =

@@ -2,7 +2,7 @@
 ghost use mathlib.Core.Path.{_≡_};
 ghost use Rattle.events.specs.Event.{besideOf};
 ghost use Rattle.events.specs.Role.{roleOf};
-ghost use Rattle.events.specs.Setup.{checkedOf, inputs as inputsSpec, groups as groupsSpec};
+ghost use Rattle.events.specs.Setup.{between, checkedOf, inputs as inputsSpec, groups as groupsSpec};
 use constants::range;
 
 pub struct Setup {
@@ -81,15 +81,27 @@ pub enum Checked {
     Bad,
 }
 
+// Whether there is such a part.
+fn part_fits(part: u8) -> bool
+    ensures { λ r. ⌜ r ≡ between 1 3 part ⌝ }
+{
+    (1 <= part) & (part <= range::PART_MOST)
+}
+
+// Whether a chip may have this address.
+fn address_fits(address: u8) -> bool
+    ensures { λ r. ⌜ r ≡ between 8 119 address ⌝ }
+{
+    (range::ADDRESS_LEAST <= address) & (address <= range::ADDRESS_MOST)
+}
+
 // Six numbers as a setup, where each is in its range.
 pub fn setup_of(part: u8, crc: u8, address: u8, gain: u8, offset: u8, floor: u16) -> Checked
     ensures { λ r. ⌜ r ≡ checkedOf part crc address gain offset floor ⌝ }
 {
-    let good = (1 <= part)
-        & (part <= range::PART_MOST)
+    let good = part_fits(part)
         & (crc <= 1)
-        & (range::ADDRESS_LEAST <= address)
-        & (address <= range::ADDRESS_MOST)
+        & address_fits(address)
         & (gain <= range::GAIN_CODE_MOST)
         & (floor <= range::FLOOR_MOST);
     if good {
@@ -111,21 +123,21 @@ pub fn beside_of(event: Event) -> Beside
     ensures { λ r. ⌜ r ≡ besideOf event ⌝ }
 {
     match event {
-        Event::Setup(_) => Beside::Nothing,
-        Event::Por => Beside::Nothing,
-        Event::Boot => Beside::Nothing,
         Event::Scan => Beside::Inputs,
         Event::Temp => Beside::Groups,
-        Event::Count(_) => Beside::Nothing,
-        Event::Sense(_) => Beside::Nothing,
-        Event::Pin => Beside::Nothing,
-        Event::Load(_) => Beside::Nothing,
-        Event::Xready => Beside::Nothing,
-        Event::OnBus(_) => Beside::Nothing,
-        Event::Level(_) => Beside::Nothing,
-        Event::Ticks(_, _) => Beside::Nothing,
-        Event::Soak(_, _) => Beside::Nothing,
-        Event::Wires(_) => Beside::Nothing,
+        Event::Setup(_)
+        | Event::Por
+        | Event::Boot
+        | Event::Count(_)
+        | Event::Sense(_)
+        | Event::Pin
+        | Event::Load(_)
+        | Event::Xready
+        | Event::OnBus(_)
+        | Event::Level(_)
+        | Event::Ticks(_, _)
+        | Event::Soak(_, _)
+        | Event::Wires(_) => Beside::Nothing,
     }
 }
 
@@ -135,20 +147,20 @@ pub fn role_of(event: Event) -> Role
 {
     match event {
         Event::Setup(setup) => Role::Makes(setup),
-        Event::Por => Role::Happens,
-        Event::Boot => Role::Happens,
-        Event::Scan => Role::Happens,
-        Event::Temp => Role::Happens,
-        Event::Count(_) => Role::Happens,
-        Event::Sense(_) => Role::Happens,
-        Event::Pin => Role::Happens,
-        Event::Load(_) => Role::Happens,
-        Event::Xready => Role::Happens,
-        Event::OnBus(_) => Role::Happens,
-        Event::Level(_) => Role::Happens,
-        Event::Ticks(_, _) => Role::Happens,
-        Event::Soak(_, _) => Role::Happens,
         Event::Wires(cells) => Role::Rewires(cells),
+        Event::Por
+        | Event::Boot
+        | Event::Scan
+        | Event::Temp
+        | Event::Count(_)
+        | Event::Sense(_)
+        | Event::Pin
+        | Event::Load(_)
+        | Event::Xready
+        | Event::OnBus(_)
+        | Event::Level(_)
+        | Event::Ticks(_, _)
+        | Event::Soak(_, _) => Role::Happens,
     }
 }
 

@@ -1,16 +1,16 @@
 -- The loop that writes a list: each word's events, and STOP after the last. Assumes nothing.
 use mathlib.Core.Path.{_≡_, refl, ap, sym, _∙_, subst}
-use Prim.Native.Nat.{ℕ, _+_, _-_, _<_, _≤_, _^_}
+use Prim.Native.Nat.{ℕ, zero, suc, _+_, _-_, _<_, _≤_, _^_}
 use mathlib.Core.List.{List, [], _∷_, _++_, append-assoc}
 use mathlib.Core.Bool.{Bool, true, false, _&&_}
 use native.Mathlib.Omega.{arith}
 use lib.Dec.{eqb}
-use lib.IntN.{ℤ, pos, negℤ}
+use lib.IntN.{ℤ, pos, negℤ, _-ℤ_, +ℤ-idl}
 use lib.ListN.{length, take, drop}
 use lib.Seq.{sets, sets-eq, length-sets}
 use mir.Syntax.{w64}
-use mir.Val.{toZ}
-use mir.Facts.{toZ-pos}
+use mir.Val.{SFits, toZ, ofZ}
+use mir.Facts.{toZ-pos, toZ-ofZ}
 use borrow.Author.Tests.{eq-eqb, ne-eqb}
 use Rattle.writer.specs.Write.{writtenOf}
 use Rattle.events.specs.declared.BusEvent.{BusEvent}
@@ -21,7 +21,7 @@ use Rattle.i2c_lists.specs.Reader.{wordLength, wordsIn, wordsAt, listIn}
 use Rattle.i2c_lists.specs.CuttingLaws.{words-all, words-none}
 use Rattle.i2c_lists.specs.Records.{recordsOf, bytesOf, numberFor, Taken}
 use Rattle.i2c_lists.specs.WordingLaws.{onWord, onWords, nearWord, nearWords}
-use Rattle.i2c_lists.specs.NumberingLaws.{Accepted, accepted, no-other}
+use Rattle.i2c_lists.specs.NumberingLaws.{Accepted, accepted}
 use Rattle.i2c_lists.specs.Putting.{Puts}
 use Rattle.i2c_lists.proofs.Steps.{turn, turn-within}
 use Rattle.i2c_lists.proofs.Writing.{Putting, putting-none, putting-room, putting-more, putting-end}
@@ -85,14 +85,28 @@ pub puts-length : {es : List BusEvent} {at r : ℕ} {old new : List ℕ} → Put
 puts-length {es} {at} {r} {old} {new} p = ap length (p .wrote) ∙ length-sets old at (recordsOf es)
 
 -- ── the call: refused, or taken whole ──
+-- minus a number of a byte
+minus : (n : ℕ) → n ≤ 255 → pos 0 -ℤ toZ w64 n ≡ negℤ (pos n)
+minus n h = ap (λ (z : ℤ). pos 0 -ℤ z) (toZ-pos w64 {n = n} (omega arith)) ∙ +ℤ-idl (negℤ (pos n))
+
+small : (n : ℕ) → n ≤ 255 → SFits w64 (negℤ (pos n))
+small zero h = record { sfits = omega arith }
+small (suc n) h = record { sfits = omega arith }
+
+pub minus-fits : (n : ℕ) → n ≤ 255 → SFits w64 (pos 0 -ℤ toZ w64 n)
+minus-fits n h = subst (SFits w64) (sym (minus n h)) (small n h)
+
+pub minus-is : (n : ℕ) → n ≤ 255 → toZ w64 (ofZ w64 (pos 0 -ℤ toZ w64 n)) ≡ negℤ (pos n)
+minus-is n h = toZ-ofZ {w = w64} (minus-fits n h) ∙ minus n h
+
 module _ (line old : List ℕ) (n : ℕ) (e : n ≡ numberFor (listIn line) (length old)) where
   pub taken-none : (z : ℤ) → (n ≡ 0 → ⊥) → z ≡ negℤ (pos n) → Taken line old z old
   taken-none z h q =
       let t : eqb (numberFor (listIn line) (length old)) 0 ≡ false = ne-eqb (numberFor (listIn line) (length old)) 0 (λ w. h (e ∙ w)) in
       record { answer = simp t (q ∙ ap (λ (k : ℕ). negℤ (pos k)) e); contents = simp t }
 
-  pub taken-zero : (n ≡ 20 → ⊥) → (n ≡ 21 → ⊥) → (n ≡ 5 → ⊥) → numberFor (listIn line) (length old) ≡ 0
-  taken-zero a b c = no-other (listIn line) (length old) (λ w. a (e ∙ w)) (λ w. b (e ∙ w)) (λ w. c (e ∙ w))
+  pub taken-zero : n ≡ 0 → numberFor (listIn line) (length old) ≡ 0
+  taken-zero z = sym e ∙ z
 
 module _ (line old : List ℕ) (r : ℕ) (new : List ℕ) (z : numberFor (listIn line) (length old) ≡ 0) (p : Puts (togo line 0) 0 old r new) where
   bytes-are : bytesOf (listIn line) ≡ recordsOf (togo line 0)

@@ -10,7 +10,6 @@ ghost use Rattle.i2c_lists.specs.Judging.{fresh, begun, followed, judged
 ghost use Rattle.i2c_lists.specs.Records.{near, taken, recordsOf, numberFor, Taken};
 ghost use Rattle.i2c_lists.specs.WordingLaws.{onWord, onWords, nearWord};
 ghost use Rattle.i2c_lists.specs.Putting.{Puts};
-use constants::answer;
 use constants::number;
 use constants::range;
 use constants::size;
@@ -106,10 +105,7 @@ fn judge_word(j: Judged, word: Word) -> Judged
 fn number(j: Judged) -> u8
     ensures { λ r. ⌜ r ≡ numberIn j ⌝ }
 {
-    if j.wrong {
-        return number::NO_LIST;
-    }
-    if j.owed != 0 {
+    if j.wrong | (j.owed != 0) {
         return number::NO_LIST;
     }
     if j.far {
@@ -237,14 +233,8 @@ pub extern "C" fn toralinge_list(line: &[u8], out: &mut [u8]) -> i64
     ensures { λ r. ⌜ Taken (now (line .entry)) (now (out .entry)) r (now (out .exit)) ⌝ }
 {
     let number = judge(line, out.len());
-    if number == number::NO_LIST {
-        return answer::NO_LIST;
-    }
-    if number == number::BAD_ADDRESS {
-        return answer::BAD_ADDRESS;
-    }
-    if number == number::NO_ROOM {
-        return answer::NO_ROOM;
+    if number != number::DONE {
+        return -(number as i64);
     }
     put_list(line, out) as i64
 }

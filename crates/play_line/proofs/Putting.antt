@@ -41,8 +41,9 @@ put-past at b old h = record { next = refl; few = omega arith; wrote = sym (set-
 pub put-none : (m at : ℕ) (old : List ℕ) → Puts m [] at old at old
 put-none m at old = record { next = omega arith; few = omega arith; wrote = refl }
 
-pub put-as : {b g m at r : ℕ} {old new : List ℕ} → b ≡ g → Puts m (b ∷ []) at old r new → Puts m (g ∷ []) at old r new
-put-as {b} {g} {m} {at} {r} {old} {new} e p = subst (λ (x : ℕ). Puts m (x ∷ []) at old r new) e p
+pub put-both : {b g c h m at r : ℕ} {old new : List ℕ} → b ≡ g → c ≡ h → Puts m (b ∷ c ∷ []) at old r new → Puts m (g ∷ h ∷ []) at old r new
+put-both {g = g} {c = c} {m = m} {at = at} {r = r} {old = old} {new = new} e f p =
+    subst (λ (y : ℕ). Puts m (g ∷ y ∷ []) at old r new) f (subst (λ (x : ℕ). Puts m (x ∷ c ∷ []) at old r new) e p)
 
 -- ── the whole text, or nothing ──
 pub write-short : (t old : List ℕ) → length old < length t → Written t old (negsuc 4) old

@@ -2,7 +2,7 @@
 ghost use mathlib.Core.Path.{_≡_};
 ghost use Prim.Native.Nat.{_+_, _<_};
 ghost use mathlib.Core.List.{[], _∷_};
-ghost use Rattle.play_line.specs.Line.{leading, decimal, hexGlyph, hexByte, kindText, busText, pinsText, recordText, answerText, stateText, lineOf, dash};
+ghost use Rattle.play_line.specs.Line.{leading, decimal, hexGlyph, hexByte, kindText, busText, pinsText, recordText, answerText, stateText, lineOf};
 ghost use Rattle.play_line.specs.Put.{tooLong, Puts, Written};
 use constants::answer;
 use constants::size;
@@ -42,20 +42,20 @@ fn hex_glyph(d: u8) -> u8
     if d < 10 { b'0' + d } else { LETTERS + d }
 }
 
+// Two bytes, one after the other.
+fn put_two(out: &mut [u8], at: usize, p: u8, q: u8) -> usize
+    requires { ⌜ at < 4950000000 ⌝ }
+    ensures { λ r. ⌜ Puts 2 (p ∷ q ∷ []) at (now (out .entry)) r (now (out .exit)) ⌝ }
+{
+    let next = put(out, at, p);
+    put(out, next, q)
+}
+
 fn put_hex(out: &mut [u8], at: usize, b: u8) -> usize
     requires { ⌜ at < 4900000000 ⌝ }
     ensures { λ r. ⌜ Puts 2 (hexByte b) at (now (out .entry)) r (now (out .exit)) ⌝ }
 {
-    let next = put(out, at, hex_glyph(b / 16));
-    put(out, next, hex_glyph(b % 16))
-}
-
-fn put_dashes(out: &mut [u8], at: usize) -> usize
-    requires { ⌜ at < 4900000000 ⌝ }
-    ensures { λ r. ⌜ Puts 2 (dash ∷ dash ∷ []) at (now (out .entry)) r (now (out .exit)) ⌝ }
-{
-    let next = put(out, at, b'-');
-    put(out, next, b'-')
+    put_two(out, at, hex_glyph(b / 16), hex_glyph(b % 16))
 }
 
 // The digit at a power of ten, where the number reaches it.
@@ -87,8 +87,7 @@ fn put_kind(out: &mut [u8], at: usize, rest: &[u8]) -> usize
     ensures { λ r. ⌜ Puts 4 (kindText (now (rest .entry))) at (now (out .entry)) r (now (out .exit)) ⌝ }
 {
     if rest.len() < size::HEADER {
-        let half = put_dashes(out, at);
-        return put_dashes(out, half);
+        return put_four(out, at, b'-', b'-', b'-', b'-');
     }
     let half = put_hex(out, at, rest[3]);
     put_hex(out, half, rest[2])
@@ -101,15 +100,16 @@ fn put_bus(out: &mut [u8], at: usize, flag: u8, byte: u8) -> usize
     if flag == 1 {
         return put_hex(out, at, byte);
     }
-    put_dashes(out, at)
+    put_two(out, at, b'-', b'-')
 }
 
 fn put_pins(out: &mut [u8], at: usize, pins: u8) -> usize
     requires { ⌜ at < 4800000000 ⌝ }
     ensures { λ r. ⌜ Puts 3 (pinsText pins) at (now (out .entry)) r (now (out .exit)) ⌝ }
 {
-    let charge = put(out, at, b'0' + pins / weight::PIN_ALERT % 2);
-    let discharge = put(out, charge, b'0' + pins / weight::PIN_CHG % 2);
+    let alert = b'0' + pins / weight::PIN_ALERT % 2;
+    let charge = b'0' + pins / weight::PIN_CHG % 2;
+    let discharge = put_two(out, at, alert, charge);
     put(out, discharge, b'0' + pins % 2)
 }
 
@@ -159,10 +159,8 @@ fn put_four(out: &mut [u8], at: usize, p: u8, q: u8, r: u8, s: u8) -> usize
     requires { ⌜ at < 4900000000 ⌝ }
     ensures { λ next. ⌜ Puts 4 (p ∷ q ∷ r ∷ s ∷ []) at (now (out .entry)) next (now (out .exit)) ⌝ }
 {
-    let second = put(out, at, p);
-    let third = put(out, second, q);
-    let fourth = put(out, third, r);
-    put(out, fourth, s)
+    let half = put_two(out, at, p, q);
+    put_two(out, half, r, s)
 }
 
 // The one line for an input that has too many bytes, where it fits.

@@ -72,7 +72,7 @@ fn bumped_by(longest: u16, verdict: bool, run: u16, more: u32) -> u16
 
 impl Runs {
     // SCAN: whether some count was above the line, and some between the floor and its line.
-    pub fn scanned(self, s: Settings, above: bool, between: bool) -> Judged
+    pub fn scanned(mut self, s: Settings, above: bool, between: bool) -> Judged
         ensures { λ r. ⌜ r ≡ scanJudged s above between self ⌝ }
     {
         let ov = bumped(range::OV_LONGEST, s.adc_en & above, self.ov);
@@ -83,12 +83,13 @@ impl Runs {
             scd: false,
             ocd: false,
         };
-        let runs = Runs { ov, uv, ..self };
-        Judged { runs, risen }
+        self.ov = ov;
+        self.uv = uv;
+        Judged { runs: self, risen }
     }
 
     // SENSE: one tick of any value.
-    pub fn sensed(self, s: Settings, value: i32) -> Judged
+    pub fn sensed(mut self, s: Settings, value: i32) -> Judged
         ensures { λ r. ⌜ r ≡ tickJudged s value self ⌝ }
     {
         let scd = bumped(range::SCD_LONGEST, beyond_scd(s, value), self.scd);
@@ -99,11 +100,12 @@ impl Runs {
             scd: scd_ticks(s) <= scd,
             ocd: ocd_ticks(s) <= ocd,
         };
-        let runs = Runs { scd, ocd, ..self };
-        Judged { runs, risen }
+        self.scd = scd;
+        self.ocd = ocd;
+        Judged { runs: self, risen }
     }
     // Ticks of any value, one after the other: their number is enough, none is counted by itself.
-    pub fn ticked(self, s: Settings, value: i32, repeat: u32) -> Judged
+    pub fn ticked(mut self, s: Settings, value: i32, repeat: u32) -> Judged
         ensures { λ r. ⌜ r ≡ ticksJudged repeat s value self ⌝ }
     {
         let scd = bumped_by(range::SCD_LONGEST, beyond_scd(s, value), self.scd, repeat);
@@ -115,7 +117,8 @@ impl Runs {
             scd: some & (scd_ticks(s) <= scd),
             ocd: some & (ocd_ticks(s) <= ocd),
         };
-        let runs = Runs { scd, ocd, ..self };
-        Judged { runs, risen }
+        self.scd = scd;
+        self.ocd = ocd;
+        Judged { runs: self, risen }
     }
 }

@@ -2,7 +2,7 @@
 -- Assumes nothing.
 use mathlib.Core.Path.{_≡_, refl, ap, sym, _∙_, subst}
 use Prim.Native.Nat.{ℕ, zero, suc, _+_, _<_, _≤_}
-use mathlib.Core.List.{List}
+use mathlib.Core.List.{List, [], _∷_}
 use mathlib.Core.Bool.{Bool, true, false, not, cond, _&&_, and-true}
 use native.Mathlib.Omega.{arith}
 use native.Mathlib.Numerals.{add-one}
@@ -15,10 +15,15 @@ use mir.Syntax.{w32}
 use mir.Val.{toZ, ofZ, SFits}
 use mir.Facts.{toZ-ofZ}
 use borrow.Author.Tests.{le-leb, lt-leb, le-ltb, lt-ltb, leb-true, leb-false}
-use Rattle.events.specs.Event.{within, senseFits, countsWanted, countsFit, unfit, eventOf, meantOf}
+use denote.Enum.Declared.{tagOf}
+use types.Run.{OneOf, miss}
+use Rattle.events.specs.Event.{within, senseFits, fits, countsWanted, countsFit, unfit, eventOf, meantOf}
 use Rattle.events.specs.declared.Setup.{Setup}
 use Rattle.events.specs.declared.Counts.{Counts}
 use Rattle.events.specs.declared.Event.{Event}
+use Rattle.events.specs.declared.Event.the-variants.{Setup as Setup-, Por, Boot, Scan, Temp, Count, Sense, Pin, Load, Xready, OnBus, Level}
+use Rattle.events.specs.declared.Event.the-variants.{Ticks, Soak, Wires}
+use Rattle.events.proofs.Event.{the-type}
 use Rattle.ranges.specs.Refusal.{refusalOf}
 
 -- a test of order and the other's denial
@@ -65,12 +70,53 @@ first-end most n cs i h = ap (within most) (drop-of-length-le (take n cs) {i = i
 pub at-event : (u : Setup) (xs : List ℕ) {r : ℕ} {e e′ : Event} → e ≡ e′ → r ≡ refusalOf (eventOf u e′ xs) → r ≡ refusalOf (eventOf u e xs)
 at-event u xs q p = p ∙ ap (λ (e : Event). refusalOf (eventOf u e xs)) (sym q)
 
--- a test that is known, as the definition picks by it
-pub pick-true : {t u : Bool} → t ≡ u → t ≡ true → _≡_ {A = ℕ} 0 (cond u 0 3)
-pick-true e h = ap (λ (t : Bool). cond t 0 3) (sym h ∙ e)
+-- a test that a call gave, as the definition picks by it
+pub pick-is : {r : ℕ} {t u : Bool} → r ≡ cond t 0 3 → t ≡ u → r ≡ cond u 0 3
+pick-is p e = p ∙ ap (λ (t : Bool). cond t 0 3) e
 
-pub pick-false : {t u : Bool} → t ≡ u → t ≡ false → _≡_ {A = ℕ} 3 (cond u 0 3)
-pick-false e h = ap (λ (t : Bool). cond t 0 3) (sym h ∙ e)
+-- ── the events that an arm of the code joins, by their places ──
+abbrev makers : List ℕ
+makers = 0 ∷ 14 ∷ []
+
+-- SETUP and a wiring record happen to no chip that stands
+pub no-kind : (u : Setup) (e : Event) (xs : List ℕ) → OneOf makers (tagOf the-type e) → 2 ≡ refusalOf (eventOf u e xs)
+no-kind u (Setup- v) xs h = refl
+no-kind u Por xs h = absurd (miss makers 1 tt h)
+no-kind u Boot xs h = absurd (miss makers 2 tt h)
+no-kind u Scan xs h = absurd (miss makers 3 tt h)
+no-kind u Temp xs h = absurd (miss makers 4 tt h)
+no-kind u (Count n) xs h = absurd (miss makers 5 tt h)
+no-kind u (Sense v) xs h = absurd (miss makers 6 tt h)
+no-kind u Pin xs h = absurd (miss makers 7 tt h)
+no-kind u (Load l) xs h = absurd (miss makers 8 tt h)
+no-kind u Xready xs h = absurd (miss makers 9 tt h)
+no-kind u (OnBus b) xs h = absurd (miss makers 10 tt h)
+no-kind u (Level l) xs h = absurd (miss makers 11 tt h)
+no-kind u (Ticks v n) xs h = absurd (miss makers 12 tt h)
+no-kind u (Soak v n) xs h = absurd (miss makers 13 tt h)
+no-kind u (Wires n) xs h = refl
+
+abbrev plain : List ℕ
+plain = 1 ∷ 2 ∷ 5 ∷ 7 ∷ 8 ∷ 9 ∷ 10 ∷ 11 ∷ []
+
+-- and these have no value that could be out of range
+pub no-value : (u : Setup) (e : Event) (xs : List ℕ) → OneOf plain (tagOf the-type e) → 0 ≡ refusalOf (eventOf u e xs)
+unfolding fits
+no-value u (Setup- v) xs h = absurd (miss plain 0 tt h)
+no-value u Por xs h = refl
+no-value u Boot xs h = refl
+no-value u Scan xs h = absurd (miss plain 3 tt h)
+no-value u Temp xs h = absurd (miss plain 4 tt h)
+no-value u (Count n) xs h = refl
+no-value u (Sense v) xs h = absurd (miss plain 6 tt h)
+no-value u Pin xs h = refl
+no-value u (Load l) xs h = refl
+no-value u Xready xs h = refl
+no-value u (OnBus b) xs h = refl
+no-value u (Level l) xs h = refl
+no-value u (Ticks v n) xs h = absurd (miss plain 12 tt h)
+no-value u (Soak v n) xs h = absurd (miss plain 13 tt h)
+no-value u (Wires n) xs h = absurd (miss plain 14 tt h)
 
 -- the number, by whether the counts fit
 meant-by : (u : Setup) (e : Event) (k : Counts) (t : Bool) → countsFit (countsWanted u e) k ≡ t → refusalOf (cond t (eventOf u e (k .of)) unfit) ≡ refusalOf (meantOf u e k)

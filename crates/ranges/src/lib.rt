@@ -1,5 +1,6 @@
 // The checks of an event made by hand, for the writer and the chip: counts that fit the part, and values in range.
 ghost use mathlib.Core.Path.{_≡_};
+ghost use mathlib.Core.Bool.{cond};
 ghost use lib.ListN.{take, drop};
 ghost use Rattle.events.specs.Event.{within, countMost, senseFits, ticksFit, countsWanted, countsFit, eventOf, meantOf};
 ghost use Rattle.ranges.specs.Refusal.{refusalOf};
@@ -78,46 +79,36 @@ pub fn counts_fit(wanted: u8, counts: Counts) -> bool
     within_from(of, wanted as usize, 0)
 }
 
+// The number of a value, by whether it is in range.
+fn number_of(good: bool) -> u8
+    ensures { λ r. ⌜ r ≡ cond good 0 3 ⌝ }
+{
+    if good {
+        number::DONE
+    } else {
+        number::BAD_VALUE
+    }
+}
+
 // The number of an event whose counts fit: 2 for SETUP and a wiring record, 3 for a value out of range, or 0.
 fn value_refusal(setup: Setup, event: Event, of: [u16; 15]) -> u8
     ensures { λ r. ⌜ r ≡ refusalOf (eventOf setup event of) ⌝ }
 {
     match event {
-        Event::Setup(_) => number::BAD_KIND,
-        Event::Por => number::DONE,
-        Event::Boot => number::DONE,
-        Event::Scan => if counts_in_range(of, setup.inputs()) {
-            number::DONE
-        } else {
-            number::BAD_VALUE
-        },
-        Event::Temp => if counts_in_range(of, setup.groups()) {
-            number::DONE
-        } else {
-            number::BAD_VALUE
-        },
-        Event::Count(_) => number::DONE,
-        Event::Sense(v) => if sense_fits(v) {
-            number::DONE
-        } else {
-            number::BAD_VALUE
-        },
-        Event::Pin => number::DONE,
-        Event::Load(_) => number::DONE,
-        Event::Xready => number::DONE,
-        Event::OnBus(_) => number::DONE,
-        Event::Level(_) => number::DONE,
-        Event::Ticks(v, n) => if ticks_fit(range::TICKS_MOST, v, n as u32) {
-            number::DONE
-        } else {
-            number::BAD_VALUE
-        },
-        Event::Soak(v, n) => if ticks_fit(range::SOAK_MOST, v, n) {
-            number::DONE
-        } else {
-            number::BAD_VALUE
-        },
-        Event::Wires(_) => number::BAD_KIND,
+        Event::Scan => number_of(counts_in_range(of, setup.inputs())),
+        Event::Temp => number_of(counts_in_range(of, setup.groups())),
+        Event::Sense(v) => number_of(sense_fits(v)),
+        Event::Ticks(v, n) => number_of(ticks_fit(range::TICKS_MOST, v, n as u32)),
+        Event::Soak(v, n) => number_of(ticks_fit(range::SOAK_MOST, v, n)),
+        Event::Setup(_) | Event::Wires(_) => number::BAD_KIND,
+        Event::Por
+        | Event::Boot
+        | Event::Count(_)
+        | Event::Pin
+        | Event::Load(_)
+        | Event::Xready
+        | Event::OnBus(_)
+        | Event::Level(_) => number::DONE,
     }
 }
 

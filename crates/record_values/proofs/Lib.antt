@@ -1,3 +1,4 @@
 pub mod Ints
 pub mod Laid
 pub mod Told
+pub mod Arms

@@ -84,20 +84,11 @@ fn many_of(event: Event, counts: Counts) -> usize
 {
     match event {
         Event::Setup(_) => SETUP_VALUES,
-        Event::Por => 0,
-        Event::Boot => 0,
-        Event::Scan => counts_many(counts),
-        Event::Temp => counts_many(counts),
-        Event::Count(_) => 1,
-        Event::Sense(_) => 1,
-        Event::Pin => 0,
-        Event::Load(_) => 1,
-        Event::Xready => 0,
+        Event::Scan | Event::Temp => counts_many(counts),
+        Event::Ticks(_, _) | Event::Soak(_, _) => 2,
         Event::OnBus(bus) => bus_many(bus),
-        Event::Level(_) => 1,
-        Event::Ticks(_, _) => 2,
-        Event::Soak(_, _) => 2,
-        Event::Wires(_) => 1,
+        Event::Count(_) | Event::Sense(_) | Event::Load(_) | Event::Level(_) | Event::Wires(_) => 1,
+        Event::Por | Event::Boot | Event::Pin | Event::Xready => 0,
     }
 }
 
@@ -164,20 +155,16 @@ fn put_values(out: &mut [i64], event: Event, counts: Counts)
 {
     match event {
         Event::Setup(setup) => put_setup(out, setup),
-        Event::Por => {}
-        Event::Boot => {}
-        Event::Scan => put_counts(out, counts),
-        Event::Temp => put_counts(out, counts),
+        Event::Scan | Event::Temp => put_counts(out, counts),
         Event::Count(n) => put_one(out, n as i64),
         Event::Sense(v) => put_one(out, v as i64),
-        Event::Pin => {}
         Event::Load(t) => put_one(out, bit_of(t)),
-        Event::Xready => {}
         Event::OnBus(bus) => put_bus(out, bus),
         Event::Level(t) => put_one(out, bit_of(t)),
         Event::Ticks(v, n) => put_two(out, v as i64, n as i64),
         Event::Soak(v, n) => put_two(out, v as i64, n as i64),
         Event::Wires(n) => put_one(out, n as i64),
+        Event::Por | Event::Boot | Event::Pin | Event::Xready => {}
     }
 }
 

@@ -40,6 +40,10 @@ protect3Of v = v / 16 * 16
 abbrev pub ccCfgOf : ℕ → ℕ
 ccCfgOf v = v % 64
 
+-- the write of SYS_CTRL1 by itself
+abbrev pub controlWith : ℕ → Settings → Settings
+controlWith v s = withCtrl1 (bit v 16) (bit v 8) (keepsPair v s) s
+
 -- ── the write: every other address leaves them ──
 unfoldable pub settingsWith : ℕ → ℕ → Settings → Settings
 settingsWith a v s =

@@ -1,7 +1,7 @@
 // The settings as a value: what accepted writes alone move.
 ghost use mathlib.Core.Path.{_≡_};
 ghost use Rattle.settings.specs.State.{resetSettings};
-ghost use Rattle.settings.specs.Write.{ships as shipsSpec, protect1Of, protect2Of, protect3Of, ccCfgOf, settingsWith};
+ghost use Rattle.settings.specs.Write.{ships as shipsSpec, controlWith, protect1Of, protect2Of, protect3Of, ccCfgOf, settingsWith};
 ghost use Rattle.settings.specs.Read.{settingsByte};
 use constants::address;
 use constants::weight;
@@ -85,42 +85,51 @@ impl Settings {
             & !bits::bit(v, weight::SHUT_B)
     }
 
+    // A write of SYS_CTRL1.
+    fn control(mut self, v: u8) -> Self
+        ensures { λ r. ⌜ r ≡ controlWith v self ⌝ }
+    {
+        let shut_b = !self.shut_b & !bits::bit(v, weight::SHUT_A) & bits::bit(v, weight::SHUT_B);
+        self.adc_en = bits::bit(v, weight::ADC_EN);
+        self.temp_sel = bits::bit(v, weight::TEMP_SEL);
+        self.shut_b = shut_b;
+        self
+    }
+
     pub fn write(mut self, a: u8, v: u8) -> Self
         ensures { λ r. ⌜ r ≡ settingsWith a v self ⌝ }
     {
         match a {
-            address::SYS_CTRL1 => {
-                let shut_b = !self.shut_b
-                    & !bits::bit(v, weight::SHUT_A)
-                    & bits::bit(v, weight::SHUT_B);
-                self.adc_en = bits::bit(v, weight::ADC_EN);
-                self.temp_sel = bits::bit(v, weight::TEMP_SEL);
-                self.shut_b = shut_b;
-                self
-            }
+            address::SYS_CTRL1 => self.control(v),
             address::SYS_CTRL2 => {
                 self.delay_dis = bits::bit(v, weight::DELAY_DIS);
                 self.cc_en = bits::bit(v, weight::CC_EN);
                 self
             }
-            address::PROTECT1 => Settings {
-                protect1: protect1_of(v),
-                ..self
-            },
-            address::PROTECT2 => Settings {
-                protect2: protect2_of(v),
-                ..self
-            },
-            address::PROTECT3 => Settings {
-                protect3: protect3_of(v),
-                ..self
-            },
-            address::OV_TRIP => Settings { ov_trip: v, ..self },
-            address::UV_TRIP => Settings { uv_trip: v, ..self },
-            address::CC_CFG => Settings {
-                cc_cfg: cc_cfg_of(v),
-                ..self
-            },
+            address::PROTECT1 => {
+                self.protect1 = protect1_of(v);
+                self
+            }
+            address::PROTECT2 => {
+                self.protect2 = protect2_of(v);
+                self
+            }
+            address::PROTECT3 => {
+                self.protect3 = protect3_of(v);
+                self
+            }
+            address::OV_TRIP => {
+                self.ov_trip = v;
+                self
+            }
+            address::UV_TRIP => {
+                self.uv_trip = v;
+                self
+            }
+            address::CC_CFG => {
+                self.cc_cfg = cc_cfg_of(v);
+                self
+            }
             _ => self,
         }
     }

@@ -1,6 +1,6 @@
 -- Signed numbers by their positive part, `up`, and what lies outside a threshold's window. Assumes nothing.
 use mathlib.Core.Path.{_≡_, refl, sym, subst}
-use mathlib.Core.Bool.{Bool, true, false, not, cond}
+use mathlib.Core.Bool.{Bool, true, false, not, _||_, cond, true≢false}
 use Prim.Native.Nat.{ℕ, suc, _+_, _-_, _/_, _^_, _≤_, _<_}
 use native.Mathlib.Nat.{mul-le-mul, lt-of-le-of-lt, div-lt-iff-lt-mul, le-div-iff-mul-le}
 use native.Mathlib.Omega.{arith}
@@ -85,6 +85,23 @@ module _ (start last n : ℕ) where
   pub inside : start ≤ n → n ≤ last → inWindow start last (pos n) ≡ gives ((n - start) / 16)
   inside h k = simp (le-leb start n h, le-leb n last k)
 
+  -- by one test of both ends
+  pub outside : (ltb n start || ltb last n) ≡ true → inWindow start last (pos n) ≡ refuses 8
+  outside = by (ltb n start) (ltb last n) refl refl
+    where
+      by : (x y : Bool) → ltb n start ≡ x → ltb last n ≡ y → (x || y) ≡ true → inWindow start last (pos n) ≡ refuses 8
+      by true y e f h = under (ltb-true n start e)
+      by false true e f h = over (ltb-false n start e) (ltb-true last n f)
+      by false false e f h = absurd (true≢false (sym h))
+
+  pub within : (ltb n start || ltb last n) ≡ false → (start ≤ n) × (n ≤ last)
+  within = by (ltb n start) (ltb last n) refl refl
+    where
+      by : (x y : Bool) → ltb n start ≡ x → ltb last n ≡ y → (x || y) ≡ false → (start ≤ n) × (n ≤ last)
+      by true y e f h = absurd (true≢false h)
+      by false true e f h = absurd (true≢false h)
+      by false false e f h = (ltb-false n start e, ltb-false last n f)
+
 -- what lies far enough below or above is refused, at every gain
 module _ {start last g : ℕ} (s : 4096 ≤ start) (s' : start ≤ 8192) (l : last ≤ 12287) (h : 344 ≤ g) (h' : g ≤ 375) where
   far-below : (z : ℤ) → up z ≤ 1128000 → inWindow start last (floor z g) ≡ refuses 8
@@ -102,8 +119,25 @@ pub offset-size : {b : ℕ} → Fits w8 b → natAbs (offsetMicrovolts b) ≤ 12
 offset-size f = times (lit 1000) (signed f refl) .size
 
 module _ {start last code b : ℕ} (s : 4096 ≤ start) (s' : start ≤ 8192) (l : last ≤ 12287) (h : code < 32) (f : Fits w8 b) (wanted : ℤ) where
-  pub too-low : ltZ wanted (pos 1000000) ≡ true → inWindow start last (full code b wanted) ≡ refuses 8
+  too-low : ltZ wanted (pos 1000000) ≡ true → inWindow start last (full code b wanted) ≡ refuses 8
   too-low e = far-below {g = gain code} s s' l (omega arith) (omega arith) (wanted -ℤ offsetMicrovolts b) (omega (arith, less wanted 1000000 e, less-by wanted (offsetMicrovolts b) .0, offset-size f))
 
-  pub too-high : ltZ (pos 5000000) wanted ≡ true → inWindow start last (full code b wanted) ≡ refuses 8
+  too-high : ltZ (pos 5000000) wanted ≡ true → inWindow start last (full code b wanted) ≡ refuses 8
   too-high e = far-above {g = gain code} s s' l (omega arith) (omega arith) (wanted -ℤ offsetMicrovolts b) (omega (arith, more wanted 5000000 e, less-by wanted (offsetMicrovolts b) .1, offset-size f))
+
+  pub too-far : (ltZ wanted (pos 1000000) || ltZ (pos 5000000) wanted) ≡ true → inWindow start last (full code b wanted) ≡ refuses 8
+  too-far = by (ltZ wanted (pos 1000000)) (ltZ (pos 5000000) wanted) refl refl
+    where
+      by : (x y : Bool) → ltZ wanted (pos 1000000) ≡ x → ltZ (pos 5000000) wanted ≡ y → (x || y) ≡ true
+          → inWindow start last (full code b wanted) ≡ refuses 8
+      by true y e f h' = too-low e
+      by false true e f h' = too-high f
+      by false false e f h' = absurd (true≢false (sym h'))
+
+pub near : (wanted : ℤ) → (ltZ wanted (pos 1000000) || ltZ (pos 5000000) wanted) ≡ false → (1000000 ≤ up wanted) × (up wanted ≤ 5000000)
+near wanted = by (ltZ wanted (pos 1000000)) (ltZ (pos 5000000) wanted) refl refl
+  where
+    by : (x y : Bool) → ltZ wanted (pos 1000000) ≡ x → ltZ (pos 5000000) wanted ≡ y → (x || y) ≡ false → (1000000 ≤ up wanted) × (up wanted ≤ 5000000)
+    by true y e f h = absurd (true≢false h)
+    by false true e f h = absurd (true≢false h)
+    by false false e f h = (not-less wanted 1000000 e, not-more wanted 5000000 f)

@@ -1,8 +1,8 @@
 // CHIP V1 to V8: exact conversions of what the chip counts.
 ghost use mathlib.Core.Path.{_≡_};
-ghost use Prim.Native.Nat.{_^_, _+_, _≤_, _<_, min};
+ghost use Prim.Native.Nat.{_^_, _+_, _*_, _≤_, _<_, min};
 ghost use lib.IntN.{natAbs, pos};
-ghost use Rattle.values.specs.Values.{signed8, signed16, cellMicrovolts, microvoltsBy, cellSaid, ccHundredths, ohmsSaid, dieSaid, full, thresholdSaid, overSaid, underSaid, up};
+ghost use Rattle.values.specs.Values.{signed8, signed16, gain, offsetMicrovolts, cellMicrovolts, microvoltsBy, cellSaid, ccHundredths, ohmsSaid, dieSaid, full, thresholdSaid, overSaid, underSaid, up};
 ghost use Rattle.values.specs.Double.{IsDouble};
 ghost use Rattle.values.specs.Forecast.{lesser, greater, IsReading};
 ghost use Rattle.values.specs.Said.{numberOf, saidVoltage, saidOhms, saidDie, saidCode};
@@ -11,8 +11,6 @@ use constants::range;
 
 // In microvolts: the gain of code 0, a step of the offset; in hundredths of a microvolt a step of the coulomb counter.
 const GAIN_LEAST: u64 = 344;
-
-const GAIN_LEAST_SIGNED: i64 = GAIN_LEAST as i64;
 
 const OFFSET_STEP: i64 = 1000;
 
@@ -100,11 +98,25 @@ fn signed_byte(b: u8) -> i64
     if b < 128 { b as i64 } else { b as i64 - 256 }
 }
 
+// What so many counts are worth at a gain code.
+fn counted(code: u8, counts: u32) -> i64
+    ensures { λ r. ⌜ r ≡ pos (gain code * counts) ⌝ }
+{
+    ((GAIN_LEAST + code as u64) * counts as u64) as i64
+}
+
+// What the offset adds.
+fn offset_microvolts(offset: u8) -> i64
+    ensures { λ r. ⌜ r ≡ offsetMicrovolts offset ⌝ }
+{
+    OFFSET_STEP * signed_byte(offset)
+}
+
 // The formula with nothing refused: no gain code and no count takes an i64 near its ends.
 fn cell(code: u8, offset: u8, count: u16) -> i64
     ensures { λ r. ⌜ r ≡ cellMicrovolts code offset count ⌝ }
 {
-    (GAIN_LEAST_SIGNED + code as i64) * (count as i64) + OFFSET_STEP * signed_byte(offset)
+    counted(code, count as u32) + offset_microvolts(offset)
 }
 
 // The same in its unit, for a chip whose setup and counts were judged before.
@@ -118,10 +130,7 @@ pub fn cell_microvolts(code: u8, offset: u8, count: RawCount) -> Microvolts
 pub fn microvolts_by(gain_code: u8, offset: u8, scans: u32, sum: u32) -> Microvolts
     ensures { λ r. ⌜ r .0 ≡ microvoltsBy «gain_code» offset scans sum ⌝ }
 {
-    let each = cell_microvolts(gain_code, 0, RawCount(1));
-    let once = cell_microvolts(gain_code, offset, RawCount(0));
-    let total = each.0 * sum as i64 + scans as i64 * once.0;
-    Microvolts(total)
+    Microvolts(counted(gain_code, sum) + scans as i64 * offset_microvolts(offset))
 }
 
 // A cell's voltage on bare numbers, which are judged.
@@ -245,7 +254,7 @@ fn full_count(code: u8, offset: u8, wanted: i64) -> u64
     requires { ⌜ (1000000 ≤ up wanted) × (up wanted ≤ 5000000) ⌝ }
     ensures { λ r. ⌜ pos r ≡ full code offset wanted ⌝ }
 {
-    (wanted - OFFSET_STEP * signed_byte(offset)) as u64 / (GAIN_LEAST + code as u64)
+    (wanted - offset_microvolts(offset)) as u64 / (GAIN_LEAST + code as u64)
 }
 
 // The threshold's code for a wanted voltage, in the window from start to last. No gain and offset take a voltage below 1,000,000 or above 5,000,000 to either window.
@@ -257,17 +266,11 @@ fn threshold(start: u64, last: u64, code: u8, offset: u8, wanted: i64) -> Thresh
     if code > range::GAIN_CODE_MOST {
         return ThresholdCode::No(Refusal::GainCode);
     }
-    if wanted < WANTED_LEAST {
-        return ThresholdCode::No(Refusal::Window);
-    }
-    if wanted > WANTED_MOST {
+    if (wanted < WANTED_LEAST) | (wanted > WANTED_MOST) {
         return ThresholdCode::No(Refusal::Window);
     }
     let full = full_count(code, offset, wanted);
-    if full < start {
-        return ThresholdCode::No(Refusal::Window);
-    }
-    if full > last {
+    if (full < start) | (full > last) {
         return ThresholdCode::No(Refusal::Window);
     }
     ThresholdCode::Is(((full - start) / TRIP_STEP) as u8)

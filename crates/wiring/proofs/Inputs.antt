@@ -1,12 +1,12 @@
 -- The inputs of a pack's cells, packed from the numbers 1 to 15. Assumes nothing.
 use mathlib.Core.Path.{_≡_, refl, sym, ap, ap₂, _∙_}
-use mathlib.Core.Bool.{Bool, true, false, cond}
+use mathlib.Core.Bool.{Bool, true, false, _||_, cond, true≢false}
 use mathlib.Core.List.{List, [], _∷_}
 use Prim.Native.Nat.{ℕ, zero, suc, _+_, _-_, _<_, _≤_}
 use native.Mathlib.Omega.{arith}
-use lib.Dec.{eqb}
+use lib.Dec.{eqb, ltb}
 use lib.ListN.{length, getD}
-use borrow.Author.Tests.{eqb-true}
+use borrow.Author.Tests.{eqb-true, ltb-true, ltb-false}
 use Rattle.events.specs.declared.Setup.{Setup}
 use Rattle.events.specs.declared.Counts.{Counts}
 use Rattle.events.specs.Setup.{inputs}
@@ -48,11 +48,28 @@ past (x ∷ l) zero h = absurd (omega arith)
 past (x ∷ l) (suc i) h = past l i (omega arith)
 
 module _ (u : Setup) (n : ℕ) where
-  pub no-zero : n < 1 → 0 ≡ inputOf u n
+  no-zero : n < 1 → 0 ≡ inputOf u n
   no-zero h = let z : n ≡ 0 = omega arith in sym (ap (inputOf u) z)
 
-  pub no-cell : packCells u < n → 0 ≡ inputOf u n
-  no-cell h = sym (past (0 ∷ wiredInputs u) n (omega arith))
+  past-all : packCells u < n → 0 ≡ inputOf u n
+  past-all h = sym (past (0 ∷ wiredInputs u) n (omega arith))
+
+  -- by one test of both
+  pub no-cell : (ltb n 1 || ltb (packCells u) n) ≡ true → 0 ≡ inputOf u n
+  no-cell = by (ltb n 1) (ltb (packCells u) n) refl refl
+    where
+      by : (x y : Bool) → ltb n 1 ≡ x → ltb (packCells u) n ≡ y → (x || y) ≡ true → 0 ≡ inputOf u n
+      by true y e f h = no-zero (ltb-true n 1 e)
+      by false true e f h = past-all (ltb-true (packCells u) n f)
+      by false false e f h = absurd (true≢false (sym h))
+
+  pub a-cell : (ltb n 1 || ltb (packCells u) n) ≡ false → (1 ≤ n) × (n ≤ packCells u)
+  a-cell = by (ltb n 1) (ltb (packCells u) n) refl refl
+    where
+      by : (x y : Bool) → ltb n 1 ≡ x → ltb (packCells u) n ≡ y → (x || y) ≡ false → (1 ≤ n) × (n ≤ packCells u)
+      by true y e f h = absurd (true≢false h)
+      by false true e f h = absurd (true≢false h)
+      by false false e f h = (ltb-false n 1 e, ltb-false (packCells u) n f)
 
   at-one : (n : ℕ) → 1 ≤ n → getD (wiredInputs u) (n - 1) 0 ≡ inputOf u n
   at-one zero h = absurd (omega arith)

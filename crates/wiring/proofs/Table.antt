@@ -8,9 +8,9 @@ use lib.Dec.{eqb, leb, ltb}
 use lib.ListN.{getD}
 use borrow.Author.Tests.{eqb-true, eqb-false, leb-true, ltb-true}
 use Rattle.events.specs.declared.Setup.{Setup}
-use Rattle.events.specs.Setup.{inputs, groups}
-use Rattle.wiring.specs.Rows.{rows, hasRow, shorted, isWired, bits, wiredBits}
-use Rattle.wiring.specs.Numbered.{Each, each-row, all-bits, setupAt}
+use Rattle.events.specs.Setup.{inputs}
+use Rattle.wiring.specs.Rows.{rows, hasRow, shorted, isWired, packCells, bits, wiredBits}
+use Rattle.wiring.specs.Numbered.{Each, each-row, numbering, all-cells, all-bits, setupAt}
 
 -- ── the test of the code ──
 abbrev pub coded : ℕ → ℕ → Bool
@@ -95,22 +95,25 @@ same-bits : (u : Setup) → wiredBits (setupAt (u .part) (u .cells)) ≡ wiredBi
 unfolding wiredBits isWired inputs
 same-bits u = refl
 
-pub row-bits : (u : Setup) → hasRow (u .part) (u .cells) ≡ true → getD table (u .cells) 0 ≡ wiredBits u
+row-bits : (u : Setup) → hasRow (u .part) (u .cells) ≡ true → getD table (u .cells) 0 ≡ wiredBits u
 row-bits u h = each-row (λ p c. getD table c 0 ≡ wiredBits (setupAt p c)) bits-rows (u .part) (u .cells) h ∙ same-bits u
 
-pub row-small : (part cells : ℕ) → hasRow part cells ≡ true → cells < 16
-row-small part cells h = small part cells (coded-is part cells ∙ h) .1
-
-abbrev pub whole : List ℕ
-whole = 0 ∷ 0x001F ∷ 0x03FF ∷ 0x7FFF ∷ []
-
-whole-by : (part : ℕ) (t : Bool) → ltb part 3 ≡ t → getD whole (cond t part 3) 0 ≡ bits (λ i. true) 1 (cond t (5 * part) 15)
+-- all inputs of a part stand where its number of inputs is that of the cells
+whole-by : (part : ℕ) (t : Bool) → ltb part 3 ≡ t → getD table (cond t (5 * part) 15) 0 ≡ bits (λ i. true) 1 (cond t (5 * part) 15)
 whole-by zero true e = refl
 whole-by (suc zero) true e = refl
 whole-by (suc (suc zero)) true e = refl
 whole-by (suc (suc (suc part))) true e = absurd (omega (arith, ltb-true (suc (suc (suc part))) 3 e))
 whole-by part false e = refl
 
-pub whole-bits : (u : Setup) → hasRow (u .part) (u .cells) ≡ false → getD whole (groups u) 0 ≡ wiredBits u
-unfolding groups inputs
+whole-bits : (u : Setup) → hasRow (u .part) (u .cells) ≡ false → getD table (inputs u) 0 ≡ wiredBits u
+unfolding inputs
 whole-bits u h = whole-by (u .part) (ltb (u .part) 3) refl ∙ sym (all-bits u h)
+
+-- so the bits are where the number of cells is, with a wiring record and without
+pub table-bits : (u : Setup) → getD table (packCells u) 0 ≡ wiredBits u
+table-bits u = by (hasRow (u .part) (u .cells)) refl
+  where
+    by : (t : Bool) → hasRow (u .part) (u .cells) ≡ t → getD table (packCells u) 0 ≡ wiredBits u
+    by true e = ap (λ (n : ℕ). getD table n 0) (numbering u e .many) ∙ row-bits u e
+    by false e = ap (λ (n : ℕ). getD table n 0) (all-cells u e) ∙ whole-bits u e

@@ -29,9 +29,6 @@ const WIRED: [u16; 16] = [
     0x7FFF,
 ];
 
-// All inputs of no part, and of parts 1 to 3.
-const INPUTS: [u16; 4] = [0, 0x001F, 0x03FF, 0x7FFF];
-
 // The fewest cells that the parts of 5, 10 and 15 inputs may have.
 const FEWEST_OF_5: u8 = 3;
 
@@ -55,11 +52,12 @@ pub fn has_row(part: u8, cells: u8) -> bool
 }
 
 // The setup with a wiring record's number of cells.
-pub fn wire(setup: Setup, cells: u8) -> Wiring
+pub fn wire(mut setup: Setup, cells: u8) -> Wiring
     ensures { λ r. ⌜ r ≡ wiredWith setup cells ⌝ }
 {
     if has_row(setup.part, cells) {
-        return Wiring::With(Setup { cells, ..setup });
+        setup.cells = cells;
+        return Wiring::With(setup);
     }
     Wiring::NoRow
 }
@@ -68,10 +66,7 @@ pub fn wire(setup: Setup, cells: u8) -> Wiring
 pub fn wired(setup: Setup) -> u16
     ensures { λ r. ⌜ r ≡ wiredBits setup ⌝ }
 {
-    if has_row(setup.part, setup.cells) {
-        return WIRED[setup.cells as usize];
-    }
-    INPUTS[setup.groups() as usize]
+    WIRED[cells(setup) as usize]
 }
 
 // How many cells the pack has: as many as the part has inputs where there is no wiring record.
@@ -116,10 +111,7 @@ pub fn input_of(setup: Setup, cell: u8) -> u8
     ensures { λ r. ⌜ r ≡ inputOf setup cell ⌝ }
 {
     let inputs = pack(setup, [1, 2, 3, 4, 5, 6, 7, 8, 9, 10, 11, 12, 13, 14, 15]);
-    if cell < 1 {
-        return 0;
-    }
-    if inputs.many < cell {
+    if (cell < 1) | (inputs.many < cell) {
         return 0;
     }
     let of = inputs.of;

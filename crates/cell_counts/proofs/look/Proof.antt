@@ -36,13 +36,13 @@ add-sum c =
 
 loop-again : tie.Need-loop-again Inv-loop μ-loop
 loop-again c =
-    let xs = c .before .before .before .args .t1 in
-    let i = c .before .loop .i in
-    let v = c .before .loop .inv in
+    let xs = c .before .before .before .before .args .t1 in
+    let i = c .before .before .loop .i in
+    let v = c .before .before .loop .inv in
     let b : Fits w16 (getD xs i 0) = search needs in
     let k : i < 15 = search needs in
     let h : i < length xs = search needs in
-    (search needs, rw (v .1, padded-more 15 i xs k h), rw (v .2, total-more), omega arith, rw (v .4, some-more), rw (v .5, some-more))
+    (search needs, rw (v .1, padded-more 15 i xs k h), rw (v .2, total-more), omega arith, rw (v .4, some-more), rw (c .between .ensures, v .5, some-more))
 
 returns : tie.Need-returns Inv-loop μ-loop
 returns c =
@@ -67,6 +67,7 @@ look-spec =
     (λ c. search needs)
     (λ c. search needs)
     add-sum
+    (λ c κs. search needs)
     (λ c. search needs)
     (λ c. search needs)
     loop-again

@@ -13,7 +13,7 @@ returns c = as-text (simp (eq-eqb _ _ (c .before .before .before .before .if1 .t
 
 returns-2 : tie.Need-returns-2
 unfolding busText
-returns-2 c = as-text (simp (ne-eqb _ _ (c .before .before .before .before .if1 .left))) (omega arith) (c .before .before .put-dashes .ensures)
+returns-2 c = as-text (simp (ne-eqb _ _ (c .before .before .before .before .if1 .left))) (omega arith) (c .before .before .put-two .ensures)
 
 pub put-bus-spec : {M : Type 1} → statement M
 put-bus-spec =

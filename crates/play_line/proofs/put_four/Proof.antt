@@ -1,18 +1,16 @@
--- Four bytes, one after the other.
+-- Four bytes, two after two.
 use Rattle.play_line.proofs.Putting.{and-then}
 use borrow.Author.Needs.{needs}
 use Rattle.play_line.proofs.put_four.Statement.{statement}
 use Rattle.play_line.proofs.put_four.Tie as tie
 
 returns : tie.Need-returns
-returns c = and-then (and-then (and-then (c .before .before .before .before .before .before .before .before .before .before .before .before .before .before .put .ensures) (c .before .before .before .before .before .before .before .before .before .before .put2 .ensures)) (c .before .before .before .before .before .before .put3 .ensures)) (c .before .before .put4 .ensures)
+returns c = and-then (c .before .before .before .before .before .before .put-two .ensures) (c .before .before .put-two2 .ensures)
 
 pub put-four-spec : {M : Type 1} → statement M
 put-four-spec =
     tie.close
     (tie.spec
-    (λ c κs. search needs)
-    (λ c κs. search needs)
     (λ c κs. search needs)
     (λ c κs. search needs)
     (λ c. search needs)

@@ -9,7 +9,7 @@ use Rattle.play_line.proofs.put_kind.Tie as tie
 
 returns : tie.Need-returns
 unfolding kindText
-returns c = as-text (simp (lt-ltb _ _ (c .before .before .before .before .before .before .before .before .if1 .taken))) (omega arith) (and-then (c .before .before .before .before .before .before .put-dashes .ensures) (c .before .before .put-dashes2 .ensures))
+returns c = as-text (simp (lt-ltb _ _ (c .before .before .before .before .if1 .taken))) (omega arith) (c .before .before .put-four .ensures)
 
 returns-2 : tie.Need-returns-2
 unfolding kindText
@@ -19,7 +19,6 @@ pub put-kind-spec : {M : Type 1} → statement M
 put-kind-spec =
     tie.close
     (tie.spec
-    (λ c κs. search needs)
     (λ c κs. search needs)
     (λ c. search needs)
     returns

@@ -1,50 +1,35 @@
--- `values::cell` meets its contract: the sum, as the code builds it of whatever numbers stand there. Assumes nothing.
+-- `values::cell` meets its contract: what the count is worth, and what the offset adds. Assumes nothing.
 use borrow.Author.Needs.{needs}
 use native.Mathlib.Omega.{arith}
-use Prim.Native.Nat.{ℕ, _+_, _*_, _^_}
-use lib.Dec.{T, ltb}
-use lib.IntN.{pos, _+ℤ_, _*ℤ_}
+use Prim.Native.Nat.{_+_, _*_}
+use lib.IntN.{pos, _+ℤ_}
 use mir.Syntax.{w64}
 use mir.Val.{toZ, ofZ}
-use Rattle.values.specs.Values.{signed8}
-use Rattle.values.proofs.Within.{Within, lit, nat, plus, times, fits, back, signed}
+use Rattle.values.specs.Values.{gain, offsetMicrovolts, cellMicrovolts}
+use Rattle.values.proofs.Within.{Within, most, plus, fits, back}
+use Rattle.values.proofs.Window.{offset-size}
 use Rattle.values.proofs.cell.Statement.{statement}
 use Rattle.values.proofs.cell.Tie as tie
 
-module _ (c : tie.Start) (base : ℕ) where
-  factor : Within (base + 255) (pos base +ℤ toZ w64 (c .args .code)) (pos (base + c .args .code))
-  factor = plus (lit base) (nat (c .args .code) 255 (omega arith) tt)
+module _ (c : tie.After-offset-microvolts) where
+  abbrev start : tie.Start
+  start = c .before .before
 
-  product : T (ltb (base + 255) (2 ^ 63)) → Within ((base + 255) * 65535) (toZ w64 (ofZ w64 (pos base +ℤ toZ w64 (c .args .code))) *ℤ toZ w64 (c .args .count)) (pos ((base + c .args .code) * c .args .count))
-  product t = times (back t factor) (nat (c .args .count) 65535 (omega arith) tt)
+  worth : Within (599 * 65535) (c .before .counted .result) (pos (gain (start .args .code) * start .args .count))
+  worth = record { is = c .before .counted .ensures; size = most (gain (start .args .code)) (start .args .count) 599 65535 (omega (arith, start .fits .code .fits)) (omega (arith, start .fits .count .fits)) }
 
-offset : (c : tie.After-signed-byte) (unit : ℕ) → Within (unit * 128) (pos unit *ℤ toZ w64 (ofZ w64 (c .signed-byte .result))) (pos unit *ℤ signed8 (c .before .args .offset))
-offset c unit = times (lit unit) (back tt (signed (c .before .fits .offset) (c .signed-byte .ensures)))
+  shift : Within 128000 (c .offset-microvolts .result) (offsetMicrovolts (start .args .offset))
+  shift = record { is = c .offset-microvolts .ensures; size = offset-size (start .fits .offset) }
+
+  sum : Within (599 * 65535 + 128000) (toZ w64 (ofZ w64 (c .before .counted .result)) +ℤ toZ w64 (ofZ w64 (c .offset-microvolts .result)))
+      (cellMicrovolts (start .args .code) (start .args .offset) (start .args .count))
+  sum = plus (back tt worth) (back tt shift)
 
 add-result : tie.Need-add-result
-add-result c = fits tt (factor c _)
-
-mul-result : tie.Need-mul-result
-mul-result c = fits tt (product c _ tt)
-
-mul-result-2 : tie.Need-mul-result-2
-mul-result-2 c = fits tt (offset c _)
-
-add-result-2 : tie.Need-add-result-2
-add-result-2 c = fits tt (plus (back tt (product (c .before) _ tt)) (back tt (offset c _)))
+add-result c = fits tt (sum c)
 
 returns : tie.Need-returns
-returns c = back tt (plus (back tt (product (c .before) _ tt)) (back tt (offset c _))) .is
+returns c = back tt (sum c) .is
 
 pub cell-spec : {M : Type 1} → statement M
-cell-spec =
-    tie.close
-    (tie.spec
-    (λ c. search needs)
-    add-result
-    (λ c. search needs)
-    mul-result
-    (λ c κs. search needs)
-    mul-result-2
-    add-result-2
-    returns)
+cell-spec = tie.close (tie.spec (λ c κs. search needs) (λ c κs. search needs) add-result returns)

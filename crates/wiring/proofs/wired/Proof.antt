@@ -1,25 +1,19 @@
--- `wired` looks the row up, or all inputs (Table).
+-- `wired` looks the bits up by the number of cells (Table).
 use borrow.Author.Needs.{needs}
 use native.Mathlib.Omega.{arith}
-use mathlib.Core.Path.{ap, sym, _∙_}
+use mathlib.Core.Path.{ap, _∙_}
 use Prim.Native.Nat.{ℕ}
 use lib.ListN.{getD}
-use Rattle.events.specs.FewLaws.{few-groups}
-use Rattle.wiring.proofs.Table.{row-small, row-bits, whole, whole-bits}
+use Rattle.wiring.specs.Numbered.{few-cells}
+use Rattle.wiring.proofs.Table.{table, table-bits}
 use Rattle.wiring.proofs.wired.Statement.{statement}
 use Rattle.wiring.proofs.wired.Tie as tie
 
 array-read-result : tie.Need-array-read-result
-array-read-result c = let u = c .before .before .before .args .setup in row-small (u .part) (u .cells) (sym (c .before .before .has-row .ensures) ∙ c .before .if1 .taken)
+array-read-result c = omega (arith, c .cells .ensures, few-cells (c .before .args .setup))
 
 returns : tie.Need-returns
-returns c = let u = c .before .before .before .args .setup in row-bits u (sym (c .before .before .has-row .ensures) ∙ c .before .if1 .taken)
-
-array-read-result-2 : tie.Need-array-read-result-2
-array-read-result-2 c = let u = c .before .before .before .args .setup in omega (arith, few-groups u, c .groups .ensures)
-
-returns-2 : tie.Need-returns-2
-returns-2 c = let u = c .before .before .before .args .setup in ap (λ (n : ℕ). getD whole n 0) (c .groups .ensures) ∙ whole-bits u (sym (c .before .before .has-row .ensures) ∙ c .before .if1 .left)
+returns c = ap (λ (n : ℕ). getD table n 0) (c .cells .ensures) ∙ table-bits (c .before .args .setup)
 
 pub wired-spec : {M : Type 1} → statement M
 wired-spec =
@@ -29,9 +23,4 @@ wired-spec =
     (λ c. search needs)
     (λ c. search needs)
     array-read-result
-    returns
-    (λ c κs. search needs)
-    (λ c. search needs)
-    (λ c. search needs)
-    array-read-result-2
-    returns-2)
+    returns)

@@ -7,11 +7,11 @@ use Rattle.settings.proofs.Settings.write.Tie as tie
 
 returns : tie.Need-returns
 unfolding settingsWith
-returns c = simp (c .before .before .before .before .before .match .keys1, c .bit4 .ensures, c .before .bit3 .ensures, c .before .before .bit2 .ensures, c .before .before .before .bit .ensures)
+returns c = simp (c .before .match .keys1, c .control .ensures)
 
 returns-2 : tie.Need-returns-2
 unfolding settingsWith
-returns-2 c = simp (c .before .before .match .keys2, c .bit6 .ensures, c .before .bit5 .ensures)
+returns-2 c = simp (c .before .before .match .keys2, c .bit2 .ensures, c .before .bit .ensures)
 
 returns-3 : tie.Need-returns-3
 unfolding settingsWith
@@ -45,9 +45,6 @@ pub write-spec : {M : Type 1} → statement M
 write-spec =
     tie.close
     (tie.spec
-    (λ c κs. search needs)
-    (λ c κs. search needs)
-    (λ c κs. search needs)
     (λ c κs. search needs)
     (λ c κs. search needs)
     (λ c κs. search needs)
