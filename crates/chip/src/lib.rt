@@ -338,12 +338,11 @@ impl Chip {
     pub fn heard(self, event: BusEvent) -> Heard
         ensures { λ r. ⌜ r ≡ heardOf event self ⌝ }
     {
-        let bus = self.bus;
         match event {
-            BusEvent::Start => unheard(bus.line.start(), bus),
-            BusEvent::Out(byte) => sent(bus.line.out(self.setup, byte), bus),
-            BusEvent::In(nack) => handed(self.fetched(nack, bus.wants())),
-            BusEvent::Stop => unheard(bus.line.stop(), bus),
+            BusEvent::Start => unheard(self.bus.line.start(), self.bus),
+            BusEvent::Out(byte) => sent(self.bus.line.out(self.setup, byte), self.bus),
+            BusEvent::In(nack) => handed(self.fetched(nack, self.bus.wants())),
+            BusEvent::Stop => unheard(self.bus.line.stop(), self.bus),
         }
     }
 
