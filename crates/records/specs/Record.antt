@@ -84,10 +84,6 @@ soakIn b = cond (eqb (length b) «SOAK_PAYLOAD») (repeatOf soakOf soakMost (le3
 abbrev pub switchIn : (Bool → Event) → List ℕ → Payload
 switchIn e b = cond (eqb (length b) 1) (cond (leb (getD b 0 0) 1) (Whole (e (eqb (getD b 0 0) 1))) (Unfit «BAD_VALUE»)) (Unfit «BAD_KIND»)
 
-abbrev pub switchOf : Event → Event → List ℕ → Payload
-switchOf on off b =
-    cond (eqb (length b) 1) (cond (leb (getD b 0 0) 1) (Whole (cond (eqb (getD b 0 0) 1) on off)) (Unfit «BAD_VALUE»)) (Unfit «BAD_KIND»)
-
 abbrev pub loadOf : Bool → Event
 loadOf level = Load level
 

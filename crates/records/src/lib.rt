@@ -7,7 +7,7 @@ ghost use Rattle.events.specs.Event.{countMost, senseFits, ticksMost, soakMost,
 ghost use Rattle.cell_counts.specs.Scan.{padded};
 ghost use Rattle.records.specs.Numbers.{le16, le32, signed32, words, wordOr};
 ghost use Rattle.records.specs.Frame.{frameOf, headerOf};
-ghost use Rattle.records.specs.Record.{senseOf, repeatOf, ticksOf, ticksIn, soakOf, soakIn, setupIn, bareIn, countedIn, countIn, senseIn, switchOf, outIn, wiresIn, groupsAt, inputsAt, laterOf, payloadOf, readOf, numberOf, noCounts, countsOf, countsIn, takenAt};
+ghost use Rattle.records.specs.Record.{senseOf, repeatOf, ticksOf, ticksIn, soakOf, soakIn, setupIn, bareIn, countedIn, countIn, senseIn, switchIn, loadOf, levelOf, inOf, outIn, wiresIn, groupsAt, inputsAt, laterOf, payloadOf, readOf, numberOf, noCounts, countsOf, countsIn, takenAt};
 use constants::kind;
 use constants::number;
 use constants::range;
@@ -200,17 +200,42 @@ fn soak_in(b: &[u8]) -> Payload
     soak(get32(b, 0), get32(b, 4))
 }
 
-// A byte, 0 or 1: one of two events.
-fn switch_in(on: Event, off: Event, b: &[u8]) -> Payload
-    ensures { λ r. ⌜ r ≡ switchOf on off (now (b .entry)) ⌝ }
+fn load_in(b: &[u8]) -> Payload
+    ensures { λ r. ⌜ r ≡ switchIn loadOf (now (b .entry)) ⌝ }
 {
     if b.len() != 1 {
         return Payload::Unfit(number::BAD_KIND);
     }
-    match b[0] {
-        0 => Payload::Whole(off),
-        1 => Payload::Whole(on),
-        _ => Payload::Unfit(number::BAD_VALUE),
+    if b[0] <= 1 {
+        Payload::Whole(Event::Load(b[0] == 1))
+    } else {
+        Payload::Unfit(number::BAD_VALUE)
+    }
+}
+
+fn level_in(b: &[u8]) -> Payload
+    ensures { λ r. ⌜ r ≡ switchIn levelOf (now (b .entry)) ⌝ }
+{
+    if b.len() != 1 {
+        return Payload::Unfit(number::BAD_KIND);
+    }
+    if b[0] <= 1 {
+        Payload::Whole(Event::Level(b[0] == 1))
+    } else {
+        Payload::Unfit(number::BAD_VALUE)
+    }
+}
+
+fn host_in(b: &[u8]) -> Payload
+    ensures { λ r. ⌜ r ≡ switchIn inOf (now (b .entry)) ⌝ }
+{
+    if b.len() != 1 {
+        return Payload::Unfit(number::BAD_KIND);
+    }
+    if b[0] <= 1 {
+        Payload::Whole(Event::OnBus(BusEvent::In(b[0] == 1)))
+    } else {
+        Payload::Unfit(number::BAD_VALUE)
     }
 }
 
@@ -266,17 +291,13 @@ fn later_of(kind: u16, part: u8, b: &[u8]) -> Payload
         kind::COUNT => count_in(b),
         kind::SENSE => sense_in(b),
         kind::PIN => bare_in(Event::Pin, b),
-        kind::LOAD => switch_in(Event::Load(true), Event::Load(false), b),
+        kind::LOAD => load_in(b),
         kind::XREADY => bare_in(Event::Xready, b),
         kind::START => bare_in(Event::OnBus(BusEvent::Start), b),
         kind::OUT => host_out(b),
-        kind::IN => switch_in(
-            Event::OnBus(BusEvent::In(true)),
-            Event::OnBus(BusEvent::In(false)),
-            b,
-        ),
+        kind::IN => host_in(b),
         kind::STOP => bare_in(Event::OnBus(BusEvent::Stop), b),
-        kind::LEVEL => switch_in(Event::Level(true), Event::Level(false), b),
+        kind::LEVEL => level_in(b),
         kind::TICKS => ticks_in(b),
         kind::SOAK => soak_in(b),
         kind::WIRING => wires_in(b),
@@ -302,11 +323,15 @@ pub fn payload_of(kind: u16, part: u8, b: &[u8]) -> Payload
 pub fn read_rest(rest: &[u8], part: u8) -> Read
     ensures { λ r. ⌜ r ≡ readOf part (now (rest .entry)) ⌝ }
 {
-    let end = frame(rest);
-    if end == 0 {
+    if rest.len() < size::HEADER {
         return Read::Cut;
     }
+    let n = get16(rest, 0) as usize;
     let kind = get16(rest, 2);
+    if rest.len() - size::HEADER < n {
+        return Read::Cut; // The payload runs past the end.
+    }
+    let end = size::HEADER + n;
     match payload_of(kind, part, &rest[size::HEADER..end]) {
         Payload::Whole(event) => Read::Record { event, next: end },
         Payload::Unfit(number) => Read::Refused { number, next: end },
@@ -418,12 +443,18 @@ pub fn take_record(s: &[u8], at: usize, part: u8) -> Taken
 pub fn header_of(rest: &[u8]) -> Framed
     ensures { λ r. ⌜ r ≡ headerOf (now (rest .entry)) ⌝ }
 {
-    let next = frame(rest);
-    if next == 0 {
+    if rest.len() < size::HEADER {
+        return Framed::Short;
+    }
+    let n = get16(rest, 0) as usize;
+    if rest.len() - size::HEADER < n {
         return Framed::Short;
     }
     let kind = get16(rest, 2);
-    Framed::Header { kind, next }
+    Framed::Header {
+        kind,
+        next: size::HEADER + n,
+    }
 }
 
 // The number of the record that a stream begins with: 0 for a good SETUP.

@@ -171,10 +171,13 @@ impl Shown {
     fn pressed(self, level: bool) -> Self
         ensures { λ r. ⌜ r ≡ pulledAt level self ⌝ }
     {
-        if level & !self.status.alert() {
-            return self.overridden();
+        if !level {
+            return self;
         }
-        self
+        if self.status.alert() {
+            return self;
+        }
+        self.overridden()
     }
 
     fn readied(mut self) -> Self

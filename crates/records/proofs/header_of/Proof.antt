@@ -1,18 +1,23 @@
--- `header_of` meets its contract, by whether the frame is whole (Cases).
-use native.Mathlib.Omega.{arith}
-use Rattle.records.proofs.Cases.{header-cut, header-whole, frame-place}
+-- `header_of` meets its contract, by what the header says.
+use borrow.Author.Tests.{lt-ltb, le-ltb}
+use Rattle.records.specs.Frame.{headerOf}
 use borrow.Author.Needs.{needs}
 use Rattle.records.proofs.header_of.Statement.{statement}
 use Rattle.records.proofs.header_of.Tie as tie
 
 returns : tie.Need-returns
-returns c = let f = c .before in header-cut (f .before .before .args .rest .now) (f .frame .ensures) (c .if1 .taken)
-
-get16-requires : tie.Need-get16-requires
-get16-requires c κs = let f = c .before in omega (arith, frame-place (f .before .before .args .rest .now) (f .frame .ensures) (c .if1 .left))
+unfolding headerOf
+returns c = simp (lt-ltb _ _ (c .if1 .taken))
 
 returns-2 : tie.Need-returns-2
-returns-2 c = let f = c .before .before in header-whole (f .before .before .args .rest .now) (f .frame .ensures) (c .before .if1 .left) (c .get16 .ensures)
+unfolding headerOf
+returns-2 c = simp (le-ltb _ _ (c .before .before .if1 .left), lt-ltb _ _ (rw (c .before .get16 .ensures) at (c .if2 .taken)))
+
+returns-3 : tie.Need-returns-3
+unfolding headerOf
+returns-3 c = simp (le-ltb _ _ (c .before .before .before .if1 .left), le-ltb _ _ (rw (c .before .before .get16 .ensures) at (c .before .if2 .left)), c .before .before .get16 .ensures, c .get162 .ensures)
 
 pub header-of-spec : {M : Type 1} → statement M
-header-of-spec = tie.close (tie.spec (λ c κs. search needs) returns get16-requires returns-2)
+header-of-spec =
+    tie.close
+    (tie.spec returns (λ c κs. search needs) (λ c. search needs) (λ c. search needs) returns-2 (λ c κs. search needs) (λ c. search needs) returns-3)

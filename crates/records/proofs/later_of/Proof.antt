@@ -2,8 +2,7 @@
 use mathlib.Core.Path.{ap, _∙_}
 use Prim.Native.Nat.{ℕ}
 use borrow.Author.Tests.{ne-eqb}
-use Rattle.records.specs.Record.{laterOf, countedIn, loadOf, levelOf, inOf}
-use Rattle.records.proofs.Cases.{switched}
+use Rattle.records.specs.Record.{laterOf, countedIn}
 use Rattle.events.specs.declared.Event.the-variants.{Scan, Temp}
 use borrow.Author.Needs.{needs}
 use Rattle.records.proofs.later_of.Statement.{statement}
@@ -39,7 +38,7 @@ returns-7 c = simp (c .before .match .keys7) (c .bare-in3 .ensures)
 
 returns-8 : tie.Need-returns-8
 unfolding laterOf
-returns-8 c = simp (c .before .match .keys8) (switched loadOf (c .before .before .before .args .b .now) (c .switch-in .ensures))
+returns-8 c = simp (c .before .match .keys8) (c .load-in .ensures)
 
 returns-9 : tie.Need-returns-9
 unfolding laterOf
@@ -55,7 +54,7 @@ returns-11 c = simp (c .before .match .keys11) (c .host-out .ensures)
 
 returns-12 : tie.Need-returns-12
 unfolding laterOf
-returns-12 c = simp (c .before .match .keys12) (switched inOf (c .before .before .before .args .b .now) (c .switch-in2 .ensures))
+returns-12 c = simp (c .before .match .keys12) (c .host-in .ensures)
 
 returns-13 : tie.Need-returns-13
 unfolding laterOf
@@ -63,7 +62,7 @@ returns-13 c = simp (c .before .match .keys13) (c .bare-in6 .ensures)
 
 returns-14 : tie.Need-returns-14
 unfolding laterOf
-returns-14 c = simp (c .before .match .keys14) (switched levelOf (c .before .before .before .args .b .now) (c .switch-in3 .ensures))
+returns-14 c = simp (c .before .match .keys14) (c .level-in .ensures)
 
 returns-15 : tie.Need-returns-15
 unfolding laterOf
