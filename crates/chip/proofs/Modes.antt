@@ -6,15 +6,15 @@ use mathlib.Core.List.{List}
 use Prim.Native.Nat.{ℕ}
 use lib.ListN.{take}
 use Rattle.events.specs.declared.Event.{Event as Coded}
-use Rattle.events.specs.Event.{Event, Por, Scan, Temp, within, countMost, fits, eventOf}
+use Rattle.events.specs.Event.{Event, Por, Boot, Scan, Temp, within, countMost, fits, eventOf}
 use Rattle.settings.specs.Write.{ships}
 use Rattle.registers.specs.declared.Registers.{Registers}
 use Rattle.registers.specs.Write.{written}
 use Rattle.registers.specs.Judging.{pulledByLevel}
 use Rattle.chip.specs.declared.Chip.{Chip}
 use Rattle.chip.specs.declared.Stepped.{Stepped}
-use Rattle.chip.specs.Chip.{withRegisters, numbered, inShip, watched, settled, normally, asleep, happened, stepped, steppedAs}
-use Rattle.chip.specs.Parts.{wrote}
+use Rattle.chip.specs.Chip.{withNormal, withRegisters, numbered, inShip, watched, settled, normally, asleep, happened, stepped, steppedAs}
+use Rattle.chip.specs.Parts.{movedTo, wrote}
 
 pub in-normal : {s : Stepped} (e : Event) (c : Chip) → c .normal ≡ true → s ≡ settled (normally e c) → s ≡ happened e c
 unfolding happened
@@ -32,12 +32,16 @@ in-sleep e c a h = h ∙ sym (by (c .normal) a)
     by true q = cc
     by false q = refl
 
--- an event that is done: with the chip, or the registers alone, as they are said elsewhere
+-- an event that is done: with the chip as it is said elsewhere
 pub done-as : {s : Stepped} {d e : Chip} → s ≡ settled (numbered 0 d) → d ≡ e → s ≡ settled (numbered 0 e)
 done-as h e = h ∙ ap (λ (d : Chip). settled (numbered 0 d)) e
 
-pub moved-as : {s : Stepped} {r q : Registers} (c : Chip) → s ≡ settled (numbered 0 (withRegisters r c)) → r ≡ q → s ≡ settled (numbered 0 (withRegisters q c))
-moved-as c h e = h ∙ ap (λ (r : Registers). settled (numbered 0 (withRegisters r c))) e
+-- the registers alone
+pub moves : {s : Stepped} (r : Registers) (c : Chip) → c .normal ≡ true → s ≡ settled (numbered 0 (withRegisters r c)) → s ≡ movedTo r c
+moves r c a h = h ∙ ap (λ (t : Bool). cond t (settled (numbered 0 (withRegisters r c))) (numbered 4 c)) (sym a)
+
+pub stays : {s : Stepped} (r : Registers) (c : Chip) → c .normal ≡ false → s ≡ numbered 4 c → s ≡ movedTo r c
+stays r c a h = h ∙ ap (λ (t : Bool). cond t (settled (numbered 0 (withRegisters r c))) (numbered 4 c)) (sym a)
 
 -- a write ships, or is accepted
 pub wrote-ships : {d : Chip} {t : Bool} (a v : ℕ) (c : Chip) → t ≡ ships a v (c .registers .settings) → t ≡ true → d ≡ inShip (c .setup) → d ≡ wrote a v c
@@ -59,6 +63,15 @@ in-either c h = h ∙ sym (by (c .normal))
     by : (b : Bool) → cond b (settled (normally Por c)) (asleep Por c) ≡ numbered 0 (inShip (c .setup))
     by true = refl
     by false = refl
+
+-- after BOOT the mode is NORMAL
+pub boots : {s : Stepped} (c : Chip) → s ≡ settled (numbered 0 (withNormal true c)) → s ≡ happened Boot c
+unfolding happened
+boots c h = h ∙ sym (by (c .normal) refl)
+  where
+    by : (b : Bool) → c .normal ≡ b → cond b (settled (normally Boot c)) (asleep Boot c) ≡ settled (numbered 0 (withNormal true c))
+    by true q = ap (λ (a : Bool). settled (numbered 0 (withNormal a c))) q
+    by false q = refl
 
 -- ── 3 before 4 ──
 pub in-range : {s : Stepped} (e : Event) (c : Chip) → fits e ≡ true → s ≡ happened e c → s ≡ stepped e c

@@ -4,6 +4,7 @@ use mathlib.Core.Path.{_≡_, refl, ap}
 use mathlib.Core.Bool.{Bool, true, false, cond, _||_, true≢false}
 use Prim.Native.Nat.{ℕ}
 use lib.IntN.{ℤ}
+use Rattle.constants.specs.Number.{DONE, ASLEEP}
 use Rattle.events.specs.declared.BusEvent.{BusEvent}
 use Rattle.events.specs.declared.BusEvent.the-variants.{Start, Stop, Out, In}
 use Rattle.events.specs.declared.Faults.{Faults}
@@ -17,6 +18,7 @@ use Rattle.bus.specs.declared.Outed.{Outed}
 use Rattle.bus.specs.declared.Taken.{Taken}
 use Rattle.bus.specs.Bus.{withLine, started, stopped, outed}
 use Rattle.settings.specs.Write.{ships}
+use Rattle.registers.specs.declared.Registers.{Registers}
 use Rattle.registers.specs.declared.Shown.{Shown}
 use Rattle.registers.specs.State.{withShown}
 use Rattle.registers.specs.Write.{written}
@@ -29,6 +31,10 @@ use Rattle.chip.specs.declared.Heard.{Heard}
 use Rattle.chip.specs.declared.Stepped.{Stepped}
 use Rattle.chip.specs.Chip.{numbered, answered, withBus, withRegisters, withRuns, inShip, lineMoved, accepted, watched, settled}
 use Rattle.chip.specs.Chip.{storedAt, stored, sent, takenBy, onBus, normally}
+
+-- ── an event that moves the registers alone ──
+abbrev pub movedTo : Registers → Chip → Stepped
+movedTo r c = cond (c .normal) (settled (numbered DONE (withRegisters r c))) (numbered ASLEEP c)
 
 -- ── the bus: what is heard at once ──
 abbrev pub unheard : Line → Bus → Heard

@@ -5,7 +5,7 @@ ghost use Rattle.events.specs.Setup.{groups, inputs};
 ghost use Rattle.events.specs.Event.{eventOf, ticks as ticksSpec, ticksMost, soakMost, Por, Boot, Pin, Xready, Scan, Temp, Count, Sense, Load, OnBus, Level};
 ghost use Rattle.events.specs.declared.BusEvent.the-variants.{Start, Out, In, Stop};
 ghost use Rattle.chip.specs.Chip.{numbered as numberedSpec, answered as answeredSpec, inShip as inShipSpec, takenBy as fetchedSpec, watched as watchedSpec, settled, normally, busAsleep, happened, stepped, ticked as tickedSpec, steppedAs, steppedBy};
-ghost use Rattle.chip.specs.Parts.{unheard as unheardSpec, sentOn as sentSpec, handedOver as handedSpec, heardOf, wrote as wroteSpec, landed as landedSpec, raisedBy};
+ghost use Rattle.chip.specs.Parts.{movedTo, unheard as unheardSpec, sentOn as sentSpec, handedOver as handedSpec, heardOf, wrote as wroteSpec, landed as landedSpec, raisedBy};
 ghost use Rattle.protection.specs.Judged.{tickJudged};
 ghost use Rattle.protection.specs.Repeat.{ticksJudged};
 ghost use Rattle.chip.specs.RepeatLaws.{tickedBy};
@@ -69,8 +69,7 @@ fn numbered(number: u8, chip: Chip) -> Stepped
 fn watched(mut chip: Chip) -> Chip
     ensures { λ r. ⌜ r ≡ watchedSpec chip ⌝ }
 {
-    let registers = chip.registers;
-    chip.registers = registers.pulled_by_level();
+    chip.registers = chip.registers.pulled_by_level();
     chip
 }
 
@@ -110,10 +109,10 @@ pub fn in_ship(setup: Setup) -> Chip
 }
 
 // START and STOP: nothing given back.
-fn unheard(line: Line, bus: Bus) -> Heard
+fn unheard(line: Line, mut bus: Bus) -> Heard
     ensures { λ r. ⌜ r ≡ unheardSpec line bus ⌝ }
 {
-    let bus = Bus { line, ..bus };
+    bus.line = line;
     let store = Store::Nothing;
     Heard {
         bus,
@@ -124,11 +123,11 @@ fn unheard(line: Line, bus: Bus) -> Heard
 }
 
 // OUT.
-fn sent(out: Outed, bus: Bus) -> Heard
+fn sent(out: Outed, mut bus: Bus) -> Heard
     ensures { λ r. ⌜ r ≡ sentSpec out bus ⌝ }
 {
     let line = out.line;
-    let bus = Bus { line, ..bus };
+    bus.line = line;
     let store = out.store;
     Heard {
         bus,
@@ -159,34 +158,25 @@ impl Chip {
         numbered(number::DONE, in_ship(self.setup))
     }
 
-    pub fn boot(self) -> Stepped
+    pub fn boot(mut self) -> Stepped
         ensures { λ r. ⌜ r ≡ happened Boot self ⌝ }
     {
-        if self.normal {
-            return done(self);
-        }
-        done(Chip {
-            normal: true,
-            ..self
-        })
+        self.normal = true;
+        done(self)
     }
 
     // In NORMAL: one look over the counts stores, sums and judges.
     pub fn scanned(mut self, counts: [u16; 15]) -> Self
         ensures { λ r. ⌜ r ≡ normally (Scan (take (inputs (self .setup)) counts)) self .chip ⌝ }
     {
-        let setup = self.setup;
-        let registers = self.registers;
-        let s = registers.settings;
+        let s = self.registers.settings;
         let over = limits::over_line(s);
         let under = limits::under_line(s);
-        let looked = cell_counts::look(counts, setup.inputs(), over, setup.floor, under);
-        let runs = self.runs;
-        let judged = runs.scanned(s, looked.over, looked.under);
+        let looked = cell_counts::look(counts, self.setup.inputs(), over, self.setup.floor, under);
+        let judged = self.runs.scanned(s, looked.over, looked.under);
         let cells = looked.cells;
-        let stored = registers.scanned(cells, looked.sum);
-        let risen = judged.risen;
-        self.registers = stored.raised(risen);
+        let stored = self.registers.scanned(cells, looked.sum);
+        self.registers = stored.raised(judged.risen);
         let runs = judged.runs;
         self.runs = runs;
         self
@@ -195,8 +185,7 @@ impl Chip {
     pub fn scan(self, counts: [u16; 15]) -> Stepped
         ensures { λ r. ⌜ r ≡ stepped (Scan (take (inputs (self .setup)) counts)) self ⌝ }
     {
-        let setup = self.setup;
-        if !ranges::counts_in_range(counts, setup.inputs()) {
+        if !ranges::counts_in_range(counts, self.setup.inputs()) {
             return numbered(number::BAD_VALUE, self);
         }
         if !self.normal {
@@ -209,17 +198,14 @@ impl Chip {
     pub fn sensed(self, value: i32) -> Judged
         ensures { λ r. ⌜ r ≡ tickJudged (self .registers .settings) value (self .runs) ⌝ }
     {
-        let registers = self.registers;
-        let runs = self.runs;
-        runs.sensed(registers.settings, value)
+        self.runs.sensed(self.registers.settings, value)
     }
 
     // What rises is shown, and puts off its drive.
     pub fn raised(mut self, risen: Faults) -> Self
         ensures { λ r. ⌜ r ≡ raisedBy risen self ⌝ }
     {
-        let registers = self.registers;
-        self.registers = registers.raised(risen);
+        self.registers = self.registers.raised(risen);
         self
     }
 
@@ -236,21 +222,17 @@ impl Chip {
         let judged = self.sensed(value);
         let runs = judged.runs;
         self.runs = runs;
-        let risen = judged.risen;
-        done(self.raised(risen))
+        done(self.raised(judged.risen))
     }
 
     // In NORMAL: ticks of one value judged by their number, and what is due at the last of them shown.
     fn judged_by(mut self, value: i32, repeat: u32) -> Self
         ensures { λ r. ⌜ r ≡ tickedBy (ticksJudged repeat (self .registers .settings) value (self .runs)) self ⌝ }
     {
-        let registers = self.registers;
-        let runs = self.runs;
-        let judged = runs.ticked(registers.settings, value, repeat);
+        let judged = self.runs.ticked(self.registers.settings, value, repeat);
         let runs = judged.runs;
         self.runs = runs;
-        let risen = judged.risen;
-        self.raised(risen)
+        self.raised(judged.risen)
     }
 
     // That many ticks of one value: their number is enough, whatever it is. After the first the outside level has nothing more to raise.
@@ -288,21 +270,18 @@ impl Chip {
     }
 
     // In NORMAL: the counts of TEMP kept.
-    pub fn warmed(self, counts: [u16; 15]) -> Self
+    pub fn warmed(mut self, counts: [u16; 15]) -> Self
         ensures { λ r. ⌜ r ≡ normally (Temp (take (groups (self .setup)) counts)) self .chip ⌝ }
     {
-        let setup = self.setup;
-        let ts = cell_counts::three(counts, setup.groups());
-        let registers = self.registers;
-        let registers = registers.warmed(ts);
-        Chip { registers, ..self }
+        let ts = cell_counts::three(counts, self.setup.groups());
+        self.registers = self.registers.warmed(ts);
+        self
     }
 
     pub fn temp(self, counts: [u16; 15]) -> Stepped
         ensures { λ r. ⌜ r ≡ stepped (Temp (take (groups (self .setup)) counts)) self ⌝ }
     {
-        let setup = self.setup;
-        if !ranges::counts_in_range(counts, setup.groups()) {
+        if !ranges::counts_in_range(counts, self.setup.groups()) {
             return numbered(number::BAD_VALUE, self);
         }
         if !self.normal {
@@ -311,59 +290,45 @@ impl Chip {
         done(self.warmed(counts))
     }
 
-    pub fn count(self, cc: u16) -> Stepped
-        ensures { λ r. ⌜ r ≡ happened (Count cc) self ⌝ }
+    // An event that moves the registers alone: in SHIP it is refused.
+    fn moved(mut self, registers: Registers) -> Stepped
+        ensures { λ r. ⌜ r ≡ movedTo registers self ⌝ }
     {
         if !self.normal {
             return numbered(number::ASLEEP, self);
         }
-        let registers = self.registers;
-        let registers = registers.coulombs(cc);
-        done(Chip { registers, ..self })
+        self.registers = registers;
+        done(self)
+    }
+
+    pub fn count(self, cc: u16) -> Stepped
+        ensures { λ r. ⌜ r ≡ happened (Count cc) self ⌝ }
+    {
+        self.moved(self.registers.coulombs(cc))
     }
 
     pub fn pin(self) -> Stepped
         ensures { λ r. ⌜ r ≡ happened Pin self ⌝ }
     {
-        if !self.normal {
-            return numbered(number::ASLEEP, self);
-        }
-        let registers = self.registers;
-        let registers = registers.pulled();
-        done(Chip { registers, ..self })
+        self.moved(self.registers.pulled())
     }
 
     pub fn load(self, level: bool) -> Stepped
         ensures { λ r. ⌜ r ≡ happened (Load level) self ⌝ }
     {
-        if !self.normal {
-            return numbered(number::ASLEEP, self);
-        }
-        let registers = self.registers;
-        let registers = registers.loaded(level);
-        done(Chip { registers, ..self })
+        self.moved(self.registers.loaded(level))
     }
 
     pub fn level(self, level: bool) -> Stepped
         ensures { λ r. ⌜ r ≡ happened (Level level) self ⌝ }
     {
-        if !self.normal {
-            return numbered(number::ASLEEP, self);
-        }
-        let registers = self.registers;
-        let registers = registers.leveled(level);
-        done(Chip { registers, ..self })
+        self.moved(self.registers.leveled(level))
     }
 
     pub fn xready(self) -> Stepped
         ensures { λ r. ⌜ r ≡ happened Xready self ⌝ }
     {
-        if !self.normal {
-            return numbered(number::ASLEEP, self);
-        }
-        let registers = self.registers;
-        let registers = registers.unready();
-        done(Chip { registers, ..self })
+        self.moved(self.registers.unready())
     }
 }
 
@@ -373,13 +338,11 @@ impl Chip {
     pub fn heard(self, event: BusEvent) -> Heard
         ensures { λ r. ⌜ r ≡ heardOf event self ⌝ }
     {
-        let bus = self.bus;
-        let line = bus.line;
         match event {
-            BusEvent::Start => unheard(line.start(), bus),
-            BusEvent::Out(byte) => sent(line.out(self.setup, byte), bus),
-            BusEvent::In(nack) => handed(self.fetched(nack, bus.wants())),
-            BusEvent::Stop => unheard(line.stop(), bus),
+            BusEvent::Start => unheard(self.bus.line.start(), self.bus),
+            BusEvent::Out(byte) => sent(self.bus.line.out(self.setup, byte), self.bus),
+            BusEvent::In(nack) => handed(self.fetched(nack, self.bus.wants())),
+            BusEvent::Stop => unheard(self.bus.line.stop(), self.bus),
         }
     }
 
@@ -387,13 +350,10 @@ impl Chip {
     pub fn wrote(mut self, at: u8, value: u8) -> Self
         ensures { λ r. ⌜ r ≡ wroteSpec at value self ⌝ }
     {
-        let setup = self.setup;
-        let registers = self.registers;
-        let settings = registers.settings;
-        if settings.ships(at, value) {
-            return in_ship(setup);
+        if self.registers.settings.ships(at, value) {
+            return in_ship(self.setup);
         }
-        let written = registers.write(setup, at, value);
+        let written = self.registers.write(self.setup, at, value);
         self.registers = written.pulled_by_level();
         self
     }
@@ -468,15 +428,12 @@ impl Chip {
         requires { ⌜ want ≡ wanted (self .bus) ⌝ }
         ensures { λ r. ⌜ r ≡ fetchedSpec nack self ⌝ }
     {
-        let bus = self.bus;
-        let setup = self.setup;
-        let registers = self.registers;
         match want {
             Want::Register(at) => {
-                let pair = registers.pair(setup, at);
-                bus.take(setup, pair.here, pair.low, nack)
+                let pair = self.registers.pair(self.setup, at);
+                self.bus.take(self.setup, pair.here, pair.low, nack)
             }
-            Want::Nothing => bus.take(setup, 0, 0, nack),
+            Want::Nothing => self.bus.take(self.setup, 0, 0, nack),
         }
     }
 }

@@ -10,20 +10,15 @@ impl Chip {
     pub fn status(self) -> u8
         ensures { λ r. ⌜ r ≡ statusByte (self .registers .shown .status) ⌝ }
     {
-        let registers = self.registers;
-        let shown = registers.shown;
-        let status = shown.status;
-        status.byte()
+        self.registers.shown.status.byte()
     }
 
     // ALERT 4, CHG 2, DSG 1.
     pub fn pins(self) -> u8
         ensures { λ r. ⌜ r ≡ pinsOf self ⌝ }
     {
-        let registers = self.registers;
-        let shown = registers.shown;
-        let status = shown.status;
-        bits::weigh(status.alert(), weight::PIN_ALERT)
+        let shown = self.registers.shown;
+        bits::weigh(shown.status.alert(), weight::PIN_ALERT)
             + bits::weigh(shown.chg_on, weight::PIN_CHG)
             + bits::weigh(shown.dsg_on, weight::PIN_DSG)
     }

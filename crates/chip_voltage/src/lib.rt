@@ -32,30 +32,27 @@ pub fn voltage(chip: Chip, cell: u8) -> CellAnswer
     if !chip.normal {
         return CellAnswer::Asleep;
     }
-    let setup = chip.setup;
-    let cells = wiring::cells(setup);
-    if cell < 1 {
+    let cells = wiring::cells(chip.setup);
+    if (cell < 1) | (cells < cell) {
         return CellAnswer::NoCell;
     }
-    if cells < cell {
-        return CellAnswer::NoCell;
-    }
-    let registers = chip.registers;
-    let measured = registers.measured;
-    let count = measured.cell(setup, wiring::input_of(setup, cell) - 1);
-    if !wiring::converts(setup, count) {
+    let input = wiring::input_of(chip.setup, cell);
+    let count = chip.registers.measured.cell(chip.setup, input - 1);
+    if !wiring::converts(chip.setup, count) {
         return CellAnswer::NotConnected;
     }
-    CellAnswer::Is(values::cell_microvolts(setup.gain_code, setup.offset, RawCount(count)))
+    CellAnswer::Is(values::cell_microvolts(
+        chip.setup.gain_code,
+        chip.setup.offset,
+        RawCount(count),
+    ))
 }
 
 // The connected inputs, input 1 the lowest bit, by the counts in the registers.
 pub fn linked(chip: Chip) -> u16
     ensures { λ r. ⌜ r ≡ linkedBits (chip .setup) (chip .registers .measured .cells) ⌝ }
 {
-    let registers = chip.registers;
-    let measured = registers.measured;
-    let cells = measured.cells;
+    let cells = chip.registers.measured.cells;
     wiring::linked(chip.setup, cells)
 }
 
@@ -66,20 +63,17 @@ pub fn forecast(chip: Chip) -> ForecastAnswer
     if !chip.normal {
         return ForecastAnswer::Asleep;
     }
-    let setup = chip.setup;
-    let registers = chip.registers;
-    let measured = registers.measured;
-    let cells = measured.cells;
-    let pack = wiring::link(setup, cells);
+    let cells = chip.registers.measured.cells;
+    let pack = wiring::link(chip.setup, cells);
     if pack.many == 0 {
         return ForecastAnswer::NotConnected;
     }
     let counts = pack.of;
     ForecastAnswer::Is(values::forecast(
-        setup.gain_code,
-        setup.offset,
+        chip.setup.gain_code,
+        chip.setup.offset,
         pack.many,
         counts,
-        measured.cc,
+        chip.registers.measured.cc,
     ))
 }

@@ -1,8 +1,10 @@
 // The registers as a value: what an address reads, what an accepted write does, and what events leave.
 ghost use mathlib.Core.Path.{_≡_};
+ghost use mathlib.Core.Bool.{_&&_, not};
+ghost use Rattle.bits.specs.Bit.{bit};
 ghost use Rattle.events.specs.Fault.{among};
 ghost use Rattle.registers.specs.State.{withStatus, withShown, withLoadLevel, withOutsideLevel, alert as alertSpec, reset as resetSpec};
-ghost use Rattle.registers.specs.Write.{statusOf, without, driven, shownWith, cellbalWith, written};
+ghost use Rattle.registers.specs.Write.{statusOf, without, holdsDsg, holdsChg, driven, shownWith, cellbalWith, written};
 ghost use Rattle.registers.specs.Fault.{raised as raisedSpec, overridden as overriddenSpec, readied as readiedSpec, counting as countingSpec};
 ghost use Rattle.registers.specs.Judging.{scanKept, tempKept, pulledAt, coulombs as coulombsSpec, pulled as pulledSpec, pulledByLevel as pulledByLevelSpec, unready as unreadySpec};
 use constants::address;
@@ -61,6 +63,13 @@ pub struct Pair {
     pub low: u8,
 }
 
+// A bit of SYS_STAT after a write: a one clears it.
+fn bit_left(up: bool, v: u8, weight: u8) -> bool
+    ensures { λ r. ⌜ r ≡ (up && not (bit v weight)) ⌝ }
+{
+    up & !bits::bit(v, weight)
+}
+
 impl Status {
     // ALERT.
     pub fn alert(self) -> bool
@@ -69,46 +78,53 @@ impl Status {
         self.cc_ready | self.xready | self.ovrd_alert | self.uv | self.ov | self.scd | self.ocd
     }
 
+    // What keeps DSG_ON, and CHG_ON, off.
+    fn holds_dsg(self) -> bool
+        ensures { λ r. ⌜ r ≡ holdsDsg self ⌝ }
+    {
+        self.uv | self.ocd | self.scd | self.ovrd_alert | self.xready
+    }
+
+    fn holds_chg(self) -> bool
+        ensures { λ r. ⌜ r ≡ holdsChg self ⌝ }
+    {
+        self.ov | self.ovrd_alert | self.xready
+    }
+
     fn less(self, v: u8) -> Self
         ensures { λ r. ⌜ r ≡ without (statusOf v) self ⌝ }
     {
         Status {
-            cc_ready: self.cc_ready & !bits::bit(v, weight::CC_READY),
-            xready: self.xready & !bits::bit(v, weight::XREADY),
-            ovrd_alert: self.ovrd_alert & !bits::bit(v, weight::OVRD_ALERT),
-            uv: self.uv & !bits::bit(v, weight::UV),
-            ov: self.ov & !bits::bit(v, weight::OV),
-            scd: self.scd & !bits::bit(v, weight::SCD),
-            ocd: self.ocd & !bits::bit(v, weight::OCD),
+            cc_ready: bit_left(self.cc_ready, v, weight::CC_READY),
+            xready: bit_left(self.xready, v, weight::XREADY),
+            ovrd_alert: bit_left(self.ovrd_alert, v, weight::OVRD_ALERT),
+            uv: bit_left(self.uv, v, weight::UV),
+            ov: bit_left(self.ov, v, weight::OV),
+            scd: bit_left(self.scd, v, weight::SCD),
+            ocd: bit_left(self.ocd, v, weight::OCD),
         }
     }
 }
 
 impl Shown {
-    fn cleared(self, v: u8) -> Self
+    fn cleared(mut self, v: u8) -> Self
         ensures { λ r. ⌜ r ≡ withStatus (without (statusOf v) (self .status)) self ⌝ }
     {
-        let status = self.status;
-        let status = status.less(v);
-        Shown { status, ..self }
+        self.status = self.status.less(v);
+        self
     }
 
-    fn driven(self, v: u8) -> Self
+    fn driven(mut self, v: u8) -> Self
         ensures { λ r. ⌜ r ≡ driven v self ⌝ }
     {
-        let s = self.status;
-        let dsg_on = bits::bit(v, weight::DSG_ON)
-            & !(s.uv | s.ocd | s.scd | s.ovrd_alert | s.xready);
-        let chg_on = bits::bit(v, weight::CHG_ON) & !(s.ov | s.ovrd_alert | s.xready);
-        let cc_oneshot = bits::bit(v, weight::CC_ONESHOT)
-            & !bits::bit(v, weight::CC_EN)
-            & !s.cc_ready;
-        Shown {
-            cc_oneshot,
-            dsg_on,
-            chg_on,
-            ..self
-        }
+        let dsg_on = bits::bit(v, weight::DSG_ON) & !self.status.holds_dsg();
+        let chg_on = bits::bit(v, weight::CHG_ON) & !self.status.holds_chg();
+        let cc_oneshot = bit_left(bits::bit(v, weight::CC_ONESHOT), v, weight::CC_EN);
+        let cc_oneshot = cc_oneshot & !self.status.cc_ready;
+        self.dsg_on = dsg_on;
+        self.chg_on = chg_on;
+        self.cc_oneshot = cc_oneshot;
+        self
     }
 
     pub fn write(self, a: u8, v: u8) -> Self
@@ -124,41 +140,31 @@ impl Shown {
     }
 
     // Each fault that rises puts off its drive.
-    pub fn raised(self, rise: Faults) -> Self
+    pub fn raised(mut self, rise: Faults) -> Self
         ensures { λ r. ⌜ r ≡ raisedSpec (among rise) self ⌝ }
     {
-        let s = self.status;
-        let status = Status {
-            uv: rise.uv | s.uv,
-            ov: rise.ov | s.ov,
-            scd: rise.scd | s.scd,
-            ocd: rise.ocd | s.ocd,
-            ..s
-        };
+        let uv = rise.uv | self.status.uv;
+        self.status.uv = uv;
+        let ov = rise.ov | self.status.ov;
+        self.status.ov = ov;
+        let scd = rise.scd | self.status.scd;
+        self.status.scd = scd;
+        let ocd = rise.ocd | self.status.ocd;
+        self.status.ocd = ocd;
         let dsg_on = !(rise.uv | rise.scd | rise.ocd) & self.dsg_on;
+        self.dsg_on = dsg_on;
         let chg_on = !rise.ov & self.chg_on;
-        Shown {
-            status,
-            dsg_on,
-            chg_on,
-            ..self
-        }
+        self.chg_on = chg_on;
+        self
     }
 
-    fn overridden(self) -> Self
+    fn overridden(mut self) -> Self
         ensures { λ r. ⌜ r ≡ overriddenSpec self ⌝ }
     {
-        let s = self.status;
-        let status = Status {
-            ovrd_alert: true,
-            ..s
-        };
-        Shown {
-            status,
-            dsg_on: false,
-            chg_on: false,
-            ..self
-        }
+        self.status.ovrd_alert = true;
+        self.dsg_on = false;
+        self.chg_on = false;
+        self
     }
 
     // ALERT pulled up from outside, or not: OVRD_ALERT rises only with SYS_STAT 0.
@@ -168,64 +174,43 @@ impl Shown {
         if !level {
             return self;
         }
-        let status = self.status;
-        if status.alert() {
+        if self.status.alert() {
             return self;
         }
         self.overridden()
     }
 
-    fn readied(self) -> Self
+    fn readied(mut self) -> Self
         ensures { λ r. ⌜ r ≡ readiedSpec self ⌝ }
     {
-        let s = self.status;
-        let status = Status { xready: true, ..s };
-        Shown {
-            status,
-            dsg_on: false,
-            chg_on: false,
-            ..self
-        }
+        self.status.xready = true;
+        self.dsg_on = false;
+        self.chg_on = false;
+        self
     }
 
-    fn counting(self) -> Self
+    fn counting(mut self) -> Self
         ensures { λ r. ⌜ r ≡ countingSpec self ⌝ }
     {
-        let s = self.status;
-        let status = Status {
-            cc_ready: true,
-            ..s
-        };
-        Shown {
-            status,
-            cc_oneshot: false,
-            ..self
-        }
+        self.status.cc_ready = true;
+        self.cc_oneshot = false;
+        self
     }
 }
 
 impl Cellbal {
-    pub fn write(self, setup: Setup, a: u8, v: u8) -> Self
+    pub fn write(mut self, setup: Setup, a: u8, v: u8) -> Self
         ensures { λ r. ⌜ r ≡ cellbalWith setup a v self ⌝ }
     {
-        let groups = setup.groups();
-        if (a == address::CELLBAL1) & (1 <= groups) {
-            return Cellbal {
-                cellbal1: v % 32,
-                ..self
-            };
+        // The address of each is the number of its group.
+        if setup.groups() < a {
+            return self;
         }
-        if (a == address::CELLBAL2) & (2 <= groups) {
-            return Cellbal {
-                cellbal2: v % 32,
-                ..self
-            };
-        }
-        if (a == address::CELLBAL3) & (3 <= groups) {
-            return Cellbal {
-                cellbal3: v % 32,
-                ..self
-            };
+        match a {
+            address::CELLBAL1 => self.cellbal1 = v % 32,
+            address::CELLBAL2 => self.cellbal2 = v % 32,
+            address::CELLBAL3 => self.cellbal3 = v % 32,
+            _ => {}
         }
         self
     }
@@ -278,20 +263,16 @@ impl Registers {
     pub fn write(mut self, setup: Setup, a: u8, v: u8) -> Self
         ensures { λ r. ⌜ r ≡ written setup a v self ⌝ }
     {
-        let settings = self.settings;
-        let shown = self.shown;
-        let cellbal = self.cellbal;
-        self.settings = settings.write(a, v);
-        self.cellbal = cellbal.write(setup, a, v);
-        self.shown = shown.write(a, v);
+        self.settings = self.settings.write(a, v);
+        self.cellbal = self.cellbal.write(setup, a, v);
+        self.shown = self.shown.write(a, v);
         self
     }
 
     pub fn raised(mut self, rise: Faults) -> Self
         ensures { λ r. ⌜ r ≡ withShown (raisedSpec (among rise) (self .shown)) self ⌝ }
     {
-        let shown = self.shown;
-        self.shown = shown.raised(rise);
+        self.shown = self.shown.raised(rise);
         self
     }
 
@@ -300,97 +281,77 @@ impl Registers {
         ensures { λ r. ⌜ r ≡ scanKept cells sum self ⌝ }
     {
         if self.settings.adc_en {
-            let m = self.measured;
-            let bat = (sum / 4 % 65536) as u16;
-            let measured = Measured { cells, bat, ..m };
-            self.measured = measured;
+            let mut m = self.measured;
+            m.cells = cells;
+            m.bat = (sum / 4 % 65536) as u16;
+            self.measured = m;
         }
         self
     }
 
     // TEMP: the counts in their places.
-    pub fn warmed(self, ts: [u16; 3]) -> Self
+    pub fn warmed(mut self, ts: [u16; 3]) -> Self
         ensures { λ r. ⌜ r ≡ tempKept ts self ⌝ }
     {
         if self.settings.adc_en {
-            let m = self.measured;
-            let measured = Measured { ts, ..m };
-            return Registers { measured, ..self };
+            let mut m = self.measured;
+            m.ts = ts;
+            self.measured = m;
         }
         self
     }
 
     // COUNT.
-    pub fn coulombs(self, cc: u16) -> Self
+    pub fn coulombs(mut self, cc: u16) -> Self
         ensures { λ r. ⌜ r ≡ coulombsSpec cc self ⌝ }
     {
         if self.settings.cc_en | self.shown.cc_oneshot {
-            let m = self.measured;
-            let measured = Measured { cc, ..m };
-            let shown = self.shown;
-            let shown = shown.counting();
-            return Registers {
-                shown,
-                measured,
-                ..self
-            };
+            self.measured.cc = cc;
+            self.shown = self.shown.counting();
         }
         self
     }
 
     // PIN.
-    pub fn pulled(self) -> Self
+    pub fn pulled(mut self) -> Self
         ensures { λ r. ⌜ r ≡ pulledSpec self ⌝ }
     {
-        let shown = self.shown;
-        let shown = shown.pressed(true);
-        Registers { shown, ..self }
+        self.shown = self.shown.pressed(true);
+        self
     }
 
     // XREADY.
-    pub fn unready(self) -> Self
+    pub fn unready(mut self) -> Self
         ensures { λ r. ⌜ r ≡ unreadySpec self ⌝ }
     {
-        let shown = self.shown;
-        let shown = shown.readied();
-        let cellbal = Cellbal {
-            cellbal1: 0,
-            cellbal2: 0,
-            cellbal3: 0,
-        };
-        Registers {
-            shown,
-            cellbal,
-            ..self
-        }
+        self.shown = self.shown.readied();
+        self.cellbal.cellbal1 = 0;
+        self.cellbal.cellbal2 = 0;
+        self.cellbal.cellbal3 = 0;
+        self
     }
 
     // LOAD.
-    pub fn loaded(self, load: bool) -> Self
+    pub fn loaded(mut self, load: bool) -> Self
         ensures { λ r. ⌜ r ≡ withLoadLevel load self ⌝ }
     {
-        Registers {
-            load_level: load,
-            ..self
-        }
+        self.load_level = load;
+        self
     }
 
     // The outside level.
-    pub fn leveled(self, outside: bool) -> Self
+    pub fn leveled(mut self, outside: bool) -> Self
         ensures { λ r. ⌜ r ≡ withOutsideLevel outside self ⌝ }
     {
-        Registers {
-            outside_level: outside,
-            ..self
-        }
+        self.outside_level = outside;
+        self
     }
 
     // What the outside level does after an event.
     pub fn pulled_by_level(mut self) -> Self
         ensures { λ r. ⌜ r ≡ pulledByLevelSpec self ⌝ }
     {
-        let shown = self.shown;
-        self.shown = shown.pressed(self.outside_level);
+        self.shown = self.shown.pressed(self.outside_level);
         self
     }
 }

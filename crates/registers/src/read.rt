@@ -29,17 +29,16 @@ impl Cellbal {
     fn byte(self, setup: Setup, a: u8) -> u8
         ensures { λ r. ⌜ r ≡ cellbalByte setup self a ⌝ }
     {
-        let groups = setup.groups();
-        if (a == address::CELLBAL1) & (1 <= groups) {
-            return self.cellbal1 % 32;
+        // The address of each is the number of its group.
+        if setup.groups() < a {
+            return 0;
         }
-        if (a == address::CELLBAL2) & (2 <= groups) {
-            return self.cellbal2 % 32;
+        match a {
+            address::CELLBAL1 => self.cellbal1 % 32,
+            address::CELLBAL2 => self.cellbal2 % 32,
+            address::CELLBAL3 => self.cellbal3 % 32,
+            _ => 0,
         }
-        if (a == address::CELLBAL3) & (3 <= groups) {
-            return self.cellbal3 % 32;
-        }
-        0
     }
 }
 
@@ -108,32 +107,27 @@ impl Registers {
     fn ctrl1(self) -> u8
         ensures { λ r. ⌜ r ≡ ctrl1Byte self ⌝ }
     {
-        let s = self.settings;
         bits::weigh(self.load_level & !self.shown.chg_on, weight::LOAD_PRESENT)
-            + bits::weigh(s.adc_en, weight::ADC_EN)
-            + bits::weigh(s.temp_sel, weight::TEMP_SEL)
-            + bits::weigh(s.shut_b, weight::SHUT_B)
+            + bits::weigh(self.settings.adc_en, weight::ADC_EN)
+            + bits::weigh(self.settings.temp_sel, weight::TEMP_SEL)
+            + bits::weigh(self.settings.shut_b, weight::SHUT_B)
     }
 
     fn ctrl2(self) -> u8
         ensures { λ r. ⌜ r ≡ ctrl2Byte self ⌝ }
     {
-        let s = self.settings;
-        let shown = self.shown;
-        bits::weigh(s.delay_dis, weight::DELAY_DIS)
-            + bits::weigh(s.cc_en, weight::CC_EN)
-            + bits::weigh(shown.cc_oneshot, weight::CC_ONESHOT)
-            + bits::weigh(shown.dsg_on, weight::DSG_ON)
-            + bits::weigh(shown.chg_on, weight::CHG_ON)
+        bits::weigh(self.settings.delay_dis, weight::DELAY_DIS)
+            + bits::weigh(self.settings.cc_en, weight::CC_EN)
+            + bits::weigh(self.shown.cc_oneshot, weight::CC_ONESHOT)
+            + bits::weigh(self.shown.dsg_on, weight::DSG_ON)
+            + bits::weigh(self.shown.chg_on, weight::CHG_ON)
     }
 
     fn control_byte(self, setup: Setup, a: u8) -> u8
         ensures { λ r. ⌜ r ≡ controlByte setup self a ⌝ }
     {
         if a == address::SYS_STAT {
-            let shown = self.shown;
-            let status = shown.status;
-            return status.byte();
+            return self.shown.status.byte();
         }
         if a == address::SYS_CTRL1 {
             return self.ctrl1();
@@ -142,11 +136,9 @@ impl Registers {
             return self.ctrl2();
         }
         if a < address::SYS_CTRL1 {
-            let cellbal = self.cellbal;
-            return cellbal.byte(setup, a);
+            return self.cellbal.byte(setup, a);
         }
-        let settings = self.settings;
-        settings.byte(a)
+        self.settings.byte(a)
     }
 
     // What IN is told of any address.
@@ -158,8 +150,7 @@ impl Registers {
             return Pair { here, low: 0 };
         }
         if a < address::AFTER_CC {
-            let measured = self.measured;
-            let word = measured.word(setup, a);
+            let word = self.measured.word(setup, a);
             let here = half_of(a, word);
             return Pair {
                 here,

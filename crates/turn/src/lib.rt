@@ -83,10 +83,9 @@ pub fn numbered(number: u8, chip: Chip) -> Stepped
 fn entry_of(s: Stepped) -> Entry
     ensures { λ r. ⌜ r ≡ entryOf s ⌝ }
 {
-    let chip = s.chip;
     let flag = bits::weigh(s.flag, 1);
-    let stat = chip.status();
-    let pins = chip.pins();
+    let stat = s.chip.status();
+    let pins = s.chip.pins();
     Entry {
         number: s.number,
         flag,
@@ -126,16 +125,15 @@ pub fn told(step: Stepped, fresh: bool, next: usize, last: bool) -> Turned
 pub fn turn(chip: Chip, fresh: bool, rest: &[u8]) -> Turned
     ensures { λ r. ⌜ asTurn r ≡ turnOf fresh chip (now (rest .entry)) ⌝ }
 {
-    let setup = chip.setup;
-    match records::read_rest(rest, setup.part) {
+    match records::read_rest(rest, chip.setup.part) {
         Read::Cut => told(numbered(number::CUT, chip), fresh, 0, true),
         Read::Refused { number, next } => {
-            told(numbered(number, chip), fresh, next, setup.part == 0)
+            told(numbered(number, chip), fresh, next, chip.setup.part == 0)
         }
         Read::Record { event, next } => {
             let counts = records::counts_in(event, &rest[size::HEADER..next]);
             let step = act(chip, fresh, event, counts);
-            let stays = (setup.part == 0) | (fresh & (step.number != number::DONE));
+            let stays = (chip.setup.part == 0) | (fresh & (step.number != number::DONE));
             told(step, stays, next, false)
         }
     }

@@ -14,10 +14,10 @@ returns c = asleep-number (c .before .before .args .chip) (not-true _ (c .if1 .t
 -- the chip, which is normal, and what its connected cells hold
 module _ (l : tie.After-link) where
   abbrev chip : Chip
-  chip = l .before .before .before .before .before .before .before .args .chip
+  chip = l .before .before .before .before .args .chip
 
   normal : chip .normal ≡ true
-  normal = not-false _ (l .before .before .before .before .before .if1 .left)
+  normal = not-false _ (l .before .before .if1 .left)
 
 returns-2 : tie.Need-returns-2
 returns-2 c = let l = c .before .before in none-number (chip l) (l .link .result) (l .link .ensures) (normal l) (c .if2 .taken)

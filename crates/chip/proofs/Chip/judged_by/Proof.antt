@@ -11,8 +11,8 @@ use Rattle.chip.proofs.Chip.judged_by.Tie as tie
 
 returns : tie.Need-returns
 returns c =
-    let j = c .before .before .before in
-    let a = j .before .before .before in
+    let j = c .before .before in
+    let a = j .before in
     c .raised .ensures
     ∙ ap (λ (j : Judged). tickedBy j (a .args .self)) (j .ticked .ensures ∙ ap (λ v. ticksJudged (a .args .repeat) (a .args .self .registers .settings) v (a .args .self .runs)) (toZ-ofZ {w = w32} (a .fits .value)))
 

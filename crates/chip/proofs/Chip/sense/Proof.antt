@@ -29,7 +29,7 @@ returns-2 c =
 returns-3 : tie.Need-returns-3
 unfolding fits
 returns-3 c =
-    let j = c .before .before .before .before in
+    let j = c .before .before .before in
     let i = j .before .before .before in
     let l = i .before in
     let a = l .before in

@@ -8,7 +8,7 @@ use Rattle.chip.proofs.Chip.sensed.Statement.{statement}
 use Rattle.chip.proofs.Chip.sensed.Tie as tie
 
 returns : tie.Need-returns
-returns c = let a = c .before .before .before .args in c .sensed .ensures ∙ ap (λ v. tickJudged (a .self .registers .settings) v (a .self .runs)) (toZ-ofZ {w = w32} (c .before .before .before .fits .value))
+returns c = let a = c .before .args in c .sensed .ensures ∙ ap (λ v. tickJudged (a .self .registers .settings) v (a .self .runs)) (toZ-ofZ {w = w32} (c .before .fits .value))
 
 pub sensed-spec : {M : Type 1} → statement M
 sensed-spec = tie.close (tie.spec (λ c κs. search needs) returns)

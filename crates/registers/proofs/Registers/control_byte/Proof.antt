@@ -7,7 +7,7 @@ use Rattle.registers.proofs.Registers.control_byte.Tie as tie
 
 returns : tie.Need-returns
 unfolding controlByte
-returns c = simp (eq-eqb _ _ (c .before .before .before .if1 .taken), c .byte .ensures)
+returns c = simp (eq-eqb _ _ (c .before .if1 .taken), c .byte .ensures)
 
 returns-2 : tie.Need-returns-2
 unfolding controlByte
@@ -19,11 +19,11 @@ returns-3 c = simp (ne-eqb _ _ (c .before .before .before .if1 .left), ne-eqb _ 
 
 returns-4 : tie.Need-returns-4
 unfolding controlByte
-returns-4 c = simp (ne-eqb _ _ (c .before .before .before .before .before .if1 .left), ne-eqb _ _ (c .before .before .before .before .if2 .left), ne-eqb _ _ (c .before .before .before .if3 .left), lt-ltb _ _ (c .before .before .if4 .taken), c .byte2 .ensures)
+returns-4 c = simp (ne-eqb _ _ (c .before .before .before .before .if1 .left), ne-eqb _ _ (c .before .before .before .if2 .left), ne-eqb _ _ (c .before .before .if3 .left), lt-ltb _ _ (c .before .if4 .taken), c .byte2 .ensures)
 
 returns-5 : tie.Need-returns-5
 unfolding controlByte
-returns-5 c = simp (ne-eqb _ _ (c .before .before .before .before .before .if1 .left), ne-eqb _ _ (c .before .before .before .before .if2 .left), ne-eqb _ _ (c .before .before .before .if3 .left), le-ltb _ _ (c .before .before .if4 .left), c .byte3 .ensures)
+returns-5 c = simp (ne-eqb _ _ (c .before .before .before .before .if1 .left), ne-eqb _ _ (c .before .before .before .if2 .left), ne-eqb _ _ (c .before .before .if3 .left), le-ltb _ _ (c .before .if4 .left), c .byte3 .ensures)
 
 pub control-byte-spec : {M : Type 1} → statement M
 control-byte-spec =

@@ -4,7 +4,7 @@ use Rattle.registers.proofs.Registers.coulombs.Statement.{statement}
 use Rattle.registers.proofs.Registers.coulombs.Tie as tie
 
 returns : tie.Need-returns
-returns c = simp (c .before .before .before .before .before .before .before .if1 .taken, c .before .before .counting .ensures)
+returns c = simp (c .before .before .if1 .taken, c .counting .ensures)
 
 returns-2 : tie.Need-returns-2
 returns-2 c = simp (c .if1 .left)

@@ -11,7 +11,7 @@ returns c = simp (lt-ltb _ _ (c .before .if1 .taken), c .control-byte .ensures)
 
 returns-2 : tie.Need-returns-2
 unfolding readAt pairAt
-returns-2 c = simp (le-ltb _ _ (c .before .before .before .before .if1 .left), lt-ltb _ _ (c .before .before .before .if2 .taken), c .half-of .ensures, c .before .word .ensures)
+returns-2 c = simp (le-ltb _ _ (c .before .before .before .if1 .left), lt-ltb _ _ (c .before .before .if2 .taken), c .half-of .ensures, c .before .word .ensures)
 
 returns-3 : tie.Need-returns-3
 unfolding readAt pairAt

@@ -4,7 +4,7 @@ use Rattle.registers.proofs.Registers.scanned.Statement.{statement}
 use Rattle.registers.proofs.Registers.scanned.Tie as tie
 
 returns : tie.Need-returns
-returns c = simp (c .before .before .if1 .taken)
+returns c = simp (c .before .if1 .taken)
 
 returns-2 : tie.Need-returns-2
 returns-2 c = simp (c .if1 .left)

@@ -4,12 +4,14 @@ use Rattle.registers.proofs.Shown.driven.Statement.{statement}
 use Rattle.registers.proofs.Shown.driven.Tie as tie
 
 returns : tie.Need-returns
-returns c = simp (c .before .before .bit4 .ensures, c .before .before .before .bit3 .ensures, c .before .before .before .before .before .before .bit2 .ensures, c .before .before .before .before .before .before .before .before .before .before .before .bit .ensures)
+returns c = cc
 
 pub driven-spec : {M : Type 1} → statement M
 driven-spec =
     tie.close
     (tie.spec
+    (λ c κs. search needs)
+    (λ c κs. search needs)
     (λ c κs. search needs)
     (λ c κs. search needs)
     (λ c κs. search needs)
