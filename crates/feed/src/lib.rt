@@ -1,11 +1,13 @@
 // Records fed to a chip that the caller keeps as bytes.
 ghost use mathlib.Core.Path.{_≡_};
 ghost use mathlib.Core.Bool.{true};
-ghost use Prim.Native.Nat.{_≤_};
+ghost use Prim.Native.Nat.{_*_, _≤_};
+ghost use lib.Dec.{leb};
 ghost use lib.ListN.{length};
-ghost use Rattle.constants.specs.Size.{«KEPT_CHIP»};
+ghost use Rattle.constants.specs.Size.{ENTRY, «KEPT_CHIP»};
 ghost use Rattle.chip_bytes_layout.specs.Layout.{goodOf};
 ghost use Rattle.feed.specs.Fed.{Fed};
+use chip_bytes_layout::place;
 use constants::answer;
 use constants::size;
 
@@ -15,21 +17,26 @@ mod alone;
 // its loop apart from what one record takes.
 const ONE_MOST: usize = size::HEADER + size::PAYLOAD_MOST;
 
+// Whether so many bytes hold an entry of every record.
+fn holds(room: usize, n: usize) -> bool
+    ensures { λ r. ⌜ r ≡ leb (ENTRY * n) room ⌝ }
+{
+    n <= room / size::ENTRY
+}
+
 // Records played on a chip that bytes keep: read from them, and written again.
 fn played(chip: &mut [u8], records: &[u8], entries: &mut [u8]) -> i64
     requires { ⌜ («KEPT_CHIP» ≤ length (now chip)) × (goodOf (now chip) ≡ true) ⌝ }
     ensures { λ r. ⌜ Fed (now (chip .entry)) (now (records .entry)) (now (entries .entry)) r (now (chip .exit)) (now (entries .exit)) ⌝ }
 {
-    let stood = chip_bytes::chip_of(&chip[..]);
-    let fresh = chip_bytes::fresh_of(&chip[..]);
-    let setup = stood.setup;
-    let n = stream_count::count_from(setup.part, records);
-    if entries.len() / size::ENTRY < n {
+    let n = stream_count::count_from(chip[place::PART], records);
+    if !holds(entries.len(), n) {
         return answer::NO_ROOM;
     }
+    let stood = chip_bytes::chip_of(&chip[..]);
+    let fresh = chip_bytes::fresh_of(&chip[..]);
     let left = stream_run::run_from(stood, fresh, records, entries);
-    let after = left.chip;
-    chip_bytes_write::encode(after, left.fresh, chip);
+    chip_bytes_write::encode(left.chip, left.fresh, chip);
     n as i64
 }
 
