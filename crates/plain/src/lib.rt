@@ -2,7 +2,7 @@
 // it and decides from them (CHIP J9, J10, H1 and H2): the bit of a fault is due where this record says yes, and it and those in a row before it
 // that said yes are as many as the delay asks for.
 //
-// Its own are that decision, in plain_due, and the look back, in plain_back and plain_moves. It shares with the base engine how a record is read
+// Its own are that decision, in plain_due, and the look back, in plain_back. It shares with the base engine how a record is read
 // (records); thresholds and delays by their codes, and which count or value is beyond one (limits, cell_counts); where counts are stored, what a bit
 // that rises puts off, and the outside level (registers); every record that is no scan and no tick, in the look back too (turn, chip); an entry's
 // bytes (turn), and how many entries there are (stream).

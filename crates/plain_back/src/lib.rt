@@ -1,10 +1,14 @@
 // CHIP P11: what the records lent so far say of the four faults, found by walking them from the first on. Nothing is kept between two
 // calls. Each scan or tick says yes or no by the settings that stand when it comes; what moves these, and the mode, is any other record, which
-// is done as the base engine does it, by `chip` (plain_moves).
+// is done as the base engine does it, by `chip`.
 ghost use mathlib.Core.Path.{_≡_};
+ghost use mathlib.Core.Bool.{cond};
 ghost use Prim.Native.Nat.{_≤_, _^_};
 ghost use lib.ListN.{length, take};
 ghost use Rattle.events.specs.Setup.{inputs};
+ghost use Rattle.chip.specs.Core.{coreOf, bare};
+ghost use Rattle.plain_due.specs.Streaks.{noStreaks};
+ghost use Rattle.plain_back.specs.Moved.{movedBy};
 ghost use Rattle.plain_back.specs.Said.{streaksIn, saidBack, backSaid};
 ghost use Rattle.plain_back.specs.Walk.{Small, goesOn, scanSaid, ticksSaid, scannedBy, tickedBy, walkedBy, passedOn, TickIn};
 use chip::Chip;
@@ -14,10 +18,15 @@ use events::Counts;
 use events::Event;
 use events::Setup;
 use plain_due::Streaks;
-use plain_moves::Walk;
 use records::Framed;
 use records::Payload;
 use records::Read;
+
+// What is carried from record to record: a chip that has its mode, the bus's line and the settings alone, and what was said so far.
+pub struct Walk {
+    pub chip: Chip,
+    pub said: Streaks,
+}
 
 pub enum Back {
     Is(Streaks),
@@ -98,6 +107,43 @@ fn ticked(walk: Walk, value: i32, more: u32) -> Walk
     Walk { chip, said }
 }
 
+// The mode, the line and the settings of a chip, and nothing else of it.
+fn bared(chip: Chip) -> Chip
+    ensures { λ r. ⌜ r ≡ bare (chip .setup) (coreOf chip) ⌝ }
+{
+    let mut ship = chip::in_ship(chip.setup);
+    let heard = chip.bus;
+    let line = heard.line;
+    let mut bus = ship.bus;
+    bus.line = line;
+    let stored = chip.registers;
+    let settings = stored.settings;
+    let mut registers = ship.registers;
+    registers.settings = settings;
+    ship.normal = chip.normal;
+    ship.bus = bus;
+    ship.registers = registers;
+    ship
+}
+
+// What was said stands in NORMAL alone: SHIP ends the spell.
+fn said_in(normal: bool, said: Streaks) -> Streaks
+    ensures { λ r. ⌜ r ≡ cond normal said noStreaks ⌝ }
+{
+    if normal { said } else { plain_due::none_said() }
+}
+
+// Any other event moves the mode, the line and the settings, and says nothing.
+fn moved(walk: Walk, event: Event, counts: Counts) -> Walk
+    ensures { λ r. ⌜ r ≡ movedBy event counts walk ⌝ }
+{
+    let chip = walk.chip;
+    let step = chip.step(event, counts);
+    let chip = bared(step.chip);
+    let said = said_in(chip.normal, walk.said);
+    Walk { chip, said }
+}
+
 // A record that was read. A second SETUP is never read, and a wiring record moves none of this.
 fn walked(walk: Walk, event: Event, counts: Counts) -> Walk
     requires { ⌜ Small (walk .said) ⌝ }
@@ -117,7 +163,7 @@ fn walked(walk: Walk, event: Event, counts: Counts) -> Walk
         | Event::Load(_)
         | Event::Xready
         | Event::OnBus(_)
-        | Event::Level(_) => plain_moves::moved(walk, event, counts),
+        | Event::Level(_) => moved(walk, event, counts),
     }
 }
 

@@ -11,7 +11,7 @@ use Rattle.events.specs.declared.Event.{Event}
 use Rattle.events.specs.declared.Event.the-variants.{Sense}
 use Rattle.records.specs.declared.Read.the-variants.{Record}
 use Rattle.records.specs.Record.{readOf}
-use Rattle.plain_moves.specs.declared.Walk.{Walk}
+use Rattle.plain_back.specs.declared.Walk.{Walk}
 use Rattle.plain_back.specs.Walk.{Small, TickIn, ticksSaid, passedOn}
 use Rattle.plain_back.proofs.Cases.{tickPassed, tick-passes, tick-far}
 use Rattle.plain_back.proofs.Loop.{Walking, walking-first, said-none, first-other, walking-end, walking-cut, walking-more, walking-place}
