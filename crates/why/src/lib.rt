@@ -4,20 +4,69 @@ ghost use Prim.Native.Nat.{_*_, _<_, _≤_, _^_};
 ghost use lib.ListN.{length};
 ghost use lib.Seq.{sets};
 ghost use Rattle.writer.specs.Write.{wordBytes};
-ghost use Rattle.why_rise.specs.Rise.{risen, searched, Few};
+ghost use Rattle.why.specs.Rise.{isSuch, roseOn, searchedOn, risen, searched, Few};
 ghost use Rattle.why.specs.Why.{leastOf, whyOf, Explained};
 ghost use Rattle.why.specs.Off.{Held};
 use constants::answer;
 use constants::size;
-use why_rise::Found;
-use why_rise::Rose;
 use why_rows::Why;
+use why_walk::Standing;
+
+// The record at which what is asked about came to be so, the last time; where the stream stood before it, and where it stands.
+pub struct Rose {
+    pub rose: u64,
+    pub stood: Standing,
+    pub last: Standing,
+}
+
+// The last record before which the streak was no longer than some, and where the stream stands.
+pub struct Found {
+    pub first: u64,
+    pub place: Standing,
+}
 
 // Streams that are longer are refused by `toralinge_why`: its streaks are counted in 64 bits.
 const STREAM_MOST: usize = 4294967295;
 
 // No record.
 const NEVER: u64 = 18446744073709551615;
+
+// Whether a bit of SYS_STAT is up; of no bit, whether a drive is off.
+fn is_such(at: Standing, bit: u8, drive: u8) -> bool
+    ensures { λ r. ⌜ r ≡ isSuch bit drive at ⌝ }
+{
+    if bit == 0 {
+        return !bits::bit(at.pins, drive);
+    }
+    bits::bit(at.stat, bit)
+}
+
+// One record more.
+fn rose_on(mut from: Rose, n: u64, next: Standing, bit: u8, drive: u8) -> Rose
+    ensures { λ r. ⌜ r ≡ roseOn bit drive n next from ⌝ }
+{
+    let last = from.last;
+    let now_such = is_such(next, bit, drive);
+    let was_such = is_such(last, bit, drive);
+    if now_such & !was_such {
+        from.rose = n;
+        from.stood = last;
+    }
+    from.last = next;
+    from
+}
+
+// One record more.
+fn searched_on(mut from: Found, n: u64, next: Standing, least: u64) -> Found
+    ensures { λ r. ⌜ r ≡ searchedOn least n next from ⌝ }
+{
+    let place = from.place;
+    if place.streak <= least {
+        from.first = n;
+    }
+    from.place = next;
+    from
+}
 
 // Over the first `many` records.
 fn rise(s: &[u8], many: u64, bit: u8, drive: u8) -> Rose
@@ -33,7 +82,7 @@ fn rise(s: &[u8], many: u64, bit: u8, drive: u8) -> Rose
     let mut n = 0u64;
     while n < many {
         let next = why_walk::advance(s, found.last, bit);
-        found = why_rise::rose_on(found, n, next, bit, drive);
+        found = rose_on(found, n, next, bit, drive);
         n = n + 1;
     }
     found
@@ -52,7 +101,7 @@ fn search(s: &[u8], many: u64, bit: u8, least: u64) -> Found
     let mut n = 0u64;
     while n < many {
         let next = why_walk::advance(s, found.place, bit);
-        found = why_rise::searched_on(found, n, next, least);
+        found = searched_on(found, n, next, least);
         n = n + 1;
     }
     found
