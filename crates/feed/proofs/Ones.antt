@@ -35,7 +35,6 @@ use Rattle.chip.specs.Calm.{Calmed}
 use Rattle.turn.specs.declared.Entry.{Entry}
 use Rattle.turn.specs.Turn.{Turn, acted, staysFresh, turn, turnOf, entryOf}
 use Rattle.turn.specs.Entries.{runs, stands, stays, entriesFrom, chipFrom, freshFrom, bytesOf}
-use Rattle.turn.specs.Frames.{framesFrom}
 use Rattle.stream_run.proofs.Steps.{other-is, done-turn}
 use Rattle.chip_bytes_layout.specs.declared.Kept.{Kept}
 use Rattle.chip_bytes_layout.specs.Layout.{keeps, keptOf, goodOf, chipOf, freshOf, keptIn}
@@ -310,9 +309,6 @@ good-calm b {c} g e = kept-calm b (keeps c (freshOf b)) (ap (λ (c : Chip). keep
 
 pub good-kept : (b : List ℕ) {c : Chip} {f : Bool} → goodOf b ≡ true → c ≡ chipOf b → f ≡ freshOf b → keeps c f ≡ keptOf b
 good-kept b g e p = ap₂ keeps e p ∙ sym (good-keeps b g)
-
-pub good-count : (b s : List ℕ) {c : Chip} {n : ℕ} → 96 ≤ length b → c ≡ chipOf b → n ≡ framesFrom (getD b 1 0) s → n ≡ framesFrom (c .setup .part) s
-good-count b s room e h = h ∙ ap (λ (p : ℕ). framesFrom p s) (sym (ap (λ (c : Chip). c .setup .part) e ∙ part-of b room))
 
 pub up : (t : Bool) → not t ≡ false → t ≡ true
 up true h = refl

@@ -2,12 +2,11 @@
 ghost use mathlib.Core.Path.{_≡_};
 ghost use mathlib.Core.Bool.{true};
 ghost use Prim.Native.Nat.{_*_, _≤_};
-ghost use lib.Dec.{leb};
+ghost use lib.Dec.{ltb};
 ghost use lib.ListN.{length};
 ghost use Rattle.constants.specs.Size.{ENTRY, «KEPT_CHIP»};
 ghost use Rattle.chip_bytes_layout.specs.Layout.{goodOf};
 ghost use Rattle.feed.specs.Fed.{Fed};
-use chip_bytes_layout::place;
 use constants::answer;
 use constants::size;
 
@@ -17,11 +16,11 @@ mod alone;
 // its loop apart from what one record takes.
 const ONE_MOST: usize = size::HEADER + size::PAYLOAD_MOST;
 
-// Whether so many bytes hold an entry of every record.
-fn holds(room: usize, n: usize) -> bool
-    ensures { λ r. ⌜ r ≡ leb (ENTRY * n) room ⌝ }
+// Whether so many bytes are too few for an entry of every record.
+fn lacks(room: usize, n: usize) -> bool
+    ensures { λ r. ⌜ r ≡ ltb room (ENTRY * n) ⌝ }
 {
-    n <= room / size::ENTRY
+    room / size::ENTRY < n
 }
 
 // Records played on a chip that bytes keep: read from them, and written again.
@@ -29,14 +28,16 @@ fn played(chip: &mut [u8], records: &[u8], entries: &mut [u8]) -> i64
     requires { ⌜ («KEPT_CHIP» ≤ length (now chip)) × (goodOf (now chip) ≡ true) ⌝ }
     ensures { λ r. ⌜ Fed (now (chip .entry)) (now (records .entry)) (now (entries .entry)) r (now (chip .exit)) (now (entries .exit)) ⌝ }
 {
-    let n = stream_count::count_from(chip[place::PART], records);
-    if !holds(entries.len(), n) {
-        return answer::NO_ROOM;
-    }
     let stood = chip_bytes::chip_of(&chip[..]);
     let fresh = chip_bytes::fresh_of(&chip[..]);
+    let setup = stood.setup;
+    let n = stream_count::count_from(setup.part, records);
+    if lacks(entries.len(), n) {
+        return answer::NO_ROOM;
+    }
     let left = stream_run::run_from(stood, fresh, records, entries);
-    chip_bytes_write::encode(left.chip, left.fresh, chip);
+    let after = left.chip;
+    chip_bytes_write::encode(after, left.fresh, chip);
     n as i64
 }
 
