@@ -10,7 +10,7 @@ ghost use Rattle.chip.specs.Core.{coreOf, bare};
 ghost use Rattle.plain_due.specs.Streaks.{noStreaks};
 ghost use Rattle.plain_back.specs.Moved.{movedBy};
 ghost use Rattle.plain_back.specs.Said.{streaksIn, saidBack, backSaid};
-ghost use Rattle.plain_back.specs.Walk.{Small, goesOn, scanSaid, ticksSaid, scannedBy, tickedBy, walkedBy, passedOn, TickIn};
+ghost use Rattle.plain_back.specs.Walk.{Small, goesOn, scanSaid, ticksSaid, walkedBy, passedOn, TickIn};
 use chip::Chip;
 use constants::kind;
 use constants::range;
@@ -88,25 +88,6 @@ fn ticks_said(chip: Chip, value: i32, more: u32, said: Streaks) -> Streaks
     Streaks { scd, ocd, ..said }
 }
 
-fn scanned(walk: Walk, counts: Counts) -> Walk
-    requires { ⌜ Small (walk .said) ⌝ }
-    ensures { λ r. ⌜ r ≡ scannedBy counts walk ⌝ }
-{
-    let chip = walk.chip;
-    let of = counts.of;
-    let said = scan_said(chip, of, walk.said);
-    Walk { chip, said }
-}
-
-fn ticked(walk: Walk, value: i32, more: u32) -> Walk
-    requires { ⌜ Small (walk .said) ⌝ }
-    ensures { λ r. ⌜ r ≡ tickedBy value more walk ⌝ }
-{
-    let chip = walk.chip;
-    let said = ticks_said(chip, value, more, walk.said);
-    Walk { chip, said }
-}
-
 // The mode, the line and the settings of a chip, and nothing else of it.
 fn bared(chip: Chip) -> Chip
     ensures { λ r. ⌜ r ≡ bare (chip .setup) (coreOf chip) ⌝ }
@@ -149,12 +130,17 @@ fn walked(walk: Walk, event: Event, counts: Counts) -> Walk
     requires { ⌜ Small (walk .said) ⌝ }
     ensures { λ r. ⌜ r ≡ walkedBy event counts walk ⌝ }
 {
-    match event {
-        Event::Scan => scanned(walk, counts),
-        Event::Sense(value) => ticked(walk, value, 1),
-        Event::Ticks(value, repeat) => ticked(walk, value, repeat as u32),
-        Event::Soak(value, repeat) => ticked(walk, value, repeat),
-        Event::Setup(_) | Event::Wires(_) => walk,
+    let chip = walk.chip;
+    let before = walk.said;
+    let said = match event {
+        Event::Scan => {
+            let of = counts.of;
+            scan_said(chip, of, before)
+        }
+        Event::Sense(value) => ticks_said(chip, value, 1, before),
+        Event::Ticks(value, repeat) => ticks_said(chip, value, repeat as u32, before),
+        Event::Soak(value, repeat) => ticks_said(chip, value, repeat, before),
+        Event::Setup(_) | Event::Wires(_) => before,
         Event::Por
         | Event::Boot
         | Event::Temp
@@ -163,8 +149,9 @@ fn walked(walk: Walk, event: Event, counts: Counts) -> Walk
         | Event::Load(_)
         | Event::Xready
         | Event::OnBus(_)
-        | Event::Level(_) => moved(walk, event, counts),
-    }
+        | Event::Level(_) => return moved(walk, event, counts),
+    };
+    Walk { chip, said }
 }
 
 // The record that the rest begins with; a refused one says nothing.
