@@ -62,11 +62,10 @@ fn scan_said(chip: Chip, counts: [u16; 15], said: Streaks) -> Streaks
     if !chip.normal {
         return said;
     }
-    let setup = chip.setup;
-    let registers = chip.registers;
-    let s = registers.settings;
+    let s = chip.registers.settings;
     let over = limits::over_line(s);
     let under = limits::under_line(s);
+    let setup = chip.setup;
     let looked = cell_counts::look(counts, setup.inputs(), over, setup.floor, under);
     let ov = go_on(s.adc_en & looked.over, 1, said.ov);
     let uv = go_on(s.adc_en & looked.under, 1, said.uv);
@@ -81,8 +80,7 @@ fn ticks_said(chip: Chip, value: i32, more: u32, said: Streaks) -> Streaks
     if !chip.normal {
         return said;
     }
-    let registers = chip.registers;
-    let s = registers.settings;
+    let s = chip.registers.settings;
     let scd = go_on(limits::beyond_scd(s, value), more, said.scd);
     let ocd = go_on(limits::beyond_ocd(s, value), more, said.ocd);
     Streaks { scd, ocd, ..said }
@@ -93,12 +91,10 @@ fn bared(chip: Chip) -> Chip
     ensures { λ r. ⌜ r ≡ bare (chip .setup) (coreOf chip) ⌝ }
 {
     let mut ship = chip::in_ship(chip.setup);
-    let heard = chip.bus;
-    let line = heard.line;
+    let line = chip.bus.line;
     let mut bus = ship.bus;
     bus.line = line;
-    let stored = chip.registers;
-    let settings = stored.settings;
+    let settings = chip.registers.settings;
     let mut registers = ship.registers;
     registers.settings = settings;
     ship.normal = chip.normal;
@@ -159,9 +155,7 @@ fn pass(walk: Walk, rest: &[u8]) -> Passed
     requires { ⌜ Small (walk .said) ⌝ }
     ensures { λ r. ⌜ r ≡ passedOn (now (rest .entry)) walk ⌝ }
 {
-    let chip = walk.chip;
-    let setup = chip.setup;
-    match records::read_rest(rest, setup.part) {
+    match records::read_rest(rest, walk.chip.setup.part) {
         Read::Cut => Passed { walk, next: 0 },
         Read::Refused { number: _, next } => Passed { walk, next },
         Read::Record { event, next } => {
@@ -201,8 +195,7 @@ fn tick_said(chip: Chip, value: i32, said: Streaks) -> Streaks
     if !chip.normal {
         return said;
     }
-    let registers = chip.registers;
-    let s = registers.settings;
+    let s = chip.registers.settings;
     let scd = go_on(limits::beyond_scd(s, value), 1, said.scd);
     let ocd = go_on(limits::beyond_ocd(s, value), 1, said.ocd);
     Streaks { scd, ocd, ..said }
@@ -226,8 +219,7 @@ fn walk_over(s: &[u8]) -> Streaks
     let mut at = next;
     while at < s.len() {
         let rest = &s[at..];
-        let stood = walk.chip;
-        let tick = tick_in(stood.setup, rest);
+        let tick = tick_in(walk.chip.setup, rest);
         let Tick::Of { value, next } = tick else {
             let passed = pass(walk, rest);
             if passed.next == 0 {
@@ -237,7 +229,7 @@ fn walk_over(s: &[u8]) -> Streaks
             at = at + passed.next;
             continue;
         };
-        let now_said = tick_said(stood, value, walk.said);
+        let now_said = tick_said(walk.chip, value, walk.said);
         walk.said = now_said;
         at = at + next;
     }

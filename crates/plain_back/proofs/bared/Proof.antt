@@ -6,7 +6,7 @@ use Rattle.plain_back.proofs.bared.Tie as tie
 
 returns : tie.Need-returns
 returns c =
-    let s = c .before .before .before .before .before .before in
+    let s = c .before .before .before .before in
     bare-is (s .before .args .chip) (s .in-ship .ensures)
 
 pub bared-spec : {M : Type 1} → statement M
