@@ -60,8 +60,7 @@ fn rose_on(mut from: Rose, n: u64, next: Standing, bit: u8, drive: u8) -> Rose
 fn searched_on(mut from: Found, n: u64, next: Standing, least: u64) -> Found
     ensures { λ r. ⌜ r ≡ searchedOn least n next from ⌝ }
 {
-    let place = from.place;
-    if place.streak <= least {
+    if from.place.streak <= least {
         from.first = n;
     }
     from.place = next;
@@ -123,16 +122,13 @@ fn why_of(s: &[u8], bit: u8, found: Rose) -> Why
     requires { ⌜ (Few (now s) bit) × (found .stood .at ≤ length (now s)) × (found .stood .streak < 2 ^ 63) × (found .rose < 18446744073709551615) ⌝ }
     ensures { λ r. ⌜ r ≡ whyOf (now (s .entry)) bit found ⌝ }
 {
-    let rose = found.rose;
-    let stood = found.stood;
-    let chip = stood.chip;
-    let start = stood.at;
-    let said = why_walk::said_by(chip, &s[start..], bit);
+    let start = found.stood.at;
+    let said = why_walk::said_by(found.stood.chip, &s[start..], bit);
     let cause = causes::cause_of(bit, said.pin);
     if !causes::is_judged(bit) {
         return Why {
-            rose,
-            first: rose,
+            rose: found.rose,
+            first: found.rose,
             cause,
             many: 0,
             limit: 0,
@@ -140,15 +136,14 @@ fn why_of(s: &[u8], bit: u8, found: Rose) -> Why
             value: 0,
         };
     }
-    let registers = chip.registers;
-    let need = causes::need_of(bit, registers.settings);
-    let limit = causes::limit_of(bit, registers.settings);
-    let least = least_of(stood.streak, need);
-    let place = search(s, rose + 1, bit, least);
-    let first = place.first;
+    let settings = found.stood.chip.registers.settings;
+    let need = causes::need_of(bit, settings);
+    let limit = causes::limit_of(bit, settings);
+    let least = least_of(found.stood.streak, need);
+    let place = search(s, found.rose + 1, bit, least);
     Why {
-        rose,
-        first,
+        rose: found.rose,
+        first: place.first,
         cause,
         many: need as u32,
         limit,
@@ -185,8 +180,7 @@ pub extern "C" fn toralinge_why(bytes: &[u8], number: u64, bit: u32, row: &mut [
     }
     let weight = causes::known_bit(bit);
     let found = rise(bytes, number + 1, weight, 0);
-    let last = found.last;
-    if !bits::bit(last.stat, weight) {
+    if !bits::bit(found.last.stat, weight) {
         return answer::NOT_SO;
     }
     if row.len() < size::WHY_ROW {
@@ -211,14 +205,13 @@ pub extern "C" fn toralinge_off(bytes: &[u8], number: u64, drive: u32, row: &mut
     }
     let pin = drive as u8;
     let found = rise(bytes, number + 1, 0, pin);
-    let last = found.last;
-    if bits::bit(last.pins, pin) {
+    if bits::bit(found.last.pins, pin) {
         return answer::NOT_SO;
     }
     if row.len() < size::OFF_ROW {
         return answer::NO_ROOM;
     }
-    let words = why_rows::off_words(found.rose, causes::held_by(last.stat, pin));
+    let words = why_rows::off_words(found.rose, causes::held_by(found.last.stat, pin));
     put_words(row, &words);
     0
 }

@@ -8,7 +8,7 @@ use Rattle.why.proofs.searched_on.Tie as tie
 
 returns : tie.Need-returns
 returns c =
-    let a = c .before .before .before .args in
+    let a = c .before .before .args in
     ⊎-elim
     (λ w. ap (λ (r : Found). record { first = r .first; place = a .next }) (w .1) ∙ search-new (a .least) (a .n) (a .next) (a .from) (w .0 .taken))
     (λ w. ap (λ (r : Found). record { first = r .first; place = a .next }) (w .1) ∙ search-old (a .least) (a .n) (a .next) (a .from) (w .0 .left))
