@@ -1,11 +1,11 @@
 -- What bytes keep, test by test. Assumes nothing.
 use mathlib.Core.Path.{_≡_, refl, sym, ap, ap₂, _∙_}
-use mathlib.Core.Bool.{Bool, true, false, not, cond, _&&_, _||_}
+use mathlib.Core.Bool.{Bool, true, false, not, cond, _&&_, _||_, and-true, and-assoc}
 use mathlib.Core.List.{List}
-use Prim.Native.Nat.{ℕ, _+_, _<_, _≤_}
+use Prim.Native.Nat.{ℕ, suc, _+_, _-_, _<_, _≤_}
 use native.Mathlib.Omega.{arith}
 use native.Mathlib.Numerals.{add-one}
-use lib.Dec.{ltb}
+use lib.Dec.{leb, ltb}
 use lib.ListN.{length, getD, take, drop, drop-of-length-le}
 use lib.Seq.{drop-cons}
 use borrow.Author.Tests.{lt-ltb, le-ltb, lt-leb, eq-eqb, ne-eqb}
@@ -13,7 +13,7 @@ use Rattle.events.specs.declared.Setup.{Setup}
 use Rattle.events.specs.Event.{within}
 use Rattle.chip.specs.declared.Chip.{Chip}
 use Rattle.chip_bytes_layout.specs.declared.Kept.{Kept}
-use Rattle.chip_bytes_layout.specs.Layout.{setupAt, setupStands, levelStands, freshStands}
+use Rattle.chip_bytes_layout.specs.Layout.{listed, setupAt, setupStands, levelStands, freshStands}
 use Rattle.chip_bytes_layout.specs.Layout.{switchAt, chipAt, formed, couldStand, none, keeps, noChip, goodAt, chipIn}
 use Rattle.chip_bytes_layout.specs.Layout.{keptOf, goodOf, chipOf, freshOf}
 use Rattle.chip_bytes_layout.specs.GoodLaws.{kept-as, good-keeps}
@@ -92,3 +92,17 @@ module _ (b : List ℕ) (i : ℕ) where
 
   pub zero-end : length b ≤ i → within 0 (drop i b) ≡ true
   zero-end h = simp (drop-of-length-le b h)
+
+-- ── switches, from byte i on ──
+pub switch-next : (b : List ℕ) (good : Bool) (i : ℕ) → i < 41
+    → ((good && leb (getD b i 0) 1) && within 1 (listed b (i + 1) (41 - (i + 1)))) ≡ (good && within 1 (listed b i (41 - i)))
+switch-next b good i h =
+    let e : suc (41 - (i + 1)) ≡ 41 - i = omega arith in
+    ap (λ (k : ℕ). (good && leb (getD b i 0) 1) && within 1 (listed b k (41 - (i + 1)))) (add-one i)
+    ∙ and-assoc good (leb (getD b i 0) 1) (within 1 (listed b (suc i) (41 - (i + 1))))
+    ∙ ap (λ (n : ℕ). good && within 1 (listed b i n)) e
+
+pub switch-end : (b : List ℕ) (good : Bool) (i : ℕ) → i ≤ 41 → 41 ≤ i → good ≡ (good && within 1 (listed b i (41 - i)))
+switch-end b good i h g =
+    let e : 0 ≡ 41 - i = omega arith in
+    sym (and-true good) ∙ ap (λ (n : ℕ). good && within 1 (listed b i n)) e

@@ -51,26 +51,13 @@ fn switches_good(b: &[u8]) -> bool
     requires { ⌜ length (now b) ≡ «KEPT_CHIP» ⌝ }
     ensures { λ r. ⌜ r ≡ within 1 (listed (now (b .entry)) SWITCHES SWITCHED) ⌝ }
 {
-    (b[place::CRC] <= 1)
-        & (b[place::NORMAL] <= 1)
-        & (b[place::FRESH] <= 1)
-        & (b[place::ADC_EN] <= 1)
-        & (b[place::TEMP_SEL] <= 1)
-        & (b[place::SHUT_B] <= 1)
-        & (b[place::DELAY_DIS] <= 1)
-        & (b[place::CC_EN] <= 1)
-        & (b[place::CC_READY] <= 1)
-        & (b[place::XREADY] <= 1)
-        & (b[place::OVRD_ALERT] <= 1)
-        & (b[place::UV] <= 1)
-        & (b[place::OV] <= 1)
-        & (b[place::SCD] <= 1)
-        & (b[place::OCD] <= 1)
-        & (b[place::CC_ONESHOT] <= 1)
-        & (b[place::DSG_ON] <= 1)
-        & (b[place::CHG_ON] <= 1)
-        & (b[place::LOAD_LEVEL] <= 1)
-        & (b[place::OUTSIDE_LEVEL] <= 1)
+    let mut good = true;
+    let mut i = place::CRC;
+    while i < place::REST1 {
+        good = good & (b[i] <= 1);
+        i += 1;
+    }
+    good
 }
 
 // Whether what has no field is 0.

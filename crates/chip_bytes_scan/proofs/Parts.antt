@@ -35,18 +35,20 @@ abbrev sweptAs : Settings → Looked → Judged → Shown → Swept
 sweptAs s l j shown = record { kept = s .«adc_en»; cells = l .cells; sum = l .sum; runs = j .runs; shown = shown }
 
 -- what was read, looked at and judged
-pub sweep-is : (b counts : List ℕ) {u : Setup} {s : Settings} {over under n : ℕ} {l : Looked} {r : Runs} {j : Judged} {was shown : Shown} → u ≡ setupAt b
-    → s ≡ settingsAt b → over ≡ rule Ov s .limit → under ≡ rule Uv s .limit → n ≡ inputs u → l ≡ lookedAt over (u .floor) under (take n counts)
-    → r ≡ runsAt b → j ≡ scanJudged s (l .over) (l .under) r → was ≡ shownAt b → shown ≡ raised (among (j .risen)) was
-    → SweptBy (chipAt b) counts (sweptAs s l j shown)
+pub looked-is : (u : Setup) (s : Settings) (counts : List ℕ) {over under n : ℕ} {l : Looked} → over ≡ rule Ov s .limit → under ≡ rule Uv s .limit → n ≡ inputs u
+    → l ≡ lookedAt over (u .floor) under (take n counts) → l ≡ lookedAt (rule Ov s .limit) (u .floor) (rule Uv s .limit) (take (inputs u) counts)
+looked-is u s counts {over} {under} {n} ho hd hn hl =
+    hl ∙ ap₂ (λ (x y : ℕ). lookedAt x (u .floor) y (take n counts)) ho hd
+    ∙ ap (λ (n : ℕ). lookedAt (rule Ov s .limit) (u .floor) (rule Uv s .limit) (take n counts)) hn
+
+pub sweep-is : (b counts : List ℕ) {u : Setup} {s : Settings} {l : Looked} {r : Runs} {j : Judged} {was shown : Shown} → u ≡ setupAt b → s ≡ settingsAt b
+    → l ≡ lookedAt (rule Ov s .limit) (u .floor) (rule Uv s .limit) (take (inputs u) counts) → r ≡ runsAt b → j ≡ scanJudged s (l .over) (l .under) r
+    → was ≡ shownAt b → shown ≡ raised (among (j .risen)) was → SweptBy (chipAt b) counts (sweptAs s l j shown)
 unfolding chipAt scanJudged lookedAt
-sweep-is b counts {u} {s} {over} {under} {n} {l} {r} {j} {was} {shown} hu hs ho hd hn hl hr hj hw hh =
-    let limits : l ≡ lookedAt (rule Ov (settingsAt b) .limit) (u .floor) (rule Uv (settingsAt b) .limit) (take n counts) =
-    hl ∙ ap₂ (λ (x y : ℕ). lookedAt x (u .floor) y (take n counts)) (ho ∙ ap (λ (s : Settings). rule Ov s .limit) hs)
-    (hd ∙ ap (λ (s : Settings). rule Uv s .limit) hs) in
+sweep-is b counts {u} {s} {l} {r} {j} {was} {shown} hu hs hl hr hj hw hh =
     let looked : l ≡ lookedAt (rule Ov (settingsAt b) .limit) (setupAt b .floor) (rule Uv (settingsAt b) .limit) (take (inputs (setupAt b)) counts) =
-    limits ∙ ap (λ (n : ℕ). lookedAt (rule Ov (settingsAt b) .limit) (u .floor) (rule Uv (settingsAt b) .limit) (take n counts)) hn
-    ∙ ap (λ (u : Setup). lookedAt (rule Ov (settingsAt b) .limit) (u .floor) (rule Uv (settingsAt b) .limit) (take (inputs u) counts)) hu in
+    hl
+    ∙ ap₂ (λ (u : Setup) (s : Settings). lookedAt (rule Ov s .limit) (u .floor) (rule Uv s .limit) (take (inputs u) counts)) hu hs in
     let judged : j ≡ scanJudged (settingsAt b) (l .over) (l .under) (runsAt b) =
     hj ∙ ap₂ (λ (s : Settings) (r : Runs). scanJudged s (l .over) (l .under) r) hs hr in
     record {
@@ -57,7 +59,7 @@ sweep-is b counts {u} {s} {over} {under} {n} {l} {r} {j} {was} {shown} hu hs ho 
       kept = ap (λ (s : Settings). s .«adc_en») hs;
       scd = ap (λ (j : Judged). j .runs .scd) judged;
       ocd = ap (λ (j : Judged). j .runs .ocd) judged;
-      sized = ap (λ (l : Looked). length (l .cells)) hl ∙ padded-length 15 (take n counts);
+      sized = ap (λ (l : Looked). length (l .cells)) hl ∙ padded-length 15 (take (inputs u) counts);
     }
 
 -- what is put after what was put

@@ -4,12 +4,16 @@ ghost use Prim.Native.Nat.{_≤_};
 ghost use lib.ListN.{length, take};
 ghost use Rattle.events.specs.Setup.{inputs};
 ghost use Rattle.events.specs.Event.{Scan};
+ghost use Rattle.events.specs.Fault.{Ov, Uv};
+ghost use Rattle.cell_counts.specs.Scan.{lookedAt};
+ghost use Rattle.limits.specs.Rule.{rule};
 ghost use Rattle.registers.specs.Judging.{batOf};
 ghost use Rattle.constants.specs.Size.{«KEPT_CHIP»};
 ghost use Rattle.chip_bytes_layout.specs.Layout.{chipAt, chipOf};
 ghost use Rattle.chip_bytes_event.specs.Did.{DidBy};
 ghost use Rattle.chip_bytes_scan.specs.Swept.{measuredIn, shownIn, sweptIn, SweptBy};
 use bits::weigh;
+use cell_counts::Looked;
 use chip_bytes_event::Done;
 use chip_bytes_event::awake;
 use chip_bytes_layout::place;
@@ -19,8 +23,10 @@ use chip_bytes_read::setup_at;
 use chip_bytes_read::shown_at;
 use chip_bytes_write::put_words;
 use constants::size;
+use events::Setup;
 use protection::Runs;
 use registers::Shown;
+use settings::Settings;
 
 // What a scan leaves: whether the counts are kept, the counts and their sum, the runs, and what is shown.
 pub struct Swept {
@@ -31,15 +37,22 @@ pub struct Swept {
     pub shown: Shown,
 }
 
+// The counts by the limits that are set.
+fn looked_at(setup: Setup, s: Settings, counts: [u16; 15]) -> Looked
+    ensures { λ r. ⌜ r ≡ lookedAt (rule Ov s .limit) (setup .floor) (rule Uv s .limit) (take (inputs setup) counts) ⌝ }
+{
+    let over = limits::over_line(s);
+    let under = limits::under_line(s);
+    cell_counts::look(counts, setup.inputs(), over, setup.floor, under)
+}
+
 fn sweep(b: &[u8], counts: [u16; 15]) -> Swept
     requires { ⌜ length (now b) ≡ «KEPT_CHIP» ⌝ }
     ensures { λ r. ⌜ SweptBy (chipAt (now (b .entry))) counts r ⌝ }
 {
     let setup = setup_at(b);
     let s = settings_at(b);
-    let over = limits::over_line(s);
-    let under = limits::under_line(s);
-    let looked = cell_counts::look(counts, setup.inputs(), over, setup.floor, under);
+    let looked = looked_at(setup, s, counts);
     let runs = runs_at(b);
     let judged = runs.scanned(s, looked.over, looked.under);
     let shown = shown_at(b);

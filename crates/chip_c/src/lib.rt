@@ -22,9 +22,7 @@ fn stands(kept: Kept) -> u8
     ensures { λ r. ⌜ r ≡ standsNumber kept ⌝ }
 {
     if kept.good {
-        let chip = kept.chip;
-        let setup = chip.setup;
-        if setup.part == 0 {
+        if kept.chip.setup.part == 0 {
             return number::CUT;
         }
         return number::DONE;
@@ -69,8 +67,7 @@ pub extern "C" fn toralinge_voltage(chip: &[u8], cell: u32, microvolts: &mut i64
     if refused != number::DONE {
         return refused;
     }
-    let chip = kept.chip;
-    let answer = chip_voltage::voltage(chip, byte_or_none(cell));
+    let answer = chip_voltage::voltage(kept.chip, byte_or_none(cell));
     match answer {
         CellAnswer::Is(v) => {
             let z = v.0;
@@ -143,8 +140,7 @@ pub extern "C" fn toralinge_reading_of(chip: &[u8], reading: &mut [f64]) -> u8
     if refused != number::DONE {
         return refused;
     }
-    let chip = kept.chip;
-    let answer = chip_voltage::forecast(chip);
+    let answer = chip_voltage::forecast(kept.chip);
     let ForecastAnswer::Is(given) = answer else {
         return unread(answer);
     };

@@ -173,12 +173,16 @@ writes {b} o a v l on s =
     (λ i. same b (At a v) l on s (rw h)))
 
 -- ── and then the outside level ──
+over-held : (w : Store) (on : Bool) (s t : Shown) → Latching OvrdAlert w true on s (overridden t)
+unfolding Latching
+over-held w on s t = record { stays = λ x y z. refl; down = λ x y. absurd (true≢false y); off = λ x. refl }
+
 over-keeps : {b : StatusBit} → Other b → (w : Store) (on : Bool) (s t : Shown) → Latching b w true on s t
     → Latching b w true on s (overridden t)
 unfolding Latching
 over-keeps ready w on s t h = record { stays = h .stays; down = h .down; off = h .off }
 over-keeps xready w on s t h = record { stays = h .stays; down = h .down; off = λ x. and-false (t .status .xready) }
-over-keeps ovrd w on s t h = record { stays = λ x y z. refl; down = λ x y. absurd (true≢false y); off = λ x. refl }
+over-keeps ovrd w on s t h = over-held w on s t
 
 level-keeps : {b : StatusBit} → Other b → (w : Store) (l on : Bool) (s t : Shown) → Latching b w l on s t
     → Latching b w l on s (pulledAt l t)

@@ -1,16 +1,16 @@
 -- The call by its tests: the chip's room, its bytes, the room of the entries. Assumes nothing.
-use mathlib.Core.Path.{_≡_, sym, ap, ap₂, _∙_, subst}
+use mathlib.Core.Path.{_≡_, refl, sym, ap, ap₂, _∙_, subst}
 use mathlib.Core.Bool.{Bool, true, false, cond, true≢false}
 use mathlib.Core.List.{List}
 use Prim.Native.Nat.{ℕ, _*_, _/_, _^_, _<_, _≤_}
 use native.Mathlib.Omega.{arith}
-use lib.Dec.{ltb}
+use lib.Dec.{leb, ltb}
 use lib.IntN.{ℤ, pos, negsuc}
 use lib.ListN.{length, take}
 use mir.Syntax.{w64}
 use mir.Val.{toZ}
 use mir.Facts.{toZ-pos}
-use borrow.Author.Tests.{lt-ltb, le-ltb, lt-leb, le-leb}
+use borrow.Author.Tests.{ltb-true, ltb-false, lt-ltb, le-ltb, lt-leb, le-leb}
 use Rattle.chip.specs.declared.Chip.{Chip}
 use Rattle.chip.specs.Calm.{Calmed}
 use Rattle.stream_run.specs.declared.Left.{Left}
@@ -23,6 +23,14 @@ use Rattle.chip_bytes_layout.specs.Layout.{noChip, keptAt, keptOf, keptIn}
 use Rattle.chip_bytes_layout.specs.OneLaws.{kept-stood}
 use Rattle.feed.specs.Fed.{entriesOf, allFit, answerBy, feedsBy, chipAfter, entriesAfter, Fed}
 use Rattle.feed.specs.KeptLaws.{stood-calm}
+
+-- so many entries do not fit where a fifth of the room is less
+pub lacks-by : (n room : ℕ) → ltb (room / 5) n ≡ ltb room (5 * n)
+lacks-by n room = by (ltb (room / 5) n) refl
+  where
+    by : (t : Bool) → ltb (room / 5) n ≡ t → t ≡ ltb room (5 * n)
+    by true e = let h : room / 5 < n = ltb-true (room / 5) n e in sym (lt-ltb room (5 * n) (omega arith))
+    by false e = let h : n ≤ room / 5 = ltb-false (room / 5) n e in sym (le-ltb room (5 * n) (omega arith))
 
 pub fed-short : (b s old : List ℕ) → length b < 96 → Fed b s old (negsuc 4) b old
 fed-short b s old h = let t : ltb (length b) 96 ≡ true = lt-ltb (length b) 96 h in record { answer = simp t; kept = simp t; contents = simp t }
@@ -81,18 +89,19 @@ module _ (b : List ℕ) (d : Kept) (q : d ≡ keptOf b) where
       count : n ≡ length (entriesOf (keptOf b) s)
       count = e ∙ sym (entries-from-count (d .fresh) (d .chip) s) ∙ ap (λ (k : Kept). length (entriesOf k s)) q
 
-      pub fed-full : length old / 5 < n → Fed b s old (negsuc 4) b old
+      pub fed-full : ltb (length old) (5 * n) ≡ true → Fed b s old (negsuc 4) b old
       fed-full h =
-          let c : n ≡ length (entriesOf (keptOf b) s) = count in
-          let t : allFit (keptOf b) s (length old) ≡ false = lt-leb (5 * length (entriesOf (keptOf b) s)) (length old) (omega arith) in
+          let t : allFit (keptOf b) s (length old) ≡ false =
+          ap (λ (n : ℕ). leb (5 * n) (length old)) (sym count) ∙ lt-leb (5 * n) (length old) (ltb-true (length old) (5 * n) h) in
           same-by b s old (full-answer (keptOf b) b s (length old) wide good t) (full-feeds (keptOf b) b s (length old) wide good t)
 
-      pub fed-done : n ≤ length old / 5 → length old < 2 ^ 63 → (left : Left) (new chip : List ℕ) → Ran (d .fresh) (d .chip) s old left new
+      pub fed-done : ltb (length old) (5 * n) ≡ false → length old < 2 ^ 63 → (left : Left) (new chip : List ℕ) → Ran (d .fresh) (d .chip) s old left new
           → chip ≡ keptIn (left .chip) (left .fresh) b → Fed b s old (toZ w64 n) chip new
       fed-done h m left new chip r k =
           let c : n ≡ length (entriesOf (keptOf b) s) = count in
           let l : length (entriesOf d s) ≡ n = entries-from-count (d .fresh) (d .chip) s ∙ sym e in
-          let t : allFit (keptOf b) s (length old) ≡ true = le-leb (5 * length (entriesOf (keptOf b) s)) (length old) (omega arith) in
+          let room : 5 * n ≤ length old = ltb-false (length old) (5 * n) h in
+          let t : allFit (keptOf b) s (length old) ≡ true = ap (λ (n : ℕ). leb (5 * n) (length old)) (sym c) ∙ le-leb (5 * n) (length old) room in
           let yes : feedsBy (keptOf b) b s (length old) ≡ true = done-feeds (keptOf b) b s (length old) wide good t in
           record {
             answer = toZ-pos w64 (omega arith) ∙ ap pos c ∙ done-answer (keptOf b) b s (length old) wide good t;

@@ -1,9 +1,10 @@
 // Records fed to a chip that the caller keeps as bytes.
 ghost use mathlib.Core.Path.{_≡_};
 ghost use mathlib.Core.Bool.{true};
-ghost use Prim.Native.Nat.{_≤_};
+ghost use Prim.Native.Nat.{_*_, _≤_};
+ghost use lib.Dec.{ltb};
 ghost use lib.ListN.{length};
-ghost use Rattle.constants.specs.Size.{«KEPT_CHIP»};
+ghost use Rattle.constants.specs.Size.{ENTRY, «KEPT_CHIP»};
 ghost use Rattle.chip_bytes_layout.specs.Layout.{goodOf};
 ghost use Rattle.feed.specs.Fed.{Fed};
 use constants::answer;
@@ -15,6 +16,13 @@ mod alone;
 // its loop apart from what one record takes.
 const ONE_MOST: usize = size::HEADER + size::PAYLOAD_MOST;
 
+// Whether so many bytes are too few for an entry of every record.
+fn lacks(room: usize, n: usize) -> bool
+    ensures { λ r. ⌜ r ≡ ltb room (ENTRY * n) ⌝ }
+{
+    room / size::ENTRY < n
+}
+
 // Records played on a chip that bytes keep: read from them, and written again.
 fn played(chip: &mut [u8], records: &[u8], entries: &mut [u8]) -> i64
     requires { ⌜ («KEPT_CHIP» ≤ length (now chip)) × (goodOf (now chip) ≡ true) ⌝ }
@@ -24,7 +32,7 @@ fn played(chip: &mut [u8], records: &[u8], entries: &mut [u8]) -> i64
     let fresh = chip_bytes::fresh_of(&chip[..]);
     let setup = stood.setup;
     let n = stream_count::count_from(setup.part, records);
-    if entries.len() / size::ENTRY < n {
+    if lacks(entries.len(), n) {
         return answer::NO_ROOM;
     }
     let left = stream_run::run_from(stood, fresh, records, entries);

@@ -2,7 +2,7 @@
 // it and decides from them (CHIP J9, J10, H1 and H2): the bit of a fault is due where this record says yes, and it and those in a row before it
 // that said yes are as many as the delay asks for.
 //
-// Its own are that decision, in plain_due, and the look back, in plain_back and plain_moves. It shares with the base engine how a record is read
+// Its own are that decision, in plain_due, and the look back, in plain_back. It shares with the base engine how a record is read
 // (records); thresholds and delays by their codes, and which count or value is beyond one (limits, cell_counts); where counts are stored, what a bit
 // that rises puts off, and the outside level (registers); every record that is no scan and no tick, in the look back too (turn, chip); an entry's
 // bytes (turn), and how many entries there are (stream).
@@ -63,13 +63,13 @@ fn scan(mut chip: Chip, before: &[u8], counts: [u16; 15]) -> Stepped
     if !chip.normal {
         return turn::numbered(number::ASLEEP, chip);
     }
-    let setup = chip.setup;
-    let registers = chip.registers;
-    let s = registers.settings;
+    let s = chip.registers.settings;
     let over = limits::over_line(s);
     let under = limits::under_line(s);
+    let setup = chip.setup;
     let looked = cell_counts::look(counts, setup.inputs(), over, setup.floor, under);
     let risen = plain_due::due_at_scan(s, looked, look_back(before));
+    let registers = chip.registers;
     let cells = looked.cells;
     chip.registers = registers.scanned(cells, looked.sum);
     turn::numbered(number::DONE, show(chip, risen))
@@ -84,8 +84,8 @@ fn ticks(chip: Chip, before: &[u8], value: i32, these: u32) -> Stepped
     if !chip.normal {
         return turn::numbered(number::ASLEEP, chip);
     }
-    let registers = chip.registers;
-    let risen = plain_due::due_at_ticks(registers.settings, value, these, look_back(before));
+    let said = look_back(before);
+    let risen = plain_due::due_at_ticks(chip.registers.settings, value, these, said);
     turn::numbered(number::DONE, show(chip, risen))
 }
 
@@ -101,8 +101,7 @@ fn take_turn(chip: Chip, fresh: bool, before: &[u8], rest: &[u8]) -> Turned
     requires { ⌜ length (now before) ≤ 65536 ⌝ }
     ensures { λ r. ⌜ asTurn r ≡ plainTurn (now (before .entry)) fresh chip (now (rest .entry)) ⌝ }
 {
-    let setup = chip.setup;
-    let read = records::read_rest(rest, setup.part);
+    let read = records::read_rest(rest, chip.setup.part);
     let Read::Record { event, next } = read else {
         return turn::turn(chip, fresh, rest);
     };

@@ -31,9 +31,9 @@ use Rattle.settings.specs.declared.Settings.{Settings}
 use Rattle.limits.specs.Rule.{rule, over, under, beyond}
 use Rattle.chip.specs.declared.Chip.{Chip}
 use Rattle.plain_due.specs.declared.Streaks.{Streaks}
-use Rattle.plain_moves.specs.declared.Walk.{Walk}
+use Rattle.plain_back.specs.declared.Walk.{Walk}
 use Rattle.plain_back.specs.declared.Passed.{Passed}
-use Rattle.plain_moves.specs.Moved.{movedBy}
+use Rattle.plain_back.specs.Moved.{movedBy}
 use Rattle.plain_back.specs.Walk.{goesOn, scanIn, ticksIn, scanSaid, ticksSaid, walkedBy, passed, passedOn}
 
 -- ── in SHIP, and in NORMAL ──

@@ -1,2 +1,3 @@
+pub mod Moves
 pub mod Cases
 pub mod Loop

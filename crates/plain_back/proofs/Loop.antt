@@ -36,11 +36,11 @@ use Rattle.demands.specs.Demand.{verdicts}
 use Rattle.demands.specs.Aside.{withMeant}
 use Rattle.demands.specs.Streams.{restAfter, heardNext, heardBy, heard, a-part}
 use Rattle.plain_due.specs.declared.Streaks.{Streaks}
-use Rattle.plain_moves.specs.declared.Walk.{Walk}
+use Rattle.plain_back.specs.declared.Walk.{Walk}
 use Rattle.plain_back.specs.declared.Passed.{Passed}
 use Rattle.plain_due.specs.Streaks.{streaksOf, noStreaks}
 use Rattle.plain_back.specs.Said.{verdictsAfter, verdictsIn, streaksIn}
-use Rattle.plain_moves.specs.Moved.{movedBy}
+use Rattle.plain_back.specs.Moved.{movedBy}
 use Rattle.plain_back.specs.Walk.{goesOn, scanIn, ticksIn, scanSaid, ticksSaid, walkedBy, passed, passedOn, Tracks, tracks-none, tracks-walked}
 
 -- ── no streak outgrows the bytes: a record has four at least, and 16,777,216 ticks at most ──

@@ -36,8 +36,8 @@ use Rattle.demands.specs.Demand.{core, standing, verdicts}
 use Rattle.demands.specs.History.{asleep-none}
 use Rattle.demands.specs.Aside.{withMeant}
 use Rattle.plain_due.specs.declared.Streaks.{Streaks}
-use Rattle.plain_moves.specs.declared.Walk.{Walk}
-use Rattle.plain_moves.specs.Moved.{movedTo, movedBy}
+use Rattle.plain_back.specs.declared.Walk.{Walk}
+use Rattle.plain_back.specs.Moved.{movedTo, movedBy}
 use Rattle.plain_back.specs.declared.Passed.{Passed}
 use Rattle.plain_back.specs.declared.Tick.{Tick}
 use Rattle.plain_back.specs.declared.Tick.the-variants.{Of, Not}

@@ -1,12 +1,16 @@
 // CHIP P11: what the records lent so far say of the four faults, found by walking them from the first on. Nothing is kept between two
 // calls. Each scan or tick says yes or no by the settings that stand when it comes; what moves these, and the mode, is any other record, which
-// is done as the base engine does it, by `chip` (plain_moves).
+// is done as the base engine does it, by `chip`.
 ghost use mathlib.Core.Path.{_≡_};
+ghost use mathlib.Core.Bool.{cond};
 ghost use Prim.Native.Nat.{_≤_, _^_};
 ghost use lib.ListN.{length, take};
 ghost use Rattle.events.specs.Setup.{inputs};
+ghost use Rattle.chip.specs.Core.{coreOf, bare};
+ghost use Rattle.plain_due.specs.Streaks.{noStreaks};
+ghost use Rattle.plain_back.specs.Moved.{movedBy};
 ghost use Rattle.plain_back.specs.Said.{streaksIn, saidBack, backSaid};
-ghost use Rattle.plain_back.specs.Walk.{Small, goesOn, scanSaid, ticksSaid, scannedBy, tickedBy, walkedBy, passedOn, TickIn};
+ghost use Rattle.plain_back.specs.Walk.{Small, goesOn, scanSaid, ticksSaid, walkedBy, passedOn, TickIn};
 use chip::Chip;
 use constants::kind;
 use constants::range;
@@ -14,10 +18,15 @@ use events::Counts;
 use events::Event;
 use events::Setup;
 use plain_due::Streaks;
-use plain_moves::Walk;
 use records::Framed;
 use records::Payload;
 use records::Read;
+
+// What is carried from record to record: a chip that has its mode, the bus's line and the settings alone, and what was said so far.
+pub struct Walk {
+    pub chip: Chip,
+    pub said: Streaks,
+}
 
 pub enum Back {
     Is(Streaks),
@@ -53,11 +62,10 @@ fn scan_said(chip: Chip, counts: [u16; 15], said: Streaks) -> Streaks
     if !chip.normal {
         return said;
     }
-    let setup = chip.setup;
-    let registers = chip.registers;
-    let s = registers.settings;
+    let s = chip.registers.settings;
     let over = limits::over_line(s);
     let under = limits::under_line(s);
+    let setup = chip.setup;
     let looked = cell_counts::look(counts, setup.inputs(), over, setup.floor, under);
     let ov = go_on(s.adc_en & looked.over, 1, said.ov);
     let uv = go_on(s.adc_en & looked.under, 1, said.uv);
@@ -72,29 +80,44 @@ fn ticks_said(chip: Chip, value: i32, more: u32, said: Streaks) -> Streaks
     if !chip.normal {
         return said;
     }
-    let registers = chip.registers;
-    let s = registers.settings;
+    let s = chip.registers.settings;
     let scd = go_on(limits::beyond_scd(s, value), more, said.scd);
     let ocd = go_on(limits::beyond_ocd(s, value), more, said.ocd);
     Streaks { scd, ocd, ..said }
 }
 
-fn scanned(walk: Walk, counts: Counts) -> Walk
-    requires { ⌜ Small (walk .said) ⌝ }
-    ensures { λ r. ⌜ r ≡ scannedBy counts walk ⌝ }
+// The mode, the line and the settings of a chip, and nothing else of it.
+fn bared(chip: Chip) -> Chip
+    ensures { λ r. ⌜ r ≡ bare (chip .setup) (coreOf chip) ⌝ }
 {
-    let chip = walk.chip;
-    let of = counts.of;
-    let said = scan_said(chip, of, walk.said);
-    Walk { chip, said }
+    let mut ship = chip::in_ship(chip.setup);
+    let line = chip.bus.line;
+    let mut bus = ship.bus;
+    bus.line = line;
+    let settings = chip.registers.settings;
+    let mut registers = ship.registers;
+    registers.settings = settings;
+    ship.normal = chip.normal;
+    ship.bus = bus;
+    ship.registers = registers;
+    ship
 }
 
-fn ticked(walk: Walk, value: i32, more: u32) -> Walk
-    requires { ⌜ Small (walk .said) ⌝ }
-    ensures { λ r. ⌜ r ≡ tickedBy value more walk ⌝ }
+// What was said stands in NORMAL alone: SHIP ends the spell.
+fn said_in(normal: bool, said: Streaks) -> Streaks
+    ensures { λ r. ⌜ r ≡ cond normal said noStreaks ⌝ }
+{
+    if normal { said } else { plain_due::none_said() }
+}
+
+// Any other event moves the mode, the line and the settings, and says nothing.
+fn moved(walk: Walk, event: Event, counts: Counts) -> Walk
+    ensures { λ r. ⌜ r ≡ movedBy event counts walk ⌝ }
 {
     let chip = walk.chip;
-    let said = ticks_said(chip, value, more, walk.said);
+    let step = chip.step(event, counts);
+    let chip = bared(step.chip);
+    let said = said_in(chip.normal, walk.said);
     Walk { chip, said }
 }
 
@@ -103,12 +126,17 @@ fn walked(walk: Walk, event: Event, counts: Counts) -> Walk
     requires { ⌜ Small (walk .said) ⌝ }
     ensures { λ r. ⌜ r ≡ walkedBy event counts walk ⌝ }
 {
-    match event {
-        Event::Scan => scanned(walk, counts),
-        Event::Sense(value) => ticked(walk, value, 1),
-        Event::Ticks(value, repeat) => ticked(walk, value, repeat as u32),
-        Event::Soak(value, repeat) => ticked(walk, value, repeat),
-        Event::Setup(_) | Event::Wires(_) => walk,
+    let chip = walk.chip;
+    let before = walk.said;
+    let said = match event {
+        Event::Scan => {
+            let of = counts.of;
+            scan_said(chip, of, before)
+        }
+        Event::Sense(value) => ticks_said(chip, value, 1, before),
+        Event::Ticks(value, repeat) => ticks_said(chip, value, repeat as u32, before),
+        Event::Soak(value, repeat) => ticks_said(chip, value, repeat, before),
+        Event::Setup(_) | Event::Wires(_) => before,
         Event::Por
         | Event::Boot
         | Event::Temp
@@ -117,8 +145,9 @@ fn walked(walk: Walk, event: Event, counts: Counts) -> Walk
         | Event::Load(_)
         | Event::Xready
         | Event::OnBus(_)
-        | Event::Level(_) => plain_moves::moved(walk, event, counts),
-    }
+        | Event::Level(_) => return moved(walk, event, counts),
+    };
+    Walk { chip, said }
 }
 
 // The record that the rest begins with; a refused one says nothing.
@@ -126,9 +155,7 @@ fn pass(walk: Walk, rest: &[u8]) -> Passed
     requires { ⌜ Small (walk .said) ⌝ }
     ensures { λ r. ⌜ r ≡ passedOn (now (rest .entry)) walk ⌝ }
 {
-    let chip = walk.chip;
-    let setup = chip.setup;
-    match records::read_rest(rest, setup.part) {
+    match records::read_rest(rest, walk.chip.setup.part) {
         Read::Cut => Passed { walk, next: 0 },
         Read::Refused { number: _, next } => Passed { walk, next },
         Read::Record { event, next } => {
@@ -168,8 +195,7 @@ fn tick_said(chip: Chip, value: i32, said: Streaks) -> Streaks
     if !chip.normal {
         return said;
     }
-    let registers = chip.registers;
-    let s = registers.settings;
+    let s = chip.registers.settings;
     let scd = go_on(limits::beyond_scd(s, value), 1, said.scd);
     let ocd = go_on(limits::beyond_ocd(s, value), 1, said.ocd);
     Streaks { scd, ocd, ..said }
@@ -193,8 +219,7 @@ fn walk_over(s: &[u8]) -> Streaks
     let mut at = next;
     while at < s.len() {
         let rest = &s[at..];
-        let stood = walk.chip;
-        let tick = tick_in(stood.setup, rest);
+        let tick = tick_in(walk.chip.setup, rest);
         let Tick::Of { value, next } = tick else {
             let passed = pass(walk, rest);
             if passed.next == 0 {
@@ -204,7 +229,7 @@ fn walk_over(s: &[u8]) -> Streaks
             at = at + passed.next;
             continue;
         };
-        let now_said = tick_said(stood, value, walk.said);
+        let now_said = tick_said(walk.chip, value, walk.said);
         walk.said = now_said;
         at = at + next;
     }

@@ -27,9 +27,9 @@ use Rattle.why_scan.specs.declared.Says.{Says}
 use Rattle.why_walk.specs.declared.Standing.{Standing}
 use Rattle.why_walk.specs.Says.{saysIn}
 use Rattle.why_walk.specs.Standing.{begun, advanced, standingAt}
-use Rattle.why_rise.specs.declared.Rose.{Rose}
-use Rattle.why_rise.specs.declared.Found.{Found}
-use Rattle.why_rise.specs.Rise.{isSuch, roseOn, risen, searchedOn, searched, Few}
+use Rattle.why.specs.declared.Rose.{Rose}
+use Rattle.why.specs.declared.Found.{Found}
+use Rattle.why.specs.Rise.{isSuch, roseOn, risen, searchedOn, searched, Few}
 use Rattle.why.specs.Why.{leastOf, unjudged, judged, whyOf, streamMost, whyRow, whyNumber, Explained}
 use Rattle.why.specs.Off.{offRow, offNumber, Held}
 use Rattle.why.proofs.Few.{inside, few-short, last-is, place-is, stood-inside, rose-known, none-up}

@@ -31,7 +31,7 @@ use Rattle.why_walk.specs.declared.Standing.{Standing}
 use Rattle.why_scan.specs.Scan.{saysNone, saysScan}
 use Rattle.why_walk.specs.Says.{scanSays, ticksSay, eventSays, saysRead, saysIn, streakAfter}
 use Rattle.why_walk.specs.Standing.{begun, past, advanced, standingAt}
-use Rattle.why_rise.specs.Rise.{isSuch, roseOn, risen, searchedOn, searched, Few}
+use Rattle.why.specs.Rise.{isSuch, roseOn, risen, searchedOn, searched, Few}
 
 abbrev more : ℕ
 more = 16777216

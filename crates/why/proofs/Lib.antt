@@ -1,2 +1,3 @@
+pub mod Rises
 pub mod Few
 pub mod Cases

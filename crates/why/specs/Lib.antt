@@ -1,3 +1,4 @@
+pub mod Rise
 pub mod Why
 pub mod Off
 pub mod SameLaws

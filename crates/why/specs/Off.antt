@@ -14,8 +14,8 @@ use Rattle.turn.specs.Entries.{entries}
 use Rattle.causes.specs.Hold.{heldBy, isDrive}
 use Rattle.why_rows.specs.Row.{offWords}
 use Rattle.writer.specs.Write.{wordBytes}
-use Rattle.why_rise.specs.declared.Rose.{Rose}
-use Rattle.why_rise.specs.Rise.{risen}
+use Rattle.why.specs.declared.Rose.{Rose}
+use Rattle.why.specs.Rise.{risen}
 
 -- ── the row: 12 bytes, the low ones first ──
 abbrev pub offBytes : Rose → ℕ → List ℕ

@@ -19,8 +19,8 @@ use Rattle.why_rows.specs.Row.{whyWords}
 use Rattle.writer.specs.Write.{wordBytes}
 use Rattle.why_scan.specs.declared.Says.{Says}
 use Rattle.why_walk.specs.Says.{saysIn}
-use Rattle.why_rise.specs.declared.Rose.{Rose}
-use Rattle.why_rise.specs.Rise.{risen, searched}
+use Rattle.why.specs.declared.Rose.{Rose}
+use Rattle.why.specs.Rise.{risen, searched}
 
 -- the streak before the first of the newest verdicts, as many as are needed, where the next one is true
 abbrev pub leastOf : ℕ → ℕ → ℕ

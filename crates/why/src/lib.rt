@@ -4,20 +4,68 @@ ghost use Prim.Native.Nat.{_*_, _<_, _≤_, _^_};
 ghost use lib.ListN.{length};
 ghost use lib.Seq.{sets};
 ghost use Rattle.writer.specs.Write.{wordBytes};
-ghost use Rattle.why_rise.specs.Rise.{risen, searched, Few};
+ghost use Rattle.why.specs.Rise.{isSuch, roseOn, searchedOn, risen, searched, Few};
 ghost use Rattle.why.specs.Why.{leastOf, whyOf, Explained};
 ghost use Rattle.why.specs.Off.{Held};
 use constants::answer;
 use constants::size;
-use why_rise::Found;
-use why_rise::Rose;
 use why_rows::Why;
+use why_walk::Standing;
+
+// The record at which what is asked about came to be so, the last time; where the stream stood before it, and where it stands.
+pub struct Rose {
+    pub rose: u64,
+    pub stood: Standing,
+    pub last: Standing,
+}
+
+// The last record before which the streak was no longer than some, and where the stream stands.
+pub struct Found {
+    pub first: u64,
+    pub place: Standing,
+}
 
 // Streams that are longer are refused by `toralinge_why`: its streaks are counted in 64 bits.
 const STREAM_MOST: usize = 4294967295;
 
 // No record.
 const NEVER: u64 = 18446744073709551615;
+
+// Whether a bit of SYS_STAT is up; of no bit, whether a drive is off.
+fn is_such(at: Standing, bit: u8, drive: u8) -> bool
+    ensures { λ r. ⌜ r ≡ isSuch bit drive at ⌝ }
+{
+    if bit == 0 {
+        return !bits::bit(at.pins, drive);
+    }
+    bits::bit(at.stat, bit)
+}
+
+// One record more.
+fn rose_on(mut from: Rose, n: u64, next: Standing, bit: u8, drive: u8) -> Rose
+    ensures { λ r. ⌜ r ≡ roseOn bit drive n next from ⌝ }
+{
+    let last = from.last;
+    let now_such = is_such(next, bit, drive);
+    let was_such = is_such(last, bit, drive);
+    if now_such & !was_such {
+        from.rose = n;
+        from.stood = last;
+    }
+    from.last = next;
+    from
+}
+
+// One record more.
+fn searched_on(mut from: Found, n: u64, next: Standing, least: u64) -> Found
+    ensures { λ r. ⌜ r ≡ searchedOn least n next from ⌝ }
+{
+    if from.place.streak <= least {
+        from.first = n;
+    }
+    from.place = next;
+    from
+}
 
 // Over the first `many` records.
 fn rise(s: &[u8], many: u64, bit: u8, drive: u8) -> Rose
@@ -33,7 +81,7 @@ fn rise(s: &[u8], many: u64, bit: u8, drive: u8) -> Rose
     let mut n = 0u64;
     while n < many {
         let next = why_walk::advance(s, found.last, bit);
-        found = why_rise::rose_on(found, n, next, bit, drive);
+        found = rose_on(found, n, next, bit, drive);
         n = n + 1;
     }
     found
@@ -52,7 +100,7 @@ fn search(s: &[u8], many: u64, bit: u8, least: u64) -> Found
     let mut n = 0u64;
     while n < many {
         let next = why_walk::advance(s, found.place, bit);
-        found = why_rise::searched_on(found, n, next, least);
+        found = searched_on(found, n, next, least);
         n = n + 1;
     }
     found
@@ -74,16 +122,13 @@ fn why_of(s: &[u8], bit: u8, found: Rose) -> Why
     requires { ⌜ (Few (now s) bit) × (found .stood .at ≤ length (now s)) × (found .stood .streak < 2 ^ 63) × (found .rose < 18446744073709551615) ⌝ }
     ensures { λ r. ⌜ r ≡ whyOf (now (s .entry)) bit found ⌝ }
 {
-    let rose = found.rose;
-    let stood = found.stood;
-    let chip = stood.chip;
-    let start = stood.at;
-    let said = why_walk::said_by(chip, &s[start..], bit);
+    let start = found.stood.at;
+    let said = why_walk::said_by(found.stood.chip, &s[start..], bit);
     let cause = causes::cause_of(bit, said.pin);
     if !causes::is_judged(bit) {
         return Why {
-            rose,
-            first: rose,
+            rose: found.rose,
+            first: found.rose,
             cause,
             many: 0,
             limit: 0,
@@ -91,15 +136,14 @@ fn why_of(s: &[u8], bit: u8, found: Rose) -> Why
             value: 0,
         };
     }
-    let registers = chip.registers;
-    let need = causes::need_of(bit, registers.settings);
-    let limit = causes::limit_of(bit, registers.settings);
-    let least = least_of(stood.streak, need);
-    let place = search(s, rose + 1, bit, least);
-    let first = place.first;
+    let settings = found.stood.chip.registers.settings;
+    let need = causes::need_of(bit, settings);
+    let limit = causes::limit_of(bit, settings);
+    let least = least_of(found.stood.streak, need);
+    let place = search(s, found.rose + 1, bit, least);
     Why {
-        rose,
-        first,
+        rose: found.rose,
+        first: place.first,
         cause,
         many: need as u32,
         limit,
@@ -136,8 +180,7 @@ pub extern "C" fn toralinge_why(bytes: &[u8], number: u64, bit: u32, row: &mut [
     }
     let weight = causes::known_bit(bit);
     let found = rise(bytes, number + 1, weight, 0);
-    let last = found.last;
-    if !bits::bit(last.stat, weight) {
+    if !bits::bit(found.last.stat, weight) {
         return answer::NOT_SO;
     }
     if row.len() < size::WHY_ROW {
@@ -162,14 +205,13 @@ pub extern "C" fn toralinge_off(bytes: &[u8], number: u64, drive: u32, row: &mut
     }
     let pin = drive as u8;
     let found = rise(bytes, number + 1, 0, pin);
-    let last = found.last;
-    if bits::bit(last.pins, pin) {
+    if bits::bit(found.last.pins, pin) {
         return answer::NOT_SO;
     }
     if row.len() < size::OFF_ROW {
         return answer::NO_ROOM;
     }
-    let words = why_rows::off_words(found.rose, causes::held_by(last.stat, pin));
+    let words = why_rows::off_words(found.rose, causes::held_by(found.last.stat, pin));
     put_words(row, &words);
     0
 }

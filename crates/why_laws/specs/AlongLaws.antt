@@ -37,7 +37,7 @@ use Rattle.demands.specs.BytesLaws.{place, heardTo}
 use Rattle.demands.specs.Streams.{restAfter, heardNext, cellsNext, historiesBy, histories, Untouched, Took}
 use Rattle.demands.specs.Streams.{took, turn-is, goes-on, a-part, shows, toShow, entries-show}
 use Rattle.plain_due.specs.Streaks.{streakOf, streaksOf}
-use Rattle.plain_moves.specs.declared.Walk.{Walk}
+use Rattle.plain_back.specs.declared.Walk.{Walk}
 use Rattle.plain_back.specs.Walk.{walkedBy, Tracks, tracks-walked}
 use Rattle.why_scan.specs.declared.Says.{Says}
 use Rattle.why_scan.specs.Scan.{saysNone}

@@ -9,7 +9,7 @@ use lib.Dec.{leb}
 use borrow.Author.Tests.{leb-true, leb-false}
 use Rattle.why_walk.specs.declared.Standing.{Standing}
 use Rattle.why_walk.specs.Standing.{advanced, standingAt}
-use Rattle.why_rise.specs.Rise.{searchedOn, searched}
+use Rattle.why.specs.Rise.{searchedOn, searched}
 
 module _ (s : List ℕ) (b least : ℕ) where
   abbrev streak-at : ℕ → ℕ

@@ -15,8 +15,8 @@ use Rattle.turn.specs.Entries.{entries}
 use Rattle.demands.specs.BytesLaws.{noEntry}
 use Rattle.why_walk.specs.declared.Standing.{Standing}
 use Rattle.why_walk.specs.Standing.{advanced, standingAt}
-use Rattle.why_rise.specs.declared.Rose.{Rose}
-use Rattle.why_rise.specs.Rise.{never, isSuch, roseBy, roseOn, risen}
+use Rattle.why.specs.declared.Rose.{Rose}
+use Rattle.why.specs.Rise.{never, isSuch, roseBy, roseOn, risen}
 use Rattle.why_laws.specs.StandingLaws.{shows}
 
 -- ── the loop, by the walk: `such m` is what is asked about, before record m ──

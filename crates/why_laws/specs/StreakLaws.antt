@@ -24,8 +24,8 @@ use Rattle.demands.specs.BytesLaws.{place}
 use Rattle.demands.specs.Wired.{celled}
 use Rattle.plain_due.specs.declared.Streaks.{Streaks}
 use Rattle.plain_due.specs.Streaks.{streakOf, noStreaks}
-use Rattle.plain_moves.specs.declared.Walk.{Walk}
-use Rattle.plain_moves.specs.Moved.{movedBy}
+use Rattle.plain_back.specs.declared.Walk.{Walk}
+use Rattle.plain_back.specs.Moved.{movedBy}
 use Rattle.plain_back.specs.Walk.{goesOn, scanIn, ticksIn, scanSaid, ticksSaid, walkedBy}
 use Rattle.why_scan.specs.Scan.{saysScan}
 use Rattle.why_walk.specs.Says.{scanSays, ticksSay, eventSays, streakAfter}

@@ -38,8 +38,8 @@ use Rattle.why_walk.specs.Says.{saysRead, saysIn, eventSays}
 use Rattle.why_walk.specs.Standing.{standingAt}
 use Rattle.why_rows.specs.declared.Why.{Why}
 use Rattle.causes.specs.Cause.{isJudged, causeOf, needOf, limitOf}
-use Rattle.why_rise.specs.declared.Rose.{Rose}
-use Rattle.why_rise.specs.Rise.{risen}
+use Rattle.why.specs.declared.Rose.{Rose}
+use Rattle.why.specs.Rise.{risen}
 use Rattle.why.specs.Why.{leastOf, judged, unjudged, whyOf}
 use Rattle.why_laws.specs.RiseLaws.{shownIn, RoseAt, bit-rose, bit-stood}
 use Rattle.why_laws.specs.StreakLaws.{says-bare}

@@ -30,8 +30,7 @@ fn scan_says(chip: Chip, counts: [u16; 15], bit: u8) -> Says
     ensures { λ r. ⌜ r ≡ scanSays bit chip (take (inputsSpec (chip .setup)) counts) ⌝ }
 {
     let setup = chip.setup;
-    let registers = chip.registers;
-    let s = registers.settings;
+    let s = chip.registers.settings;
     if bit == weight::OV {
         let line = limits::over_line(s);
         return why_scan::scan_of(counts, setup.inputs(), s.adc_en, true, setup.floor, line);
@@ -54,8 +53,7 @@ fn bits_of(v: i32) -> u32
 fn ticks_say(chip: Chip, value: i32, many: u32, bit: u8) -> Says
     ensures { λ r. ⌜ r ≡ ticksSay bit chip value many ⌝ }
 {
-    let registers = chip.registers;
-    let s = registers.settings;
+    let s = chip.registers.settings;
     let none = why_scan::says_none();
     if bit == weight::SCD {
         let verdict = limits::beyond_scd(s, value);
@@ -113,8 +111,7 @@ fn event_says(chip: Chip, event: Event, counts: Counts, bit: u8) -> Says
 pub fn said_by(chip: Chip, rest: &[u8], bit: u8) -> Says
     ensures { λ r. ⌜ r ≡ saysIn bit chip (now (rest .entry)) ⌝ }
 {
-    let setup = chip.setup;
-    match records::read_rest(rest, setup.part) {
+    match records::read_rest(rest, chip.setup.part) {
         Read::Cut => why_scan::says_none(),
         Read::Refused { number: _, next: _ } => why_scan::says_none(),
         Read::Record { event, next } => {
@@ -176,7 +173,6 @@ pub fn advance(s: &[u8], from: Standing, bit: u8) -> Standing
     let said = said_by(from.chip, rest, bit);
     let turned = turn::turn(from.chip, from.fresh, rest);
     let chip = turned.chip;
-    let entry = turned.entry;
     let streak = streak_after(said, chip.normal, from.streak);
     let at = place_after(start, turned.next, turned.last, s.len());
     Standing {
@@ -184,7 +180,7 @@ pub fn advance(s: &[u8], from: Standing, bit: u8) -> Standing
         fresh: turned.fresh,
         at,
         streak,
-        stat: entry.stat,
-        pins: entry.pins,
+        stat: turned.entry.stat,
+        pins: turned.entry.pins,
     }
 }

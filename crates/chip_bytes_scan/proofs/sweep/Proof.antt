@@ -11,22 +11,16 @@ returns c =
     let j = w .before in
     let r = j .before in
     let l = r .before in
-    let n = l .before in
-    let d = n .before in
-    let o = d .before in
-    let s = o .before in
+    let s = l .before in
     let u = s .before in
     let a = u .before .before .args in
-    sweep-is (a .b .now) (a .counts) (u .setup-at .ensures) (s .settings-at .ensures) (o .over-line .ensures) (d .under-line .ensures) (n .inputs .ensures) (l .look .ensures)
-    (r .runs-at .ensures) (j .scanned .ensures) (w .shown-at .ensures) (h .raised .ensures)
+    sweep-is (a .b .now) (a .counts) (u .setup-at .ensures) (s .settings-at .ensures) (l .looked-at .ensures) (r .runs-at .ensures) (j .scanned .ensures) (w .shown-at .ensures)
+    (h .raised .ensures)
 
 pub sweep-spec : {M : Type 1} → statement M
 sweep-spec =
     tie.close
     (tie.spec
-    (λ c κs. search needs)
-    (λ c κs. search needs)
-    (λ c κs. search needs)
     (λ c κs. search needs)
     (λ c κs. search needs)
     (λ c κs. search needs)

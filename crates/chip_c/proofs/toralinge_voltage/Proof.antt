@@ -15,27 +15,27 @@ returns c =
 
 returns-2 : tie.Need-returns-2
 returns-2 c =
-    let s = c .before .before .before .before .before .before .before .before in
+    let s = c .before .before .before .before .before .before .before in
     let a = s .before .before .before .args in
-    given-as (some-said (a .chip .now) (s .before .decode .result) (s .before .decode .ensures) (voltageSaid (a .cell)) (s .stands .ensures) (c .before .before .before .before .before .before .before .if1 .left) ∙ sym (cell-wide (a .cell) (s .before .decode .result .chip) (c .before .before .before .before .before .byte-or-none .ensures)) ∙ sym (c .before .before .before .before .voltage .ensures) ∙ ap saidCell (c .before .before .answer .given .1)) refl (result (c .struct-told .given .0 .1) refl)
+    given-as (some-said (a .chip .now) (s .before .decode .result) (s .before .decode .ensures) (voltageSaid (a .cell)) (s .stands .ensures) (c .before .before .before .before .before .before .if1 .left) ∙ sym (cell-wide (a .cell) (s .before .decode .result .chip) (c .before .before .before .before .before .byte-or-none .ensures)) ∙ sym (c .before .before .before .before .voltage .ensures) ∙ ap saidCell (c .before .before .answer .given .1)) refl (result (c .struct-told .given .0 .1) refl)
 
 returns-3 : tie.Need-returns-3
 returns-3 c =
-    let s = c .before .before .before .before .before .before in
+    let s = c .before .before .before .before .before in
     let a = s .before .before .before .args in
-    given-as (some-said (a .chip .now) (s .before .decode .result) (s .before .decode .ensures) (voltageSaid (a .cell)) (s .stands .ensures) (c .before .before .before .before .before .if1 .left) ∙ sym (cell-wide (a .cell) (s .before .decode .result .chip) (c .before .before .before .byte-or-none .ensures)) ∙ sym (c .before .before .voltage .ensures) ∙ ap saidCell (c .enum-told .given .1)) refl refl
+    given-as (some-said (a .chip .now) (s .before .decode .result) (s .before .decode .ensures) (voltageSaid (a .cell)) (s .stands .ensures) (c .before .before .before .before .if1 .left) ∙ sym (cell-wide (a .cell) (s .before .decode .result .chip) (c .before .before .before .byte-or-none .ensures)) ∙ sym (c .before .before .voltage .ensures) ∙ ap saidCell (c .enum-told .given .1)) refl refl
 
 returns-4 : tie.Need-returns-4
 returns-4 c =
-    let s = c .before .before .before .before .before .before in
+    let s = c .before .before .before .before .before in
     let a = s .before .before .before .args in
-    given-as (some-said (a .chip .now) (s .before .decode .result) (s .before .decode .ensures) (voltageSaid (a .cell)) (s .stands .ensures) (c .before .before .before .before .before .if1 .left) ∙ sym (cell-wide (a .cell) (s .before .decode .result .chip) (c .before .before .before .byte-or-none .ensures)) ∙ sym (c .before .before .voltage .ensures) ∙ ap saidCell (c .enum-told2 .given .1)) refl refl
+    given-as (some-said (a .chip .now) (s .before .decode .result) (s .before .decode .ensures) (voltageSaid (a .cell)) (s .stands .ensures) (c .before .before .before .before .if1 .left) ∙ sym (cell-wide (a .cell) (s .before .decode .result .chip) (c .before .before .before .byte-or-none .ensures)) ∙ sym (c .before .before .voltage .ensures) ∙ ap saidCell (c .enum-told2 .given .1)) refl refl
 
 returns-5 : tie.Need-returns-5
 returns-5 c =
-    let s = c .before .before .before .before .before .before in
+    let s = c .before .before .before .before .before in
     let a = s .before .before .before .args in
-    given-as (some-said (a .chip .now) (s .before .decode .result) (s .before .decode .ensures) (voltageSaid (a .cell)) (s .stands .ensures) (c .before .before .before .before .before .if1 .left) ∙ sym (cell-wide (a .cell) (s .before .decode .result .chip) (c .before .before .before .byte-or-none .ensures)) ∙ sym (c .before .before .voltage .ensures) ∙ ap saidCell (c .enum-told3 .given .1)) refl refl
+    given-as (some-said (a .chip .now) (s .before .decode .result) (s .before .decode .ensures) (voltageSaid (a .cell)) (s .stands .ensures) (c .before .before .before .before .if1 .left) ∙ sym (cell-wide (a .cell) (s .before .decode .result .chip) (c .before .before .before .byte-or-none .ensures)) ∙ sym (c .before .before .voltage .ensures) ∙ ap saidCell (c .enum-told3 .given .1)) refl refl
 
 pub toralinge-voltage-spec : {M : Type 1} → statement M
 toralinge-voltage-spec =

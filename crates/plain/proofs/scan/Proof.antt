@@ -10,11 +10,11 @@ returns c = let a = c .before .before .before .before .args in scan-asleep (a .c
 
 returns-2 : tie.Need-returns-2
 returns-2 c =
-    let d = c .before .before .before .before in
+    let d = c .before .before .before .before .before in
     let l = d .before .before in
-    let i = l .before .before .before .before .before .before .before in
+    let i = l .before .before .before .before .before .before in
     let a = i .before .before .before .args in
-    scan-awake (a .chip) (a .before .now) (a .counts) (not-false _ (i .if1 .left)) (l .before .inputs .ensures) (l .before .before .before .over-line .ensures) (l .before .before .under-line .ensures)
+    scan-awake (a .chip) (a .before .now) (a .counts) (not-false _ (i .if1 .left)) (l .before .inputs .ensures) (l .before .before .before .before .over-line .ensures) (l .before .before .before .under-line .ensures)
     (l .look .ensures) (d .before .look-back .ensures) (d .due-at-scan .ensures) (c .before .before .scanned .ensures) (c .before .show .ensures) (c .numbered2 .ensures)
 
 pub scan-spec : {M : Type 1} → statement M

@@ -15,7 +15,7 @@ returns c = let a = c .before .before .before .before .args in ticks-asleep (a .
 returns-2 : tie.Need-returns-2
 returns-2 c =
     let d = c .before .before in
-    let i = d .before .before .before in
+    let i = d .before .before in
     let a = i .before .before .before .args in
     let e : toZ w32 (ofZ w32 (a .value)) ≡ a .value = search needs in
     ticks-awake (a .chip) (a .before .now) (a .value) (a .these) (not-false _ (i .if1 .left)) (d .before .look-back .ensures)

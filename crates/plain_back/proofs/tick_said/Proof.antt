@@ -15,7 +15,7 @@ returns c = let a = c .before .before .args in ticks-asleep (a .chip) (a .value)
 
 returns-2 : tie.Need-returns-2
 returns-2 c =
-    let i = c .before .before .before .before .before .before in
+    let i = c .before .before .before .before .before in
     let a = i .before .before .args in
     let e : toZ w32 (ofZ w32 (a .value)) ≡ a .value = search needs in
     ticks-awake (a .chip) (a .value) 1 (a .said) (not-false _ (i .if1 .left)) (c .before .before .before .beyond-scd .ensures ∙ ap (beyond (rule Scd (a .chip .registers .settings))) e)

@@ -11,7 +11,7 @@ use Rattle.events.specs.declared.Event.{Event}
 use Rattle.events.specs.declared.Event.the-variants.{Sense}
 use Rattle.records.specs.declared.Read.the-variants.{Record}
 use Rattle.records.specs.Record.{readOf}
-use Rattle.plain_moves.specs.declared.Walk.{Walk}
+use Rattle.plain_back.specs.declared.Walk.{Walk}
 use Rattle.plain_back.specs.Walk.{Small, TickIn, ticksSaid, passedOn}
 use Rattle.plain_back.proofs.Cases.{tickPassed, tick-passes, tick-far}
 use Rattle.plain_back.proofs.Loop.{Walking, walking-first, said-none, first-other, walking-end, walking-cut, walking-more, walking-place}
@@ -50,12 +50,12 @@ module _ (l : tie.At-loop Inv-loop μ-loop) where
       (omega (arith, g .below .0, g .inside, m), omega (arith, g .below .1, g .inside, m), omega (arith, g .below .2, g .inside, m), omega (arith, g .below .3, g .inside, m))
 
 pass-requires : tie.Need-pass-requires Inv-loop μ-loop
-pass-requires c κs = small (c .before .before .before .before .before .before)
+pass-requires c κs = small (c .before .before .before .before .before)
 
 -- a record that is passed
 module _ (p : tie.After-pass Inv-loop μ-loop) where
   abbrev turn : tie.In-loop Inv-loop μ-loop
-  turn = p .before .before .before .before .before .before
+  turn = p .before .before .before .before .before
 
   abbrev head : tie.At-loop Inv-loop μ-loop
   head = turn .before
@@ -85,7 +85,7 @@ loop-again c =
     walking-more (start l .args .s .now) _ (l .loop .walk) (l .loop .at) (l .loop .inv) (turn p .loop-test .taken) (p .pass .result) (p .pass .ensures) (c .before .before .if1 .left)
 
 tick-said-requires : tie.Need-tick-said-requires Inv-loop μ-loop
-tick-said-requires c κs = small (c .before .before .before .before .before .before .before)
+tick-said-requires c κs = small (c .before .before .before .before .before .before)
 
 -- a tick, in place
 module _ (t : tie.After-tick-said Inv-loop μ-loop) where
@@ -93,7 +93,7 @@ module _ (t : tie.After-tick-said Inv-loop μ-loop) where
   tick = t .before .before
 
   abbrev ticking : tie.In-loop Inv-loop μ-loop
-  ticking = tick .before .before .before .before .before
+  ticking = tick .before .before .before .before
 
   abbrev at-tick : tie.At-loop Inv-loop μ-loop
   at-tick = ticking .before

@@ -29,25 +29,25 @@ rise-requires c κs = few-none (c .before .before .before .before .before .befor
 
 returns-3 : tie.Need-returns-3
 returns-3 c =
-    let a = c .before .before .before .before .before .before .before .before .before .before .args in
+    let a = c .before .before .before .before .before .before .before .before .before .args in
     held-by (a .bytes .now) (a .number) (a .drive) (a .row .now) (a .row .now) _ 28
-    (off-as (a .bytes .now) (a .number) (a .drive) (length (a .row .now)) false true true _ (uncounted (a .bytes .now) (c .before .before .before .before .before .before .before .count .ensures) (c .before .before .before .before .before .before .if1 .left)) (sym (c .before .before .before .before .before .is-drive .ensures) ∙ not-false _ (c .before .before .before .before .if2 .left))
-    (off-is (a .bytes .now) (a .number) (a .drive) (c .before .before .before .rise .result) (c .before .before .before .rise .ensures) (c .before .bit .ensures) ∙ c .if3 .taken) refl) refl refl
+    (off-as (a .bytes .now) (a .number) (a .drive) (length (a .row .now)) false true true _ (uncounted (a .bytes .now) (c .before .before .before .before .before .before .count .ensures) (c .before .before .before .before .before .if1 .left)) (sym (c .before .before .before .before .is-drive .ensures) ∙ not-false _ (c .before .before .before .if2 .left))
+    (off-is (a .bytes .now) (a .number) (a .drive) (c .before .before .rise .result) (c .before .before .rise .ensures) (c .before .bit .ensures) ∙ c .if3 .taken) refl) refl refl
 
 returns-4 : tie.Need-returns-4
 returns-4 c =
-    let a = c .before .before .before .before .before .before .before .before .before .before .before .args in
+    let a = c .before .before .before .before .before .before .before .before .before .before .args in
     held-by (a .bytes .now) (a .number) (a .drive) (a .row .now) (a .row .now) _ 5
-    (off-as (a .bytes .now) (a .number) (a .drive) (length (a .row .now)) false true false true (uncounted (a .bytes .now) (c .before .before .before .before .before .before .before .before .count .ensures) (c .before .before .before .before .before .before .before .if1 .left)) (sym (c .before .before .before .before .before .before .is-drive .ensures) ∙ not-false _ (c .before .before .before .before .before .if2 .left))
-    (off-is (a .bytes .now) (a .number) (a .drive) (c .before .before .before .before .rise .result) (c .before .before .before .before .rise .ensures) (c .before .before .bit .ensures) ∙ c .before .if3 .left) (lt-ltb _ _ (c .if4 .taken))) refl refl
+    (off-as (a .bytes .now) (a .number) (a .drive) (length (a .row .now)) false true false true (uncounted (a .bytes .now) (c .before .before .before .before .before .before .before .count .ensures) (c .before .before .before .before .before .before .if1 .left)) (sym (c .before .before .before .before .before .is-drive .ensures) ∙ not-false _ (c .before .before .before .before .if2 .left))
+    (off-is (a .bytes .now) (a .number) (a .drive) (c .before .before .before .rise .result) (c .before .before .before .rise .ensures) (c .before .before .bit .ensures) ∙ c .before .if3 .left) (lt-ltb _ _ (c .if4 .taken))) refl refl
 
 returns-5 : tie.Need-returns-5
 returns-5 c =
-    let a = c .before .before .before .before .before .before .before .before .before .before .before .before .before .before .before .before .before .before .args in
+    let a = c .before .before .before .before .before .before .before .before .before .before .before .before .before .before .before .before .before .args in
     held-by (a .bytes .now) (a .number) (a .drive) (a .row .now) _ _ 0
-    (off-as (a .bytes .now) (a .number) (a .drive) (length (a .row .now)) false true false false (uncounted (a .bytes .now) (c .before .before .before .before .before .before .before .before .before .before .before .before .before .before .before .count .ensures) (c .before .before .before .before .before .before .before .before .before .before .before .before .before .before .if1 .left)) (sym (c .before .before .before .before .before .before .before .before .before .before .before .before .before .is-drive .ensures) ∙ not-false _ (c .before .before .before .before .before .before .before .before .before .before .before .before .if2 .left))
-    (off-is (a .bytes .now) (a .number) (a .drive) (c .before .before .before .before .before .before .before .before .before .before .before .rise .result) (c .before .before .before .before .before .before .before .before .before .before .before .rise .ensures) (c .before .before .before .before .before .before .before .before .before .bit .ensures) ∙ c .before .before .before .before .before .before .before .before .if3 .left) (le-ltb _ _ (c .before .before .before .before .before .before .before .if4 .left))) refl
-    (off-row-is (a .bytes .now) (a .number) (a .drive) (c .before .before .before .before .before .before .before .before .before .before .before .rise .result) (a .row .now) (c .before .before .before .before .before .before .before .before .before .before .before .rise .ensures) (c .before .before .before .before .before .before .held-by .ensures) (c .before .before .before .before .before .off-words .ensures) (c .before .before .before .before .before .before .before .if4 .left) (c .before .before .put-words .ensures))
+    (off-as (a .bytes .now) (a .number) (a .drive) (length (a .row .now)) false true false false (uncounted (a .bytes .now) (c .before .before .before .before .before .before .before .before .before .before .before .before .before .before .count .ensures) (c .before .before .before .before .before .before .before .before .before .before .before .before .before .if1 .left)) (sym (c .before .before .before .before .before .before .before .before .before .before .before .before .is-drive .ensures) ∙ not-false _ (c .before .before .before .before .before .before .before .before .before .before .before .if2 .left))
+    (off-is (a .bytes .now) (a .number) (a .drive) (c .before .before .before .before .before .before .before .before .before .before .rise .result) (c .before .before .before .before .before .before .before .before .before .before .rise .ensures) (c .before .before .before .before .before .before .before .before .before .bit .ensures) ∙ c .before .before .before .before .before .before .before .before .if3 .left) (le-ltb _ _ (c .before .before .before .before .before .before .before .if4 .left))) refl
+    (off-row-is (a .bytes .now) (a .number) (a .drive) (c .before .before .before .before .before .before .before .before .before .before .rise .result) (a .row .now) (c .before .before .before .before .before .before .before .before .before .before .rise .ensures) (c .before .before .before .before .before .before .held-by .ensures) (c .before .before .before .before .before .off-words .ensures) (c .before .before .before .before .before .before .before .if4 .left) (c .before .before .put-words .ensures))
 
 pub toralinge-off-spec : {M : Type 1} → statement M
 toralinge-off-spec =

@@ -27,32 +27,32 @@ rise-requires c κs = few-short (c .before .before .before .before .before .befo
 
 returns-3 : tie.Need-returns-3
 returns-3 c =
-    let a = c .before .before .before .before .before .before .before .before .before .before .args in
+    let a = c .before .before .before .before .before .before .before .before .before .args in
     explained-by (a .bytes .now) (a .number) (a .bit) (a .row .now) (a .row .now) _ 28
-    (why-as (a .bytes .now) (a .number) (a .bit) (length (a .row .now)) false false false _ (le-ltb _ _ (c .before .before .before .before .before .before .before .if1 .left)) (uncounted (a .bytes .now) (c .before .before .before .before .before .before .count .ensures) (c .before .before .before .before .before .if2 .left))
-    (up-is (a .bytes .now) (a .number) (a .bit) (c .before .before .before .before .known-bit .result) (c .before .before .before .rise .result) (c .before .before .before .rise .ensures) (c .before .before .before .before .known-bit .ensures) (c .before .bit .ensures) ∙ not-true _ (c .if3 .taken)) refl) refl refl
+    (why-as (a .bytes .now) (a .number) (a .bit) (length (a .row .now)) false false false _ (le-ltb _ _ (c .before .before .before .before .before .before .if1 .left)) (uncounted (a .bytes .now) (c .before .before .before .before .before .count .ensures) (c .before .before .before .before .if2 .left))
+    (up-is (a .bytes .now) (a .number) (a .bit) (c .before .before .before .known-bit .result) (c .before .before .rise .result) (c .before .before .rise .ensures) (c .before .before .before .known-bit .ensures) (c .before .bit .ensures) ∙ not-true _ (c .if3 .taken)) refl) refl refl
 
 returns-4 : tie.Need-returns-4
 returns-4 c =
-    let a = c .before .before .before .before .before .before .before .before .before .before .before .args in
+    let a = c .before .before .before .before .before .before .before .before .before .before .args in
     explained-by (a .bytes .now) (a .number) (a .bit) (a .row .now) (a .row .now) _ 5
-    (why-as (a .bytes .now) (a .number) (a .bit) (length (a .row .now)) false false true true (le-ltb _ _ (c .before .before .before .before .before .before .before .before .if1 .left)) (uncounted (a .bytes .now) (c .before .before .before .before .before .before .before .count .ensures) (c .before .before .before .before .before .before .if2 .left))
-    (up-is (a .bytes .now) (a .number) (a .bit) (c .before .before .before .before .before .known-bit .result) (c .before .before .before .before .rise .result) (c .before .before .before .before .rise .ensures) (c .before .before .before .before .before .known-bit .ensures) (c .before .before .bit .ensures) ∙ not-false _ (c .before .if3 .left)) (lt-ltb _ _ (c .if4 .taken))) refl refl
+    (why-as (a .bytes .now) (a .number) (a .bit) (length (a .row .now)) false false true true (le-ltb _ _ (c .before .before .before .before .before .before .before .if1 .left)) (uncounted (a .bytes .now) (c .before .before .before .before .before .before .count .ensures) (c .before .before .before .before .before .if2 .left))
+    (up-is (a .bytes .now) (a .number) (a .bit) (c .before .before .before .before .known-bit .result) (c .before .before .before .rise .result) (c .before .before .before .rise .ensures) (c .before .before .before .before .known-bit .ensures) (c .before .before .bit .ensures) ∙ not-false _ (c .before .if3 .left)) (lt-ltb _ _ (c .if4 .taken))) refl refl
 
 why-of-requires : tie.Need-why-of-requires
 why-of-requires c κs =
-    let a = c .before .before .before .before .before .before .before .before .before .before .before .args in
-    let m : c .before .before .before .before .before .before .before .count .result ≤ 18446744073709551615 = search needs in
-    why-good (a .bytes .now) (a .number) (a .bit) (c .before .before .before .before .before .known-bit .result) (c .before .before .before .before .rise .result) (c .before .before .before .before .rise .ensures) (c .before .before .before .before .before .known-bit .ensures) (c .before .before .before .before .before .before .before .before .if1 .left)
-    (omega (arith, m, c .before .before .before .before .before .before .if2 .left)) (c .before .before .bit .ensures) (not-false _ (c .before .if3 .left))
+    let a = c .before .before .before .before .before .before .before .before .before .before .args in
+    let m : c .before .before .before .before .before .before .count .result ≤ 18446744073709551615 = search needs in
+    why-good (a .bytes .now) (a .number) (a .bit) (c .before .before .before .before .known-bit .result) (c .before .before .before .rise .result) (c .before .before .before .rise .ensures) (c .before .before .before .before .known-bit .ensures) (c .before .before .before .before .before .before .before .if1 .left)
+    (omega (arith, m, c .before .before .before .before .before .if2 .left)) (c .before .before .bit .ensures) (not-false _ (c .before .if3 .left))
 
 returns-5 : tie.Need-returns-5
 returns-5 c =
-    let a = c .before .before .before .before .before .before .before .before .before .before .before .before .before .before .before .before .before .before .args in
+    let a = c .before .before .before .before .before .before .before .before .before .before .before .before .before .before .before .before .before .args in
     explained-by (a .bytes .now) (a .number) (a .bit) (a .row .now) _ _ 0
-    (why-as (a .bytes .now) (a .number) (a .bit) (length (a .row .now)) false false true false (le-ltb _ _ (c .before .before .before .before .before .before .before .before .before .before .before .before .before .before .before .if1 .left)) (uncounted (a .bytes .now) (c .before .before .before .before .before .before .before .before .before .before .before .before .before .before .count .ensures) (c .before .before .before .before .before .before .before .before .before .before .before .before .before .if2 .left))
-    (up-is (a .bytes .now) (a .number) (a .bit) (c .before .before .before .before .before .before .before .before .before .before .before .before .known-bit .result) (c .before .before .before .before .before .before .before .before .before .before .before .rise .result) (c .before .before .before .before .before .before .before .before .before .before .before .rise .ensures) (c .before .before .before .before .before .before .before .before .before .before .before .before .known-bit .ensures) (c .before .before .before .before .before .before .before .before .before .bit .ensures) ∙ not-false _ (c .before .before .before .before .before .before .before .before .if3 .left)) (le-ltb _ _ (c .before .before .before .before .before .before .before .if4 .left))) refl
-    (row-is (a .bytes .now) (a .number) (a .bit) (c .before .before .before .before .before .before .before .before .before .before .before .rise .result) (a .row .now) (c .before .before .before .before .before .before .before .before .before .before .before .rise .ensures) (c .before .before .before .before .before .before .before .before .before .before .before .before .known-bit .ensures) (c .before .before .before .before .before .before .why-of .ensures) (c .before .before .before .before .before .why-words .ensures) (c .before .before .before .before .before .before .before .if4 .left) (c .before .before .put-words .ensures))
+    (why-as (a .bytes .now) (a .number) (a .bit) (length (a .row .now)) false false true false (le-ltb _ _ (c .before .before .before .before .before .before .before .before .before .before .before .before .before .before .if1 .left)) (uncounted (a .bytes .now) (c .before .before .before .before .before .before .before .before .before .before .before .before .before .count .ensures) (c .before .before .before .before .before .before .before .before .before .before .before .before .if2 .left))
+    (up-is (a .bytes .now) (a .number) (a .bit) (c .before .before .before .before .before .before .before .before .before .before .before .known-bit .result) (c .before .before .before .before .before .before .before .before .before .before .rise .result) (c .before .before .before .before .before .before .before .before .before .before .rise .ensures) (c .before .before .before .before .before .before .before .before .before .before .before .known-bit .ensures) (c .before .before .before .before .before .before .before .before .before .bit .ensures) ∙ not-false _ (c .before .before .before .before .before .before .before .before .if3 .left)) (le-ltb _ _ (c .before .before .before .before .before .before .before .if4 .left))) refl
+    (row-is (a .bytes .now) (a .number) (a .bit) (c .before .before .before .before .before .before .before .before .before .before .rise .result) (a .row .now) (c .before .before .before .before .before .before .before .before .before .before .rise .ensures) (c .before .before .before .before .before .before .before .before .before .before .before .known-bit .ensures) (c .before .before .before .before .before .before .why-of .ensures) (c .before .before .before .before .before .why-words .ensures) (c .before .before .before .before .before .before .before .if4 .left) (c .before .before .put-words .ensures))
 
 pub toralinge-why-spec : {M : Type 1} → statement M
 toralinge-why-spec =

@@ -7,14 +7,14 @@ use Rattle.why_walk.proofs.advance.Tie as tie
 
 place-after-requires : tie.Need-place-after-requires
 place-after-requires c κs =
-    let t = c .before .before .before in
+    let t = c .before .before in
     let s = t .before .before .before .before in
     let a = s .args in
     omega (arith, s .good, next-fits (a .s .now) (a .from .at) (a .from .fresh) (a .from .chip) (t .turn .result) (s .pre .0) (t .turn .ensures))
 
 returns : tie.Need-returns
 returns c =
-    let t = c .before .before .before .before in
+    let t = c .before .before .before in
     let a = t .before .before .before .before .args in
     advanced-is (a .s .now) (a .bit) (a .from) (t .turn .result) (t .before .said-by .ensures) (t .turn .ensures) (c .before .streak-after .ensures) (c .place-after .ensures)
 

@@ -13,7 +13,7 @@ use Rattle.why_walk.proofs.ticks_say.Tie as tie
 returns : tie.Need-returns
 returns c =
     let i = c .before .before in
-    let a = i .before .before .before .before .args in
+    let a = i .before .before .before .args in
     let e : toZ w32 (ofZ w32 (a .value)) ≡ a .value = search needs in
     ticks-scd (a .bit) (a .chip) (a .value) (a .many) (i .if1 .taken) (i .before .says-none .ensures)
     (c .before .beyond-scd .ensures ∙ ap (beyond (rule Scd (a .chip .registers .settings))) e) (c .bits-of .ensures ∙ ap bits32 e)
@@ -21,14 +21,14 @@ returns c =
 returns-2 : tie.Need-returns-2
 returns-2 c =
     let i = c .before .before in
-    let a = i .before .before .before .before .before .args in
+    let a = i .before .before .before .before .args in
     let e : toZ w32 (ofZ w32 (a .value)) ≡ a .value = search needs in
     ticks-ocd (a .bit) (a .chip) (a .value) (a .many) (i .before .if1 .left) (i .if2 .taken) (i .before .before .says-none .ensures)
     (c .before .beyond-ocd .ensures ∙ ap (beyond (rule Ocd (a .chip .registers .settings))) e) (c .bits-of2 .ensures ∙ ap bits32 e)
 
 returns-3 : tie.Need-returns-3
 returns-3 c =
-    let a = c .before .before .before .before .before .args in
+    let a = c .before .before .before .before .args in
     ticks-none (a .bit) (a .chip) (a .value) (a .many) (c .before .if1 .left) (c .if2 .left) (c .before .before .says-none .ensures)
 
 pub ticks-say-spec : {M : Type 1} → statement M

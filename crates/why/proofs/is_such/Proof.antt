@@ -1,8 +1,8 @@
 -- A bit, or a drive.
-use Rattle.why_rise.proofs.Cases.{such-off, such-up}
+use Rattle.why.proofs.Rises.{such-off, such-up}
 use borrow.Author.Needs.{needs}
-use Rattle.why_rise.proofs.is_such.Statement.{statement}
-use Rattle.why_rise.proofs.is_such.Tie as tie
+use Rattle.why.proofs.is_such.Statement.{statement}
+use Rattle.why.proofs.is_such.Tie as tie
 
 returns : tie.Need-returns
 returns c = let a = c .before .before .args in such-off (a .bit) (a .drive) (a .at) (c .before .if1 .taken) (c .bit .ensures)

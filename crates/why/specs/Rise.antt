@@ -7,8 +7,8 @@ use lib.Dec.{eqb, leb}
 use Rattle.bits.specs.Bit.{bit}
 use Rattle.why_walk.specs.declared.Standing.{Standing}
 use Rattle.why_walk.specs.Standing.{begun, advanced, standingAt}
-use Rattle.why_rise.specs.declared.Rose.{Rose}
-use Rattle.why_rise.specs.declared.Found.{Found}
+use Rattle.why.specs.declared.Rose.{Rose}
+use Rattle.why.specs.declared.Found.{Found}
 
 -- no record
 abbrev pub never : ℕ

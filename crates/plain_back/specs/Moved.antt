@@ -6,7 +6,7 @@ use Rattle.chip.specs.declared.Chip.{Chip}
 use Rattle.chip.specs.Chip.{steppedBy}
 use Rattle.chip.specs.Core.{coreOf, bare}
 use Rattle.plain_due.specs.Streaks.{noStreaks}
-use Rattle.plain_moves.specs.declared.Walk.{Walk}
+use Rattle.plain_back.specs.declared.Walk.{Walk}
 
 -- any other event moves mode, line and settings, and ends the spell where it leaves the chip in SHIP
 abbrev pub movedTo : Chip → Walk → Walk

@@ -5,9 +5,9 @@ use Prim.Native.Nat.{ℕ, _≤_, _<_}
 use borrow.Author.Tests.{eq-eqb, ne-eqb, le-leb, lt-leb}
 use Rattle.bits.specs.Bit.{bit}
 use Rattle.why_walk.specs.declared.Standing.{Standing}
-use Rattle.why_rise.specs.declared.Rose.{Rose}
-use Rattle.why_rise.specs.declared.Found.{Found}
-use Rattle.why_rise.specs.Rise.{isSuch, roseBy, roseOn, searchedOn}
+use Rattle.why.specs.declared.Rose.{Rose}
+use Rattle.why.specs.declared.Found.{Found}
+use Rattle.why.specs.Rise.{isSuch, roseBy, roseOn, searchedOn}
 
 -- ── a bit, or a drive ──
 module _ (b d : ℕ) (g : Standing) {x : Bool} where

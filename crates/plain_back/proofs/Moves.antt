@@ -1,6 +1,6 @@
 -- Mode, line and settings alone, by the parts of the code. Assumes nothing.
-use mathlib.Core.Path.{_≡_, sym, ap, _∙_}
-use mathlib.Core.Bool.{Bool, true, false, cond}
+use mathlib.Core.Path.{_≡_, ap, _∙_}
+use mathlib.Core.Bool.{Bool, cond}
 use Rattle.events.specs.declared.Counts.{Counts}
 use Rattle.events.specs.declared.Event.{Event}
 use Rattle.chip.specs.declared.Chip.{Chip}
@@ -9,8 +9,8 @@ use Rattle.chip.specs.Chip.{inShip, steppedBy}
 use Rattle.chip.specs.Core.{coreOf, bare}
 use Rattle.plain_due.specs.declared.Streaks.{Streaks}
 use Rattle.plain_due.specs.Streaks.{noStreaks}
-use Rattle.plain_moves.specs.declared.Walk.{Walk}
-use Rattle.plain_moves.specs.Moved.{movedBy}
+use Rattle.plain_back.specs.declared.Walk.{Walk}
+use Rattle.plain_back.specs.Moved.{movedBy}
 
 pub bare-is : {d : Chip} (c : Chip) → d ≡ inShip (c .setup)
     → record {
@@ -38,10 +38,6 @@ module _ (e : Event) (k : Counts) (w : Walk) {st : Stepped} {b : Chip} (s : st �
   moved-mode : b .normal ≡ steppedBy e k (w .chip) .chip .normal
   moved-mode = ap (λ (d : Chip). d .normal) moved-to
 
-  pub moved-awake : b .normal ≡ true → record { chip = b; said = w .said } ≡ movedBy e k w
+  pub moved-is : {n : Streaks} → n ≡ cond (b .normal) (w .said) noStreaks → record { chip = b; said = n } ≡ movedBy e k w
   unfolding movedBy
-  moved-awake a = λ i. record { chip = moved-to i; said = sym (ap (λ (t : Bool). cond t (w .said) noStreaks) (sym moved-mode ∙ a)) i }
-
-  pub moved-asleep : {n : Streaks} → b .normal ≡ false → n ≡ noStreaks → record { chip = b; said = n } ≡ movedBy e k w
-  unfolding movedBy
-  moved-asleep a z = λ i. record { chip = moved-to i; said = (z ∙ sym (ap (λ (t : Bool). cond t (w .said) noStreaks) (sym moved-mode ∙ a))) i }
+  moved-is z = λ i. record { chip = moved-to i; said = (z ∙ ap (λ (t : Bool). cond t (w .said) noStreaks) moved-mode) i }
