@@ -193,13 +193,12 @@ in_memory() (
     "$@"
 )
 
-# How many checks rt is to start together. It waits for the slowest of them before it starts the next ones, so five for each
-# processor keep all processors busy (three leave one idle for a minute of the gate, one for five); each takes up to 2 GB, with what it lays
-# down in memory.
+# How many checks rt is to start together: two for each processor. It waits for the slowest of them before it starts the next ones, so one for each leaves
+# processors idle; and many at once take the cache from each other. Each takes up to 2 GB, with what it lays down in memory.
 at_a_time() {
     local room jobs
     room=$(awk '/^MemAvailable:/ { print int($2 / 2200000) }' /proc/meminfo)
-    jobs=$((5 * $(nproc)))
+    jobs=$((2 * $(nproc)))
     ((jobs <= room)) || jobs=$room
     ((jobs >= 1)) || jobs=1
     echo "$jobs"
