@@ -98,10 +98,7 @@ fn value(w: &[u8]) -> u16
     if w.len() < 3 {
         return NO_BYTE;
     }
-    if w[0] != b'0' {
-        return NO_BYTE;
-    }
-    if w[1] != b'x' {
+    if (w[0] != b'0') | (w[1] != b'x') {
         return NO_BYTE;
     }
     digits(hex_digit(w[2]), w)
@@ -145,13 +142,7 @@ fn two(c: u8, d: u8) -> u8
 fn message(letter: u8, count: u8, address: u16) -> Word
     ensures { λ r. ⌜ r ≡ messageFor letter count address ⌝ }
 {
-    if count == 0 {
-        return Word::Unknown;
-    }
-    if BYTES_MOST < count {
-        return Word::Unknown;
-    }
-    if NO_BYTE <= address {
+    if (count == 0) | (BYTES_MOST < count) | (NO_BYTE <= address) {
         return Word::Unknown;
     }
     if letter == b'w' {

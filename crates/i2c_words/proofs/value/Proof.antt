@@ -1,7 +1,11 @@
 -- `value` takes 0x by its tests, and the digits by its callee.
-use Rattle.i2c_words.proofs.Cases.{value-digits}
+use Rattle.i2c_words.proofs.Cases.{both-by, value-none, value-digits}
 use Rattle.i2c_words.specs.Reader.{valueOf}
 use Rattle.i2c_words.proofs.Tests.{tests}
+use lib.Dec.{eqb}
+use lib.ListN.{getD}
+use borrow.Author.Tests.{eqb-true}
+use Rattle.i2c_words.specs.Grammar.{char0, charX}
 use borrow.Author.Needs.{needs}
 use Rattle.i2c_words.proofs.value.Statement.{statement}
 use Rattle.i2c_words.proofs.value.Tie as tie
@@ -11,15 +15,15 @@ unfolding valueOf
 returns c = search tests
 
 returns-2 : tie.Need-returns-2
-unfolding valueOf
-returns-2 c = search tests
+returns-2 c = let e = c .before .before .before in value-none (e .before .before .args .w .now) (e .if1 .left) (c .if2 .taken)
 
 returns-3 : tie.Need-returns-3
-unfolding valueOf
-returns-3 c = search tests
-
-returns-4 : tie.Need-returns-4
-returns-4 c = let s = c .before .before .before .before .before .before .before in value-digits (s .before .before .args .w .now) (c .before .hex-digit .result) (c .digits .result) (s .if1 .left) (c .before .before .before .before .before .if2 .left) (c .before .before .before .if3 .left) (c .before .hex-digit .ensures) (c .digits .ensures)
+returns-3 c =
+    let f = c .before .before .before in
+    let e = f .before .before .before in
+    let w = e .before .before .args .w .now in
+    let b = both-by (eqb (getD w 0 0) char0) (eqb (getD w 1 0) charX) (f .if2 .left) in
+    value-digits w (c .before .hex-digit .result) (c .digits .result) (e .if1 .left) (eqb-true _ _ (b .0)) (eqb-true _ _ (b .1)) (c .before .hex-digit .ensures) (c .digits .ensures)
 
 pub value-spec : {M : Type 1} → statement M
 value-spec =
@@ -27,10 +31,9 @@ value-spec =
     (tie.spec
     returns
     (λ c. search needs)
+    (λ c. search needs)
     returns-2
     (λ c. search needs)
-    returns-3
-    (λ c. search needs)
     (λ c κs. search needs)
     (λ c κs. search needs)
-    returns-4)
+    returns-3)
