@@ -24,10 +24,10 @@ sub-counts-in : tie.Need-sub-counts-in
 sub-counts-in c = inside (c .before .before .before) _ _ (c .before .event .given .1) .0
 
 part-counts-in-start : tie.Need-part-counts-in-start
-part-counts-in-start c = omega (arith, inside (c .before .before .before) _ _ (c .before .event .given .1))
+part-counts-in-start c = inside (c .before .before .before) _ _ (c .before .event .given .1) .0
 
 part-counts-in-end : tie.Need-part-counts-in-end
-part-counts-in-end c = omega (arith, inside (c .before .before .before) _ _ (c .before .event .given .1))
+part-counts-in-end c = inside (c .before .before .before) _ _ (c .before .event .given .1) .1
 
 returns : tie.Need-returns
 returns c =
