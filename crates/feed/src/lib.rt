@@ -35,6 +35,7 @@ fn played(chip: &mut [u8], records: &[u8], entries: &mut [u8]) -> i64
         return answer::NO_ROOM;
     }
     let left = stream_run::run_from(stood, fresh, records, entries);
+    // Handed on straight from its field, the chip makes the loop 3 instructions a record longer.
     let after = left.chip;
     chip_bytes_write::encode(after, left.fresh, chip);
     n as i64
