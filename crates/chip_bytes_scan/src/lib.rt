@@ -111,13 +111,11 @@ fn put_swept(out: &mut [u8], swept: Swept)
     requires { ⌜ «KEPT_CHIP» ≤ length (now out) ⌝ }
     ensures { λ _. ⌜ now (out .exit) ≡ sweptIn swept (now (out .entry)) ⌝ }
 {
-    let runs = swept.runs;
-    let judged = [runs.ov, runs.uv];
+    let judged = [swept.runs.ov, swept.runs.uv];
     put_words(out, place::OV_LOW, &judged);
     let cells = swept.cells;
     put_measured(out, swept.kept, cells, swept.sum);
-    let shown = swept.shown;
-    put_shown(out, shown);
+    put_shown(out, swept.shown);
 }
 
 // A scan, whose counts are in range.

@@ -61,12 +61,10 @@ fn plain_of(chip: Chip) -> [u8; 21]
     ensures { λ r. ⌜ r ≡ plainOf chip ⌝ }
 {
     let setup = chip.setup;
-    let bus = chip.bus;
-    let line = bus.line;
-    let owed = bus.owed;
-    let registers = chip.registers;
-    let s = registers.settings;
-    let cellbal = registers.cellbal;
+    let line = chip.bus.line;
+    let owed = chip.bus.owed;
+    let s = chip.registers.settings;
+    let cellbal = chip.registers.cellbal;
     let phase = line.phase;
     [
         LAYOUT,
@@ -97,13 +95,11 @@ fn plain_of(chip: Chip) -> [u8; 21]
 fn switches_of(chip: Chip, fresh: bool) -> [u8; 20]
     ensures { λ r. ⌜ r ≡ switchesOf chip fresh ⌝ }
 {
-    let setup = chip.setup;
-    let registers = chip.registers;
-    let s = registers.settings;
-    let shown = registers.shown;
+    let s = chip.registers.settings;
+    let shown = chip.registers.shown;
     let t = shown.status;
     [
-        weigh(setup.crc, 1),
+        weigh(chip.setup.crc, 1),
         weigh(chip.normal, 1),
         weigh(fresh, 1),
         weigh(s.adc_en, 1),
@@ -121,8 +117,8 @@ fn switches_of(chip: Chip, fresh: bool) -> [u8; 20]
         weigh(shown.cc_oneshot, 1),
         weigh(shown.dsg_on, 1),
         weigh(shown.chg_on, 1),
-        weigh(registers.load_level, 1),
-        weigh(registers.outside_level, 1),
+        weigh(chip.registers.load_level, 1),
+        weigh(chip.registers.outside_level, 1),
     ]
 }
 
@@ -132,8 +128,7 @@ fn words_of(chip: Chip) -> [u16; 25]
 {
     let setup = chip.setup;
     let runs = chip.runs;
-    let registers = chip.registers;
-    let measured = registers.measured;
+    let measured = chip.registers.measured;
     let ts = measured.ts;
     let cells = measured.cells;
     [
@@ -221,8 +216,7 @@ pub fn encode(chip: Chip, fresh: bool, out: &mut [u8])
     if out.len() < size::KEPT_CHIP {
         return;
     }
-    let setup = chip.setup;
-    if setup.part == 0 {
+    if chip.setup.part == 0 {
         put_none(out);
         return;
     }

@@ -43,9 +43,8 @@ pub extern "C" fn toralinge_register(chip: &[u8], address: u32, value: &mut u8) 
     if MOST < address {
         return number::BAD_VALUE;
     }
-    let chip = kept.chip;
-    let registers = chip.registers;
-    let byte = registers.read(chip.setup, address as u8);
+    let registers = kept.chip.registers;
+    let byte = registers.read(kept.chip.setup, address as u8);
     *value = byte;
     number::DONE
 }

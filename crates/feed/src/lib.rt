@@ -30,12 +30,12 @@ fn played(chip: &mut [u8], records: &[u8], entries: &mut [u8]) -> i64
 {
     let stood = chip_bytes::chip_of(&chip[..]);
     let fresh = chip_bytes::fresh_of(&chip[..]);
-    let setup = stood.setup;
-    let n = stream_count::count_from(setup.part, records);
+    let n = stream_count::count_from(stood.setup.part, records);
     if lacks(entries.len(), n) {
         return answer::NO_ROOM;
     }
     let left = stream_run::run_from(stood, fresh, records, entries);
+    // Handed on straight from its field, the chip makes the loop 3 instructions a record longer.
     let after = left.chip;
     chip_bytes_write::encode(after, left.fresh, chip);
     n as i64

@@ -7,9 +7,9 @@ use Rattle.chip_bytes_scan.proofs.put_swept.Tie as tie
 returns : tie.Need-returns
 returns c =
     let s = c .before .before in
-    let m = s .before .before .before .before .before in
+    let m = s .before .before .before .before in
     let r = m .before .before .before .before .before in
-    let a = r .before .before .before .before .before .args in
+    let a = r .before .before .before .before .args in
     swept-put (a .swept) (a .out .now) (r .put-words .ensures) (m .put-measured .ensures) (s .put-shown .ensures)
 
 pub put-swept-spec : {M : Type 1} → statement M

@@ -11,15 +11,15 @@ returns-2 : tie.Need-returns-2
 returns-2 c =
     let p = c .before .before in
     let i = p .before .before in
-    let a = i .before .before .before .before .before .args in
-    in-none (a .chip) (a .fresh) (a .out .now) (i .before .before .before .if1 .left) (i .if2 .taken) (p .put-none .ensures)
+    let a = i .before .before .before .before .args in
+    in-none (a .chip) (a .fresh) (a .out .now) (i .before .before .if1 .left) (i .if2 .taken) (p .put-none .ensures)
 
 returns-3 : tie.Need-returns-3
 returns-3 c =
     let p = c .before .before in
     let i = p .before .before in
-    let a = i .before .before .before .before .before .args in
-    in-some (a .chip) (a .fresh) (a .out .now) (i .before .before .before .if1 .left) (i .if2 .left) (p .put-chip .ensures)
+    let a = i .before .before .before .before .args in
+    in-some (a .chip) (a .fresh) (a .out .now) (i .before .before .if1 .left) (i .if2 .left) (p .put-chip .ensures)
 
 pub encode-spec : {M : Type 1} → statement M
 encode-spec =

@@ -20,9 +20,9 @@ returns-2 c =
 
 returns-3 : tie.Need-returns-3
 returns-3 c =
-    let s = c .before .before .before .before .before in
+    let s = c .before .before .before .before in
     let a = s .before .before .before .args in
-    given-as (some-said (a .chip .now) (s .before .decode .result) (s .before .decode .ensures) (addressSaid (a .address)) (s .stands .ensures) (c .before .before .before .before .if1 .left) ∙ address-fits (a .address) (s .before .decode .result .chip) (c .before .before .before .if2 .left)) refl (c .read .ensures)
+    given-as (some-said (a .chip .now) (s .before .decode .result) (s .before .decode .ensures) (addressSaid (a .address)) (s .stands .ensures) (c .before .before .before .if1 .left) ∙ address-fits (a .address) (s .before .decode .result .chip) (c .before .before .if2 .left)) refl (c .read .ensures)
 
 pub toralinge-register-spec : {M : Type 1} → statement M
 toralinge-register-spec =

@@ -16,13 +16,13 @@ use Rattle.feed.proofs.played.Tie as tie
 -- what was read and counted
 module _ (n : tie.After-count-from) where
   abbrev start : tie.Start
-  start = n .before .before .before .before .before .before .before .before .before
+  start = n .before .before .before .before .before .before .before .before
 
 returns : tie.Need-returns
 returns c =
     let h = c .before in
     let n = h .before in
-    let f = n .before .before in
+    let f = n .before in
     let d = f .before .before in
     let s = d .before .before .before .before .before in
     let a = s .args in
@@ -30,7 +30,7 @@ returns c =
     (sym (h .lacks .ensures) ∙ c .if1 .taken)
 
 run-from-requires : tie.Need-run-from-requires
-run-from-requires c κs = let d = c .before .before .before .before .before .before .before in let s = d .before .before .before .before .before in good-calm (s .args .chip .now) (s .pre .1) (d .chip-of .ensures)
+run-from-requires c κs = let d = c .before .before .before .before .before .before in let s = d .before .before .before .before .before in good-calm (s .args .chip .now) (s .pre .1) (d .chip-of .ensures)
 
 -- from where all entries fit
 module _ (c : tie.Else1) where
@@ -51,7 +51,7 @@ returns-2 c =
     let r = e .before .before .before .before .before in
     let i = r .before .before in
     let n = i .before .before in
-    let f = n .before .before in
+    let f = n .before in
     let d = f .before .before in
     let s = start n in
     let a = s .args in
