@@ -1,7 +1,7 @@
 # shellcheck shell=bash
 # Sourced by .ci/run, the scripts of tests/ and, over tools/command.sh, the commands. What the proved crates are built into is for x86-64 Linux:
 # elsewhere it is compiled for with Debian's cross compiler and run under qemu-user.
-# shellcheck disable=SC2034,SC2154  # me, root and usage are set, runner, compiler, program and library read by the script that sources this
+# shellcheck disable=SC2034,SC2154  # me, root and usage are set, runner, compiler, program, model and library read by the script that sources this
 
 # Says one line under the name `me` of the script that sources this, and ends with a status.
 give_up() {
@@ -239,6 +239,18 @@ want_shared() {
     if [[ ! -e $shared || $library -nt $shared ]]; then
         "${compiler[@]}" -shared -Wl,--whole-archive "$library" -Wl,--no-whole-archive -Wl,-soname,libtoralinge.so -o "$shared"
     fi
+}
+
+# want_model [FILE]: makes the model of tests/model there, by default as target/tests/model, unless it is newer than its sources, and sets `model`.
+want_model() {
+    model=${1:-$root/target/tests/model}
+    if [[ -x $model && -z $(find "$root/tests/model" -name '*.rs' -newer "$model" -print -quit) ]]; then
+        return
+    fi
+    want rustc rustc
+    mkdir -p "${model%/*}"
+    rm -f "$model"
+    rustc -O --edition 2021 "$root/tests/model/main.rs" -o "$model"
 }
 
 # want_bus: umockdev with its binding for Python, and i2c-tools where they can be installed.

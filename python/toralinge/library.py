@@ -447,5 +447,5 @@ def call(name: str, *arguments: Argument) -> int:
 
 
 def version() -> str:
-    """The library's version, as ``1.2.1``."""
+    """The library's version, as ``1.2.2``."""
     return library().text("toralinge_version")
