@@ -11,7 +11,7 @@ use Rattle.bus.specs.declared.Store.the-variants.{Nothing, At}
 use Rattle.chip_bytes_layout.specs.Place.{POINTER, FRESH}
 use Rattle.chip_bytes_layout.specs.Layout.{tagOf, firstOf, secondOf}
 use Rattle.chip.specs.declared.Chip.{Chip}
-use Rattle.chip_bytes_store.specs.Store.{wroteChip, WroteBy}
+use Rattle.chip_bytes_bus.specs.Store.{wroteChip, WroteBy}
 
 -- the bus, and no wiring record any more
 abbrev pub busIn : Bus → List ℕ → List ℕ

@@ -1,2 +1,4 @@
+pub mod Store
+pub mod StoreLaws
 pub mod Heard
 pub mod HeardLaws

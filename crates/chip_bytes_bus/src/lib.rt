@@ -30,6 +30,7 @@ use constants::size;
 use events::BusEvent;
 
 mod pair;
+mod store;
 
 use pair::pair_at;
 
@@ -125,14 +126,14 @@ fn put_bus(out: &mut [u8], bus: Bus)
     out[place::SECOND] = second_of(phase);
 }
 
-// The store that an event asks for; false, and nothing is changed, where `chip_bytes_store` leaves it.
+// The store that an event asks for; false, and nothing is changed, where `store` leaves it.
 fn put_store(out: &mut [u8], store: Store) -> bool
     requires { ⌜ «KEPT_CHIP» ≤ length (now out) ⌝ }
     ensures { λ r. ⌜ KeptBy store (now (out .entry)) r (now (out .exit)) ⌝ }
 {
     match store {
         Store::Nothing => true,
-        Store::At(at, value) => chip_bytes_store::put(out, at, value),
+        Store::At(at, value) => store::put(out, at, value),
     }
 }
 
