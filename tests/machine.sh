@@ -134,8 +134,8 @@ told_library() {
     printf '%s: %s is %s (%s s), %d left\n' "$me" "$2" "$([[ " ${fell[*]-} " = *" $2 "* ]] && echo 'not built' || echo 'built')" "$3" "$to_build" >&2
 }
 
-# How many more lanes than processors there are side by side.
-more_lanes=0
+# How many more lanes than processors there are side by side: some wait while they read and write.
+more_lanes=1
 
 # side_by_side FOLDER WORK TOLD NAME..: runs `WORK NAME` for each name, as many at once as there are processors and four at most, and `more_lanes`, each in a lane
 # with the number `lane`. What one says goes to FOLDER/NAME.log, its status and seconds to FOLDER/NAME.end. As they end, in the order of the names,
@@ -193,12 +193,13 @@ in_memory() (
     "$@"
 )
 
-# How many checks rt is to start together: two for each processor. It waits for the slowest of them before it starts the next ones, so one for each leaves
-# processors idle; and many at once take the cache from each other. Each takes up to 2 GB, with what it lays down in memory.
+# How many checks rt is to start together: four for each processor. It waits for the slowest of them before it starts the next ones, so one for each leaves
+# processors idle (two of the 18 minutes of the gate with two for each), and many at once take the cache from each other. Each takes up to 2 GB, with what it lays
+# down in memory.
 at_a_time() {
     local room jobs
     room=$(awk '/^MemAvailable:/ { print int($2 / 2200000) }' /proc/meminfo)
-    jobs=$((2 * $(nproc)))
+    jobs=$((4 * $(nproc)))
     ((jobs <= room)) || jobs=$room
     ((jobs >= 1)) || jobs=1
     echo "$jobs"

@@ -21,8 +21,8 @@ use Rattle.chip.specs.Calm.{Calmed}
 use Rattle.chip.specs.Parts.{heardOf}
 use Rattle.chip_bytes_layout.specs.Place.{FRESH}
 use Rattle.chip_bytes_layout.specs.Layout.{plainOf, switchesOf, wordsOf, chipBytes, switchAt, shownAt, chipAt, goodOf}
-use Rattle.chip_bytes_event.specs.Did.{Awake, chipHere, says, Did}
-use Rattle.chip_bytes_event.specs.DidLaws.{calm, bytes-are, did, shown-back}
+use Rattle.chip_bytes_layout.specs.Did.{Awake, chipHere, says, Did}
+use Rattle.chip_bytes_layout.specs.DidLaws.{calm, bytes-are, did, shown-back}
 use Rattle.chip_bytes_bus.specs.Heard.{busIn, KeptBy, keptChip}
 
 moved : (c : Chip) (f : Bool) (u : Bus) (rest : List ℕ) → busIn u (chipBytes c f ++ rest) ≡ chipBytes (withBus u c) false ++ rest

@@ -18,7 +18,7 @@ use Rattle.chip.specs.Chip.{withRegisters}
 use Rattle.chip.specs.Calm.{Calmed}
 use Rattle.chip_bytes_layout.specs.Place.{CELLBAL1, «ADC_EN», «DELAY_DIS», «CC_READY», «CC_ONESHOT»}
 use Rattle.chip_bytes_layout.specs.Layout.{statusSwitches, chipBytes}
-use Rattle.chip_bytes_event.specs.Did.{chipHere}
+use Rattle.chip_bytes_layout.specs.Did.{chipHere}
 
 -- ── the bytes of SYS_STAT, SYS_CTRL1 and SYS_CTRL2; every other register is one byte ──
 abbrev pub statIn : Status → List ℕ → List ℕ

@@ -21,7 +21,7 @@ use Rattle.chip.specs.declared.Chip.{Chip}
 use Rattle.chip.specs.Chip.{withRegisters}
 use Rattle.chip.specs.Calm.{Calmed}
 use Rattle.chip_bytes_layout.specs.Layout.{plainOf, switchesOf, wordsOf, chipBytes, statusAt, shownAt, settingsAt, setupAt, chipAt}
-use Rattle.chip_bytes_event.specs.Did.{chipHere}
+use Rattle.chip_bytes_layout.specs.Did.{chipHere}
 use Rattle.chip_bytes_bus.specs.Store.{statIn, pairIn, drivenIn, cellbalIn, wroteChip, Wrote}
 
 -- ── register by register, over the bytes of any chip ──

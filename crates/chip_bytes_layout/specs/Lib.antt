@@ -5,3 +5,5 @@ pub mod PhaseLaws
 pub mod TripLaws
 pub mod OneLaws
 pub mod GoodLaws
+pub mod Did
+pub mod DidLaws

@@ -21,8 +21,8 @@ use Rattle.chip.specs.Calm.{Calmed}
 use Rattle.chip_bytes_layout.specs.Place.{FRESH, «OV_LOW»}
 use Rattle.chip_bytes_layout.specs.Layout.{plainOf, switchesOf, wordsOf, chipBytes, listed, switchAt, chipAt, goodOf, chipOf}
 use Rattle.chip_bytes_layout.specs.ListedLaws.{listed-all}
-use Rattle.chip_bytes_event.specs.Did.{Awake, chipHere, says, Did}
-use Rattle.chip_bytes_event.specs.DidLaws.{calm, bytes-are, chip-is, did}
+use Rattle.chip_bytes_layout.specs.Did.{Awake, chipHere, says, Did}
+use Rattle.chip_bytes_layout.specs.DidLaws.{calm, bytes-are, chip-is, did}
 use Rattle.chip_bytes_scan.specs.declared.Swept.{Swept}
 use Rattle.chip_bytes_scan.specs.Swept.{measuredIn, shownIn, sweptIn, sweptChip, SweptBy}
 

@@ -15,9 +15,9 @@ use Rattle.chip.specs.Chip.{numbered, normally}
 use Rattle.chip.specs.Calm.{Calmed}
 use Rattle.chip_bytes_layout.specs.Place.{CELLBAL1, «CC_READY», XREADY, «OVRD_ALERT», «CC_ONESHOT», «DSG_ON», WORDS, CC, TS1}
 use Rattle.chip_bytes_layout.specs.Layout.{chipBytes, goodOf}
-use Rattle.chip_bytes_event.specs.declared.Done.{Done}
-use Rattle.chip_bytes_event.specs.declared.Done.the-variants.{Shows, Not}
-use Rattle.chip_bytes_event.specs.Did.{chipHere, Did}
+use Rattle.chip_bytes_layout.specs.declared.Done.{Done}
+use Rattle.chip_bytes_layout.specs.declared.Done.the-variants.{Shows, Not}
+use Rattle.chip_bytes_layout.specs.Did.{chipHere, Did}
 
 -- ── OVRD_ALERT and XREADY, which put off both drives, and COUNT ──
 abbrev pub overriddenIn : List ℕ → List ℕ

@@ -29,8 +29,8 @@ use Rattle.chip_bytes_layout.specs.Place.{FRESH}
 use Rattle.chip_bytes_layout.specs.Layout.{listed, plainOf, switchesOf, wordsOf, chipBytes}
 use Rattle.chip_bytes_layout.specs.Layout.{switchAt, setupAt, statusAt, shownAt, chipAt, goodOf, chipOf}
 use Rattle.chip_bytes_layout.specs.ListedLaws.{listed-all}
-use Rattle.chip_bytes_event.specs.Did.{Awake, chipHere, Did}
-use Rattle.chip_bytes_event.specs.DidLaws.{calm, bytes-are, chip-is, did, shown-back}
+use Rattle.chip_bytes_layout.specs.Did.{Awake, chipHere, Did}
+use Rattle.chip_bytes_layout.specs.DidLaws.{calm, bytes-are, chip-is, did, shown-back}
 use Rattle.chip_bytes_seldom.specs.Seldom.{overriddenIn, readiedIn, countingIn, warmedIn, Moved, Seldom}
 
 -- ── over the bytes of any chip ──

@@ -24,8 +24,8 @@ use Rattle.chip.specs.RepeatLaws.{tickedBy, ticking-is}
 use Rattle.chip_bytes_layout.specs.Place.{FRESH}
 use Rattle.chip_bytes_layout.specs.Layout.{plainOf, switchesOf, wordsOf, chipBytes, switchAt, settingsAt, runsAt, shownAt, chipAt, goodOf}
 use Rattle.chip_bytes_layout.specs.Layout.{chipOf}
-use Rattle.chip_bytes_event.specs.Did.{Awake, chipHere, Came, Did}
-use Rattle.chip_bytes_event.specs.DidLaws.{calm, bytes-are, came, did}
+use Rattle.chip_bytes_layout.specs.Did.{Awake, chipHere, Came, Did}
+use Rattle.chip_bytes_layout.specs.DidLaws.{calm, bytes-are, came, did}
 use Rattle.chip_bytes_tick.specs.Tick.{runsIn, raisedIn, PutBy}
 
 moved : (c : Chip) (f : Bool) (r : Runs) (rest : List ℕ) → r .ov ≡ c .runs .ov → r .uv ≡ c .runs .uv

@@ -39,10 +39,10 @@ use Rattle.stream_run.proofs.Steps.{other-is, done-turn}
 use Rattle.chip_bytes_layout.specs.declared.Kept.{Kept}
 use Rattle.chip_bytes_layout.specs.Layout.{keeps, keptOf, goodOf, chipOf, freshOf, keptIn}
 use Rattle.chip_bytes_layout.specs.GoodLaws.{good-keeps}
-use Rattle.chip_bytes_event.specs.declared.Done.{Done}
-use Rattle.chip_bytes_event.specs.declared.Done.the-variants.{Shows, Not}
-use Rattle.chip_bytes_event.specs.Did.{says, CameBy, DidBy}
-use Rattle.chip_bytes_event.specs.DidLaws.{part-of}
+use Rattle.chip_bytes_layout.specs.declared.Done.{Done}
+use Rattle.chip_bytes_layout.specs.declared.Done.the-variants.{Shows, Not}
+use Rattle.chip_bytes_layout.specs.Did.{says, CameBy, DidBy}
+use Rattle.chip_bytes_layout.specs.DidLaws.{part-of}
 use Rattle.chip_bytes_seldom.specs.Seldom.{SeldomBy}
 use Rattle.feed.specs.Fed.{allFit, answerBy, feedsBy, chipAfter, entriesAfter, Fed}
 use Rattle.feed.specs.Alone.{doneBytes, One, OneBy, CountedBy, RecordBy, Signal, Alone, AloneBy}

@@ -22,9 +22,9 @@ use Rattle.chip.specs.Chip.{happenedBy}
 use Rattle.constants.specs.Size.{«KEPT_CHIP»}
 use Rattle.chip_bytes_layout.specs.Place.{PART}
 use Rattle.chip_bytes_layout.specs.Layout.{goodOf, chipOf, keptIn}
-use Rattle.chip_bytes_event.specs.declared.Done.{Done}
-use Rattle.chip_bytes_event.specs.declared.Done.the-variants.{Shows, Not}
-use Rattle.chip_bytes_event.specs.Did.{says}
+use Rattle.chip_bytes_layout.specs.declared.Done.{Done}
+use Rattle.chip_bytes_layout.specs.declared.Done.the-variants.{Shows, Not}
+use Rattle.chip_bytes_layout.specs.Did.{says}
 use Rattle.constants.specs.Size.{ENTRY}
 
 -- the entry of a record that is done

@@ -5,7 +5,7 @@ ghost use lib.ListN.{length};
 ghost use lib.Seq.{sets};
 ghost use Rattle.constants.specs.Size.{ENTRY, «KEPT_CHIP»};
 ghost use Rattle.feed.specs.Alone.{doneBytes, BareBy, CountedBy, RecordBy, Signal, AloneBy};
-use chip_bytes_event::Done;
+use chip_bytes_layout::Done;
 use chip_bytes_layout::place;
 use constants::kind;
 use constants::number;

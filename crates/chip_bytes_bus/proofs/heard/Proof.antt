@@ -5,8 +5,8 @@ use Prim.Native.Nat.{_≤_}
 use native.Mathlib.Omega.{arith}
 use lib.ListN.{length}
 use lib.Seq.{length-take-le}
-use Rattle.chip_bytes_event.specs.Did.{Awake}
-use Rattle.chip_bytes_event.proofs.Bytes.{awake, up, down}
+use Rattle.chip_bytes_layout.specs.Did.{Awake}
+use Rattle.chip_bytes_layout.proofs.Bytes.{awake, up, down}
 use Rattle.chip_bytes_bus.specs.Heard.{KeptBy}
 use Rattle.chip_bytes_bus.specs.HeardLaws.{kept-not, hears-did}
 use borrow.Author.Needs.{needs}

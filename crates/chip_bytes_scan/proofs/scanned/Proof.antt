@@ -3,8 +3,8 @@ use mathlib.Core.Path.{sym}
 use Prim.Native.Nat.{_≤_}
 use lib.ListN.{length}
 use lib.Seq.{length-take-le}
-use Rattle.chip_bytes_event.specs.Did.{Awake}
-use Rattle.chip_bytes_event.proofs.Bytes.{awake}
+use Rattle.chip_bytes_layout.specs.Did.{Awake}
+use Rattle.chip_bytes_layout.proofs.Bytes.{awake}
 use Rattle.chip_bytes_scan.specs.SweptLaws.{sweeps-did}
 use borrow.Author.Needs.{needs}
 use Rattle.chip_bytes_scan.proofs.scanned.Statement.{statement}

@@ -4,7 +4,7 @@ use mathlib.Core.Bool.{true, false}
 use native.Mathlib.Omega.{arith}
 use lib.ListN.{length-set}
 use lib.Seq.{length-take-le}
-use Rattle.chip_bytes_event.proofs.Bytes.{up, down}
+use Rattle.chip_bytes_layout.proofs.Bytes.{up, down}
 use Rattle.chip_bytes_seldom.specs.SeldomLaws.{pin-moves}
 use borrow.Author.Needs.{needs}
 use Rattle.chip_bytes_seldom.proofs.put_pin.Statement.{statement}

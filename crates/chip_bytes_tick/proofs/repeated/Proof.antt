@@ -7,8 +7,8 @@ use lib.IntN.{ℤ}
 use lib.ListN.{length}
 use lib.Seq.{length-take-le}
 use Rattle.protection.specs.Repeat.{ticksJudged}
-use Rattle.chip_bytes_event.specs.Did.{Awake}
-use Rattle.chip_bytes_event.proofs.Bytes.{awake}
+use Rattle.chip_bytes_layout.specs.Did.{Awake}
+use Rattle.chip_bytes_layout.proofs.Bytes.{awake}
 use Rattle.chip_bytes_tick.specs.TickLaws.{repeats-came}
 use borrow.Author.Needs.{needs}
 use Rattle.chip_bytes_tick.proofs.repeated.Statement.{statement}

@@ -4,7 +4,7 @@ use mir.Syntax.{w32}
 use mir.Val.{toZ, ofZ}
 use lib.IntN.{ℤ}
 use Rattle.events.specs.Event.{Sense}
-use Rattle.chip_bytes_event.specs.Did.{DidBy}
+use Rattle.chip_bytes_layout.specs.Did.{DidBy}
 use Rattle.feed.proofs.Ones.{tick-one}
 use borrow.Author.Needs.{needs}
 use Rattle.feed.proofs.alone.tick_by.Statement.{statement}

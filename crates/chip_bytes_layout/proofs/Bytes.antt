@@ -10,8 +10,8 @@ use borrow.Author.Tests.{le-leb}
 use mir.Syntax.{w8}
 use mir.Val.{Fits}
 use Rattle.writer.specs.BytesLaws.{Bytes}
 use Rattle.chip_bytes_layout.specs.Layout.{switchAt}
-use Rattle.chip_bytes_event.specs.Did.{Awake, AwakeBy}
+use Rattle.chip_bytes_layout.specs.Did.{Awake, AwakeBy}
 
 -- a slice's numbers are bytes
 pub bytes-all : (b : List ℕ) → ((i : ℕ) → Fits w8 (getD b i 0)) → Bytes b

@@ -11,10 +11,10 @@ use Rattle.chip.specs.declared.Chip.{Chip}
 use Rattle.chip.specs.declared.Stepped.{Stepped}
 use Rattle.chip.specs.Chip.{happened}
 use Rattle.constants.specs.Size.{«KEPT_CHIP»}
 use Rattle.chip_bytes_layout.specs.Place.{NORMAL}
 use Rattle.chip_bytes_layout.specs.Layout.{switchAt, chipAt, goodOf, chipOf, keptIn}
-use Rattle.chip_bytes_event.specs.declared.Done.{Done}
-use Rattle.chip_bytes_event.specs.declared.Done.the-variants.{Shows, Not}
+use Rattle.chip_bytes_layout.specs.declared.Done.{Done}
+use Rattle.chip_bytes_layout.specs.declared.Done.the-variants.{Shows, Not}
 
 -- bytes that have room for a chip, and one in NORMAL where they are good
 pub record Awake (b : List ℕ) : Type 0 where

@@ -2,9 +2,9 @@
 use mathlib.Core.Path.{sym}
 use borrow.Author.Needs.{needs}
 use lib.Seq.{length-take-le}
-use Rattle.chip_bytes_event.proofs.Bytes.{awake-by}
-use Rattle.chip_bytes_event.proofs.awake.Statement.{statement}
-use Rattle.chip_bytes_event.proofs.awake.Tie as tie
+use Rattle.chip_bytes_layout.proofs.Bytes.{awake-by}
+use Rattle.chip_bytes_layout.proofs.awake.Statement.{statement}
+use Rattle.chip_bytes_layout.proofs.awake.Tie as tie
 
 returns : tie.Need-returns
 returns c = search needs

@@ -17,14 +17,14 @@ use Rattle.chip.specs.declared.Chip.{Chip}
 use Rattle.chip.specs.declared.Stepped.{Stepped}
 use Rattle.chip.specs.Chip.{normally, asleep, settled, happened}
 use Rattle.chip.specs.Calm.{Calmed, settles}
 use Rattle.chip_bytes_layout.specs.Place.{PART}
 use Rattle.chip_bytes_layout.specs.Layout.{plainOf, switchesOf, wordsOf, chipBytes, switchAt, shownAt, chipAt, formed}
 use Rattle.chip_bytes_layout.specs.Layout.{setupStands, levelStands, freshStands, couldStand}
 use Rattle.chip_bytes_layout.specs.Layout.{none, keptBytes, goodAt, chipIn, goodOf, chipOf, keptIn}
 use Rattle.chip_bytes_layout.specs.OneLaws.{part-not}
 use Rattle.chip_bytes_layout.specs.TripLaws.{forth}
 use Rattle.chip_bytes_layout.specs.GoodLaws.{zero-at}
-use Rattle.chip_bytes_event.specs.Did.{Awake, chipHere, says, Came, Did}
+use Rattle.chip_bytes_layout.specs.Did.{Awake, chipHere, says, Came, Did}
 
 -- what is shown, read back
 pub shown-back : (c : Chip) (fresh : Bool) (rest : List ℕ) → shownAt (take 96 (chipBytes c fresh ++ rest)) ≡ c .registers .shown
