@@ -93,10 +93,12 @@ pub fn scd_limit(protect1: u8) -> u32
     ensures { λ r. ⌜ r ≡ getD (scdLimit (bit protect1 128)) (protect1 % 8) 0 ⌝ }
 {
     let code = (protect1 % 8) as usize;
+    let low = SCD_LOW[code];
+    let high = SCD_HIGH[code];
     if bits::bit(protect1, weight::RSNS) {
-        SCD_HIGH[code]
+        high
     } else {
-        SCD_LOW[code]
+        low
     }
 }
 
@@ -104,10 +106,12 @@ pub fn ocd_limit(protect1: u8, protect2: u8) -> u32
     ensures { λ r. ⌜ r ≡ getD (ocdLimit (bit protect1 128)) (protect2 % 16) 0 ⌝ }
 {
     let code = (protect2 % 16) as usize;
+    let low = OCD_LOW[code];
+    let high = OCD_HIGH[code];
     if bits::bit(protect1, weight::RSNS) {
-        OCD_HIGH[code]
+        high
     } else {
-        OCD_LOW[code]
+        low
     }
 }
 
