@@ -1,6 +1,5 @@
 // Limits and delays by register code, and the verdict of a tick.
 ghost use mathlib.Core.Path.{_≡_};
-ghost use mathlib.Core.Bool.{cond};
 ghost use Prim.Native.Nat.{_%_, _<_};
 ghost use lib.ListN.{getD};
 ghost use Rattle.events.specs.Fault.{Ov, Uv, Scd, Ocd};
@@ -115,29 +114,31 @@ pub fn ocd_limit(protect1: u8, protect2: u8) -> u32
     }
 }
 
-// What is left of a delay.
-fn delay(short: bool, long: u16) -> u16
-    ensures { λ r. ⌜ r ≡ cond short 1 long ⌝ }
-{
-    if short { NO_DELAY } else { long }
-}
-
 pub fn ov_scans(s: Settings) -> u16
     ensures { λ r. ⌜ r ≡ rule Ov s .need ⌝ }
 {
-    delay(s.delay_dis, OV_SCANS[(s.protect3 / 16 % 4) as usize])
+    if s.delay_dis {
+        return NO_DELAY;
+    }
+    OV_SCANS[(s.protect3 / 16 % 4) as usize]
 }
 
 pub fn uv_scans(s: Settings) -> u16
     ensures { λ r. ⌜ r ≡ rule Uv s .need ⌝ }
 {
-    delay(s.delay_dis, UV_SCANS[(s.protect3 / 64 % 4) as usize])
+    if s.delay_dis {
+        return NO_DELAY;
+    }
+    UV_SCANS[(s.protect3 / 64 % 4) as usize]
 }
 
 pub fn scd_ticks(s: Settings) -> u16
     ensures { λ r. ⌜ r ≡ rule Scd s .need ⌝ }
 {
-    delay(s.delay_dis, SCD_TICKS[(s.protect1 / 8 % 4) as usize])
+    if s.delay_dis {
+        return NO_DELAY;
+    }
+    SCD_TICKS[(s.protect1 / 8 % 4) as usize]
 }
 
 // The over-current ticks of a code: 256, then 640 doubled with each code more. No table: the pack tester has no room for one.
@@ -154,7 +155,10 @@ fn ticks_at(code: u8) -> u16
 pub fn ocd_ticks(s: Settings) -> u16
     ensures { λ r. ⌜ r ≡ rule Ocd s .need ⌝ }
 {
-    delay(s.delay_dis, ticks_at(s.protect2 / 16 % 8))
+    if s.delay_dis {
+        return NO_DELAY;
+    }
+    ticks_at(s.protect2 / 16 % 8)
 }
 
 // How far a tick's value lies below 0; the least i32 too.

@@ -69,10 +69,12 @@ pub enum Work {
 fn face_of(chip: Chip) -> Face
     ensures { λ r. ⌜ r ≡ faceOf chip ⌝ }
 {
+    let registers = chip.registers;
+    let shown = registers.shown;
     let stat = chip.status();
     let pins = bits::weigh(stat != 0, weight::PIN_ALERT)
-        + bits::weigh(chip.registers.shown.chg_on, weight::PIN_CHG)
-        + bits::weigh(chip.registers.shown.dsg_on, weight::PIN_DSG);
+        + bits::weigh(shown.chg_on, weight::PIN_CHG)
+        + bits::weigh(shown.dsg_on, weight::PIN_DSG);
     Face { stat, pins }
 }
 
@@ -183,19 +185,20 @@ fn seldom(chip: Chip, event: Event, counts: [u16; 15]) -> Stepped
     requires { ⌜ Calmed chip ⌝ }
     ensures { λ r. ⌜ r ≡ happenedBy event counts chip ⌝ }
 {
+    let registers = chip.registers;
     match event {
         Event::Setup(_) => numbered(number::BAD_KIND, chip),
         Event::Por => chip.por(),
         Event::Boot => roused(chip),
         Event::Scan => numbered(number::ASLEEP, chip),
         Event::Temp => heated(chip, counts),
-        Event::Count(cc) => registers_moved(chip, chip.registers.coulombs(cc)),
+        Event::Count(cc) => registers_moved(chip, registers.coulombs(cc)),
         Event::Sense(_) => numbered(number::ASLEEP, chip),
-        Event::Pin => registers_moved(chip, chip.registers.pulled()),
-        Event::Load(level) => registers_moved(chip, chip.registers.loaded(level)),
-        Event::Xready => registers_moved(chip, chip.registers.unready()),
+        Event::Pin => registers_moved(chip, registers.pulled()),
+        Event::Load(level) => registers_moved(chip, registers.loaded(level)),
+        Event::Xready => registers_moved(chip, registers.unready()),
         Event::OnBus(bus) => chip.doze(bus),
-        Event::Level(level) => registers_moved(chip, leveled(chip.registers, level)),
+        Event::Level(level) => registers_moved(chip, leveled(registers, level)),
         Event::Ticks(value, repeat) => chip.ticked(value, repeat as u32),
         Event::Soak(value, repeat) => chip.ticked(value, repeat),
         Event::Wires(_) => numbered(number::BAD_KIND, chip),
@@ -260,7 +263,8 @@ fn act(chip: Chip, fresh: bool, event: Event, rest: &[u8], next: usize) -> Stepp
         Role::Makes(setup) => born(setup),
         Role::Rewires(cells) => rewired(chip, fresh, cells),
         Role::Happens => {
-            let counts = counted(chip.setup.part, event, rest, next);
+            let setup = chip.setup;
+            let counts = counted(setup.part, event, rest, next);
             seldom(chip, event, counts)
         }
     }

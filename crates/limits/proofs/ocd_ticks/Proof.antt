@@ -1,7 +1,7 @@
 -- `ocd_ticks` meets its contract, by DELAY_DIS; the ticks of the code are those of the list.
-use mathlib.Core.Path.{ap, _∙_}
-use mathlib.Core.Bool.{cond}
-use Prim.Native.Nat.{ℕ, _/_, _%_}
+use mathlib.Core.Path.{_∙_}
+use Prim.Native.Nat.{_/_, _%_}
+use Prim.Native.Nat.{_/_, _%_}
 use native.Mathlib.Omega.{arith}
 use Rattle.limits.specs.Rule.{rule}
 use Rattle.limits.specs.TicksLaws.{ticks-are}
@@ -11,15 +11,16 @@ use Rattle.limits.proofs.ocd_ticks.Tie as tie
 
 returns : tie.Need-returns
 unfolding rule
-returns c =
-    let s = c .before .before .before .args .s in
-    c .delay .ensures
-    ∙ ap (λ (n : ℕ). cond (s .«delay_dis») 1 n) (c .before .ticks-at .ensures ∙ ticks-are (s .protect2 / 16 % 8) (omega arith))
+returns c = simp (c .if1 .taken)
+
+returns-2 : tie.Need-returns-2
+unfolding rule
+returns-2 c = simp (c .before .before .if1 .left) (c .ticks-at .ensures ∙ ticks-are (c .before .before .before .args .s .protect2 / 16 % 8) (omega arith))
 
 pub ocd-ticks-spec : {M : Type 1} → statement M
 ocd-ticks-spec =
     tie.close
     (tie.spec
+    returns
     (λ c κs. search needs)
-    (λ c κs. search needs)
-    returns)
+    returns-2)

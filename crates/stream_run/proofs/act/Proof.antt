@@ -18,9 +18,9 @@ returns-2 c =
 
 returns-3 : tie.Need-returns-3
 returns-3 c =
-    let d = c .before .before .before .before in let a = d .before .before in
+    let d = c .before .before .before .before .before in let a = d .before .before in
     other-is (a .args .fresh) (a .args .chip) (a .args .rest .now) (a .args .event) (a .args .next) _ (a .pre .0)
-    (sym (d .role-of .ensures) ∙ c .before .before .enum-told .given .1) (c .before .counted .ensures) (c .seldom .ensures)
+    (sym (d .role-of .ensures) ∙ c .before .before .before .enum-told .given .1) (c .before .counted .ensures) (c .seldom .ensures)
 
 pub act-spec : {M : Type 1} → statement M
 act-spec =

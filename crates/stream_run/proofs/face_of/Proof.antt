@@ -10,7 +10,7 @@ use Rattle.stream_run.proofs.face_of.Statement.{statement}
 use Rattle.stream_run.proofs.face_of.Tie as tie
 
 returns : tie.Need-returns
-returns c = let k = c .before .before .before .before .args .chip in let stat = c .before .before .before .status .ensures in simp (c .weigh3 .ensures .0, c .before .weigh2 .ensures .0, c .before .before .weigh .ensures .0 ∙ ap (λ (n : ℕ). weighed (not (eqb n 0)) 4) stat ∙ ap (λ (b : Bool). weighed b 4) (sym (alert-is (k .registers .shown .status))), stat)
+returns c = let k = c .before .before .before .before .before .before .args .chip in let stat = c .before .before .before .status .ensures in simp (c .weigh3 .ensures .0, c .before .weigh2 .ensures .0, c .before .before .weigh .ensures .0 ∙ ap (λ (n : ℕ). weighed (not (eqb n 0)) 4) stat ∙ ap (λ (b : Bool). weighed b 4) (sym (alert-is (k .registers .shown .status))), stat)
 
 pub face-of-spec : {M : Type 1} → statement M
 face-of-spec =
