@@ -134,7 +134,7 @@ told_library() {
     printf '%s: %s is %s (%s s), %d left\n' "$me" "$2" "$([[ " ${fell[*]-} " = *" $2 "* ]] && echo 'not built' || echo 'built')" "$3" "$to_build" >&2
 }
 
-# How many more lanes than processors there are side by side: some wait while they read and write.
+# How many more lanes than processors there are side by side: some wait for files, a browser or a bus.
 more_lanes=1
 
 # side_by_side FOLDER WORK TOLD NAME..: runs `WORK NAME` for each name, as many at once as there are processors and four at most, and `more_lanes`, each in a lane
