@@ -3,11 +3,11 @@
  *
  * Link with target/libtoralinge.a, for x86-64 Linux; `./library` proves every call and writes it. A
  * program that wants less links with single ones, in any number: `rt staticlib NAME` writes
- * target/staticlib/libNAME.a, where NAME is i2c_lists for toralinge_list, services_stream for
- * toralinge_bleed and toralinge_reply, season_stream for toralinge_season, season_scans for toralinge_scans, plain for
- * toralinge_plain, feed for toralinge_feed, chip_c for the other calls on a kept chip, record_c for toralinge_record and
- * toralinge_values, season_c for reports that are kept, values_c for the conversions and the CRC, why for toralinge_why
- * and toralinge_off, and stream for all other calls.
+ * target/staticlib/libNAME.a, where NAME is i2c_lists for toralinge_list, chip_c for toralinge_bleed,
+ * toralinge_reply and the calls that read a kept chip, feed for toralinge_feed, season_stream for
+ * toralinge_season, season_c for toralinge_scans and reports that are kept, plain for toralinge_plain,
+ * record_c for toralinge_record and toralinge_values, values_c for the conversions and the CRC, why for
+ * toralinge_why and toralinge_off, and stream for all other calls.
  *
  * The rules stand in docs/CHIP.md, each with a number. Every call here answers for every value of its
  * arguments, and is proved to answer exactly as these rules say.
@@ -339,7 +339,7 @@ uint8_t toralinge_reading(const uint8_t *stream, size_t length, double *reading,
 
 /*
  * Plays a whole stream on a new chip and proposes which cells to bleed by the counts then in its cell
- * registers. (In libservices_stream.a.)
+ * registers. (In libchip_c.a.)
  *
  * margin          1 to 16,383 counts
  * cellbal, room   where the three CELLBAL bytes go, and how many bytes may stand there
@@ -363,7 +363,7 @@ uint8_t toralinge_bleed(const uint8_t *stream, size_t length, uint32_t margin, u
 
 /*
  * Plays a whole stream on a new chip and replies to a Smart Battery command for the chip as it then stands.
- * (In libservices_stream.a.)
+ * (In libchip_c.a.)
  *
  * command         0x08 Temperature(), tenths of a kelvin: (h + 546,300) / 200 rounded down, h the die value of
  *                 TS1 as toralinge_die_temperature gives it; 0x09 Voltage(), mV: the total of the connected

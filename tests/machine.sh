@@ -193,9 +193,9 @@ in_memory() (
     "$@"
 )
 
-# How many checks rt is to start together: four for each processor. It waits for the slowest of them before it starts the next ones, so one for each leaves
-# processors idle (two of the 18 minutes of the gate with two for each), and many at once take the cache from each other. Each takes up to 2 GB, with what it lays
-# down in memory.
+# How many checks rt is to start together: four for each processor. It waits for the slowest of them before it starts the next ones, so few leave processors
+# idle (with two for each a minute and a half of the gate), and many at once take the cache from each other. Each takes up to 2 GB, with what it lays down in
+# memory.
 at_a_time() {
     local room jobs
     room=$(awk '/^MemAvailable:/ { print int($2 / 2200000) }' /proc/meminfo)
@@ -206,7 +206,7 @@ at_a_time() {
 }
 
 # The crates whose calls include/toralinge.h declares, those first that take longest.
-calls=(feed why season_c plain chip_c services_stream i2c_lists season_scans stream season_stream record_c values_c)
+calls=(feed why season_c plain chip_c i2c_lists season_scans stream season_stream record_c values_c)
 
 # want_calls: all of them in one library, with those of c/ that are text; sets `library`.
 want_calls() {

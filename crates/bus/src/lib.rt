@@ -231,7 +231,7 @@ fn owe(owed: Owed, crc: u8, kept: bool, at: u8, here: u8, low: u8) -> Owed
 {
     let byte = next_byte(kept, owed.low, here);
     let sum = crc_byte(crc, byte);
-    let low = next_byte(is_high(at), low, owed.low);
+    let low = if is_high(at) { low } else { owed.low };
     Owed { sum, low }
 }
 

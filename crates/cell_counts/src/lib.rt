@@ -15,7 +15,7 @@ pub struct Looked {
 }
 
 // Whether a count is under: not below the floor, and below the line.
-fn between(x: u16, floor: u16, least: u16) -> bool
+fn is_under(x: u16, floor: u16, least: u16) -> bool
     ensures { λ r. ⌜ r ≡ (leb floor x && ltb x least) ⌝ }
 {
     (floor <= x) & (x < least)
@@ -35,7 +35,7 @@ pub fn look(counts: [u16; 15], inputs: u8, most: u16, floor: u16, least: u16) ->
         cells[i] = x;
         sum += x as u32;
         over = over | (most < x);
-        under = under | between(x, floor, least);
+        under = under | is_under(x, floor, least);
     }
     Looked {
         cells,

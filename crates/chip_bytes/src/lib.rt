@@ -46,7 +46,7 @@ fn phase_good(tag: u8, x: u8, y: u8) -> bool
     }
 }
 
-// Whether each switch is 0 or 1.
+// Whether each switch is 0 or 1: they stand side by side, from CRC to the first byte that has no field.
 fn switches_good(b: &[u8]) -> bool
     requires { ⌜ length (now b) ≡ «KEPT_CHIP» ⌝ }
     ensures { λ r. ⌜ r ≡ within 1 (listed (now (b .entry)) SWITCHES SWITCHED) ⌝ }

@@ -1,1 +1,2 @@
+pub mod LeftStanding
 pub mod Standing

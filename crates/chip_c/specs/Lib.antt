@@ -1,2 +1,4 @@
 pub mod Asked
+pub mod Asks
+pub mod DoneLaws
 pub mod SameLaws

@@ -1,11 +1,12 @@
-// A chip that is kept as bytes, for C: what its registers hold, its voltages, and what forecasting, workshops and chargers ask.
+// A chip that is kept as bytes, for C: what its registers hold, its voltages, and what forecasting, workshops and chargers ask. What these two ask of the chip that a
+// stream leaves stands in `left`.
 ghost use mathlib.Core.Path.{_≡_};
 ghost use Rattle.chip_bytes_layout.specs.Layout.{keptOf};
 ghost use Rattle.constants.specs.Answer.{numberSaid};
 ghost use Rattle.chip_voltage.specs.Voltage.{saidForecast};
 ghost use Rattle.values_c.specs.Convert.{Gives};
 ghost use Rattle.smart_battery.specs.Reply.{Replied};
-ghost use Rattle.services_stream.specs.Asks.{Bled};
+ghost use Rattle.chip_c.specs.Asks.{Bled};
 ghost use Rattle.chip_c.specs.Asked.{byteOr, standsNumber, registerSaid, voltageOf, proposalOf, wordOf, ReadOf};
 use chip_bytes_layout::Kept;
 use chip_voltage::CellAnswer;
@@ -13,6 +14,8 @@ use chip_voltage::ForecastAnswer;
 use constants::number;
 use constants::size;
 use services_chip::Proposal;
+
+mod left;
 
 // The most that an address and a command may be.
 const MOST: u32 = 0xFF;
@@ -92,7 +95,7 @@ pub extern "C" fn toralinge_bleed_of(chip: &[u8], margin: u32, cellbal: &mut [u8
     let answer = services_chip::bleeding(kept.chip, margin);
     match answer {
         Proposal::No(why) => why,
-        Proposal::Is(choice) => services_stream::put_choice(cellbal, choice),
+        Proposal::Is(choice) => left::put_choice(cellbal, choice),
     }
 }
 

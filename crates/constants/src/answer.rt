@@ -5,10 +5,6 @@ pub const NO_ROOM: i64 = -5;
 
 pub const CUT: i64 = -9;
 
-pub const NO_LIST: i64 = -20;
-
-pub const BAD_ADDRESS: i64 = -21;
-
 pub const TOO_LONG: i64 = -24;
 
 pub const NO_CHIP: i64 = -26;

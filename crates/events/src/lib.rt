@@ -1,5 +1,6 @@
 // What the chip is set up with, and what can happen to it.
 ghost use mathlib.Core.Path.{_≡_};
+ghost use Rattle.constants.specs.Range.{«PART_MOST», «ADDRESS_LEAST», «ADDRESS_MOST»};
 ghost use Rattle.events.specs.Event.{besideOf};
 ghost use Rattle.events.specs.Role.{roleOf};
 ghost use Rattle.events.specs.Setup.{between, checkedOf, inputs as inputsSpec, groups as groupsSpec};
@@ -83,14 +84,14 @@ pub enum Checked {
 
 // Whether there is such a part.
 fn part_fits(part: u8) -> bool
-    ensures { λ r. ⌜ r ≡ between 1 3 part ⌝ }
+    ensures { λ r. ⌜ r ≡ between 1 «PART_MOST» part ⌝ }
 {
     (1 <= part) & (part <= range::PART_MOST)
 }
 
 // Whether a chip may have this address.
 fn address_fits(address: u8) -> bool
-    ensures { λ r. ⌜ r ≡ between 8 119 address ⌝ }
+    ensures { λ r. ⌜ r ≡ between «ADDRESS_LEAST» «ADDRESS_MOST» address ⌝ }
 {
     (range::ADDRESS_LEAST <= address) & (address <= range::ADDRESS_MOST)
 }

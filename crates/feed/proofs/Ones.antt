@@ -1,6 +1,6 @@
 -- One record, done in the bytes, is that record fed. Assumes nothing.
 use mathlib.Core.Path.{_≡_, refl, sym, ap, ap₂, _∙_, subst}
-use mathlib.Core.Bool.{Bool, true, false, not, _&&_, _||_, cond, true≢false}
+use mathlib.Core.Bool.{Bool, true, false, not, _&&_, _||_, cond}
 use mathlib.Core.List.{List, [], _∷_, _++_}
 use Prim.Native.Nat.{ℕ, zero, suc, _-_, _*_, _≤_}
 use native.Mathlib.Omega.{arith}
@@ -9,7 +9,7 @@ use lib.IntN.{ℤ, pos}
 use lib.ListN.{length, getD, take, drop, drop-of-length-le}
 use lib.Seq.{sets, sets-eq}
 use borrow.Author.Needs.{needs}
-use borrow.Author.Tests.{eqb-true, ltb-false, le-ltb, le-leb}
+use borrow.Author.Tests.{eqb-true, le-ltb, le-leb}
 use Rattle.events.specs.declared.BusEvent.{BusEvent}
 use Rattle.events.specs.declared.Event.{Event}
 use Rattle.events.specs.declared.Event.the-variants.{Scan, Temp, Sense, OnBus, Ticks, Soak}
@@ -299,15 +299,6 @@ module _ (b s old : List ℕ) (kind next : ℕ) (header : headerOf s ≡ Header 
             (subst (λ (r : Done). RecordBy b (getD b 1 0) kind (take (next - 4) (drop 4 s)) r chip) e h);
         wrote = wrote;
       }
-
--- one record and no more, with room for its entry
-pub sole-fits : (next size room : ℕ) → (not (eqb next size) || ltb room 5) ≡ false → (next ≡ size) × (5 ≤ room)
-sole-fits next size room h = by (eqb next size) (ltb room 5) refl refl h
-  where
-    by : (t u : Bool) → eqb next size ≡ t → ltb room 5 ≡ u → (not t || u) ≡ false → (next ≡ size) × (5 ≤ room)
-    by true true p q h = absurd (true≢false h)
-    by true false p q h = (eqb-true next size p, ltb-false room 5 q)
-    by false u p q h = absurd (true≢false h)
 
 pub not-done : (b : List ℕ) (part kind : ℕ) (p : List ℕ) {r : Done} {chip : List ℕ} → RecordBy b part kind p r chip → r ≡ Not → chip ≡ b
 not-done b part kind p {r} {chip} h e = subst (λ (r : Done). RecordBy b part kind p r chip) e h

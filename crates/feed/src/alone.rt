@@ -3,7 +3,7 @@ ghost use mathlib.Core.Path.{_≡_};
 ghost use Prim.Native.Nat.{_≤_};
 ghost use lib.ListN.{length};
 ghost use lib.Seq.{sets};
-ghost use Rattle.constants.specs.Size.{ENTRY, «KEPT_CHIP»};
+ghost use Rattle.constants.specs.Size.{ENTRY};
 ghost use Rattle.feed.specs.Alone.{doneBytes, BareBy, CountedBy, RecordBy, Signal, AloneBy};
 use chip_bytes_layout::Done;
 use chip_bytes_layout::place;
@@ -192,14 +192,19 @@ fn done_by(chip: &mut [u8], part: u8, kind: u16, b: &[u8]) -> Done
 // Does records that are one scan, one tick, ticks of one value, one event of the bus that does not ship, or one of those that are seldom met, on a chip in
 // NORMAL; else it changes nothing.
 pub fn done(chip: &mut [u8], records: &[u8], entries: &mut [u8]) -> bool
-    requires { ⌜ «KEPT_CHIP» ≤ length (now chip) ⌝ }
     ensures { λ r. ⌜ AloneBy (now (chip .entry)) (now (records .entry)) (now (entries .entry)) r (now (chip .exit)) (now (entries .exit)) ⌝ }
 {
+    if chip.len() < size::KEPT_CHIP {
+        return false;
+    }
+    if entries.len() < size::ENTRY {
+        return false;
+    }
     let framed = records::header_of(records);
     let Framed::Header { kind, next } = framed else {
         return false;
     };
-    if (next != records.len()) | (entries.len() < size::ENTRY) {
+    if next != records.len() {
         return false;
     }
     let part = chip[place::PART];

@@ -30,7 +30,7 @@ fn played(chip: &mut [u8], records: &[u8], entries: &mut [u8]) -> i64
 {
     let stood = chip_bytes::chip_of(&chip[..]);
     let fresh = chip_bytes::fresh_of(&chip[..]);
-    let n = stream_count::count_from(stood.setup.part, records);
+    let n = turn::frames::count_from(stood.setup.part, records);
     if lacks(entries.len(), n) {
         return answer::NO_ROOM;
     }

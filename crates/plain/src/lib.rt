@@ -159,7 +159,7 @@ pub extern "C" fn toralinge_plain(bytes: &[u8], entries: &mut [u8]) -> i64
     if range::STREAM_MOST < bytes.len() {
         return answer::TOO_LONG;
     }
-    let n = stream_count::count(bytes);
+    let n = turn::frames::count(bytes);
     if entries.len() / size::ENTRY < n {
         return answer::NO_ROOM;
     }

@@ -2,6 +2,7 @@
 ghost use mathlib.Core.Path.{_≡_};
 ghost use mathlib.Core.Bool.{cond};
 ghost use lib.ListN.{take, drop};
+ghost use Rattle.constants.specs.Number.{DONE, «BAD_VALUE»};
 ghost use Rattle.events.specs.Event.{within, countMost, senseFits, ticksFit, countsWanted, countsFit, eventOf, meantOf};
 ghost use Rattle.ranges.specs.Refusal.{refusalOf};
 use constants::number;
@@ -81,7 +82,7 @@ pub fn counts_fit(wanted: u8, counts: Counts) -> bool
 
 // The number of a value, by whether it is in range.
 fn number_of(good: bool) -> u8
-    ensures { λ r. ⌜ r ≡ cond good 0 3 ⌝ }
+    ensures { λ r. ⌜ r ≡ cond good DONE «BAD_VALUE» ⌝ }
 {
     if good {
         number::DONE

@@ -119,8 +119,9 @@ impl Shown {
     {
         let dsg_on = bits::bit(v, weight::DSG_ON) & !self.status.holds_dsg();
         let chg_on = bits::bit(v, weight::CHG_ON) & !self.status.holds_chg();
-        let cc_oneshot = bit_left(bits::bit(v, weight::CC_ONESHOT), v, weight::CC_EN);
-        let cc_oneshot = cc_oneshot & !self.status.cc_ready;
+        let cc_oneshot = bits::bit(v, weight::CC_ONESHOT)
+            & !bits::bit(v, weight::CC_EN)
+            & !self.status.cc_ready;
         self.dsg_on = dsg_on;
         self.chg_on = chg_on;
         self.cc_oneshot = cc_oneshot;

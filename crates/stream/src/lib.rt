@@ -3,8 +3,8 @@ ghost use mathlib.Core.Path.{_≡_};
 ghost use Rattle.stream_run.specs.Stream.{Played};
 use constants::answer;
 use constants::size;
-use stream_count::count;
 use stream_run::run_from;
+use turn::frames::count;
 use turn::no_chip;
 
 mod forecast;

@@ -24,7 +24,7 @@ use Rattle.chip.specs.Chip.{numbered}
 use Rattle.chip.specs.Calm.{Calmed, ship-calm}
 use Rattle.turn.specs.Turn.{Turn, turn, turnOf, turned, none, entryOf}
 use Rattle.turn.specs.Entries.{runs, stands, stays, entriesFrom, chipFrom, freshFrom, entryBytes, bytesOf, noted, entered}
-use Rattle.stream_count.specs.Passed.{passed}
+use Rattle.turn.specs.Passed.{passed}
 use Rattle.stream_run.specs.Stream.{Ran}
 use Rattle.turn.specs.CalmLaws.{turn-calm}
 use Rattle.turn.proofs.Runs.{rest-is, bytes-append, bytes-length, entered-all, runs-cons, runs-nil, stands-cons, stands-nil, stays-cons, stays-nil, turn-next}

@@ -27,10 +27,10 @@ use events::Event;
 use events::Role;
 use records::Read;
 use registers::Registers;
-use stream_count::number_of;
-use stream_count::passed;
 use turn::Entry;
 use turn::born;
+use turn::frames::number_of;
+use turn::frames::passed;
 use turn::numbered;
 use turn::rewired;
 

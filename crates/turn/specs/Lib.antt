@@ -2,6 +2,7 @@ pub mod Turn
 pub mod Entries
 pub mod TurnedLaws
 pub mod Frames
+pub mod Passed
 pub mod AskedLaws
 pub mod CalmLaws
 pub mod StandingLaws

@@ -1,4 +1,4 @@
-// A record on a chip, as one call: plain on purpose, where `stream` is quick.
+// A record on a chip, as one call: plain on purpose, where `stream` is quick; and how many records a stream has.
 ghost use mathlib.Core.Path.{_≡_};
 ghost use Rattle.chip.specs.Chip.{numbered as numberedSpec};
 ghost use Rattle.turn.specs.Turn.{none, entryOf, bornOf, wires, acted, turn as turnSpec, turnOf};
@@ -14,6 +14,8 @@ use events::Role;
 use events::Setup;
 use records::Read;
 use wiring::Wiring;
+
+pub mod frames;
 
 // What a record gives.
 pub struct Entry {

@@ -175,7 +175,7 @@ pub extern "C" fn toralinge_why(bytes: &[u8], number: u64, bit: u32, row: &mut [
     if STREAM_MOST < bytes.len() {
         return answer::TOO_LONG;
     }
-    if stream_count::count(bytes) as u64 <= number {
+    if turn::frames::count(bytes) as u64 <= number {
         return answer::NO_RECORD;
     }
     let weight = causes::known_bit(bit);
@@ -197,7 +197,7 @@ pub extern "C" fn toralinge_why(bytes: &[u8], number: u64, bit: u32, row: &mut [
 pub extern "C" fn toralinge_off(bytes: &[u8], number: u64, drive: u32, row: &mut [u8]) -> i64
     ensures { λ r. ⌜ Held (now (bytes .entry)) number drive (now (row .entry)) r (now (row .exit)) ⌝ }
 {
-    if stream_count::count(bytes) as u64 <= number {
+    if turn::frames::count(bytes) as u64 <= number {
         return answer::NO_RECORD;
     }
     if !causes::is_drive(drive) {

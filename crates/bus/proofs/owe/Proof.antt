@@ -1,3 +1,4 @@
+use mathlib.Core.Path.{sym, _∙_}
 use Rattle.bus.specs.Bus.{keeps}
 use borrow.Author.Needs.{needs}
 use Rattle.bus.proofs.owe.Statement.{statement}
@@ -6,8 +7,16 @@ use Rattle.bus.proofs.owe.Tie as tie
 returns : tie.Need-returns
 unfolding keeps
 returns c =
-    let u = c .before .before in
-    simp (c .next-byte2 .ensures, c .before .is-high .ensures, u .crc-byte .ensures, u .before .next-byte .ensures)
+    let h = c .before in
+    let u = h .before in
+    simp (sym (h .is-high .ensures) ∙ c .if1 .taken, u .crc-byte .ensures, u .before .next-byte .ensures)
+
+returns-2 : tie.Need-returns-2
+unfolding keeps
+returns-2 c =
+    let h = c .before in
+    let u = h .before in
+    simp (sym (h .is-high .ensures) ∙ c .if1 .left, u .crc-byte .ensures, u .before .next-byte .ensures)
 
 pub owe-spec : {M : Type 1} → statement M
 owe-spec =
@@ -16,5 +25,5 @@ owe-spec =
     (λ c κs. search needs)
     (λ c κs. search needs)
     (λ c κs. search needs)
-    (λ c κs. search needs)
-    returns)
+    returns
+    returns-2)

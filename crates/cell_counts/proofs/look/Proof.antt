@@ -42,7 +42,7 @@ loop-again c =
     let b : Fits w16 (getD xs i 0) = search needs in
     let k : i < 15 = search needs in
     let h : i < length xs = search needs in
-    (search needs, rw (v .1, padded-more 15 i xs k h), rw (v .2, total-more), omega arith, rw (v .4, some-more), rw (c .between .ensures, v .5, some-more))
+    (search needs, rw (v .1, padded-more 15 i xs k h), rw (v .2, total-more), omega arith, rw (v .4, some-more), rw (c .is-under .ensures, v .5, some-more))
 
 returns : tie.Need-returns Inv-loop μ-loop
 returns c =

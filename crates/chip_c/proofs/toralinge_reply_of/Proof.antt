@@ -2,7 +2,7 @@
 use mathlib.Core.Path.{_∙_}
 use Rattle.smart_battery.specs.Words.{wordFor}
 use Rattle.services_chip.specs.Care.{packOf, linkedTotal}
-use Rattle.services_stream.proofs.Standing.{replied-as, replied-refused, command-large}
+use Rattle.chip_c.proofs.LeftStanding.{replied-as, replied-refused, command-large}
 use Rattle.chip_c.proofs.Standing.{none-said, some-said}
 use borrow.Author.Needs.{needs}
 use Rattle.chip_c.proofs.toralinge_reply_of.Statement.{statement}

@@ -24,9 +24,6 @@ returns-2 c =
     fed-bad (a .chip .now) (keptOf (a .chip .now)) refl (a .records .now) (a .entries .now) (i .if1 .left)
     (sym (good-is (a .chip .now)) ∙ sym (g .good2 .ensures) ∙ down (g .good2 .result) (c .if2 .taken))
 
-done-requires : tie.Need-done-requires
-done-requires c κs = c .before .before .before .before .before .before .if1 .left
-
 played-requires-2 : tie.Need-played-requires-2
 played-requires-2 c κs =
     let i = c .before .before .before in
@@ -71,7 +68,7 @@ toralinge-feed-spec =
     (λ c κs. search needs)
     (λ c. search needs)
     returns-2
-    done-requires
+    (λ c κs. search needs)
     (λ c. search needs)
     (λ c. search needs)
     returns-3

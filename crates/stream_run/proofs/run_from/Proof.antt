@@ -24,7 +24,7 @@ use Rattle.chip.specs.Parts.{landed}
 use Rattle.chip.specs.Calm.{Calmed, calm-bus}
 use Rattle.stream_run.specs.Often.{often, workOf, Sorted, sorted}
 use Rattle.turn.specs.Turn.{Turn, turnOf, acted, staysFresh, turn, entryOf}
-use Rattle.stream_count.specs.Passed.{passed}
+use Rattle.turn.specs.Passed.{passed}
 use Rattle.stream_run.specs.Stream.{unanswered, faceOf, saying}
 use Rattle.turn.specs.Entries.{noted}
 use Rattle.stream_run.specs.declared.Answer.{Answer}

@@ -1,4 +1,4 @@
--- The header, the rooms, then what is done.
+-- Test by test: the rooms, the header, then what is done.
 use mathlib.Core.Path.{_≡_, refl, sym, _∙_}
 use Prim.Native.Nat.{ℕ, _-_, _≤_}
 use native.Mathlib.Omega.{arith}
@@ -6,15 +6,15 @@ use lib.ListN.{length, getD, take, drop}
 use Rattle.records.specs.declared.Framed.the-variants.{Header}
 use Rattle.records.specs.Frame.{headerOf}
 use Rattle.records.specs.FramingLaws.{framed-place}
-use Rattle.feed.proofs.Ones.{alone-is, not-done, sole-fits}
+use Rattle.feed.proofs.Ones.{alone-is, not-done}
 use borrow.Author.Needs.{needs}
 use Rattle.feed.proofs.alone.done.Statement.{statement}
 use Rattle.feed.proofs.alone.done.Tie as tie
 
 -- past the header, of one record
-module _ (e : tie.Else1) where
+module _ (e : tie.Else3) where
   abbrev start : tie.Start
-  start = e .before .before .before .before .before .before .before .before
+  start = e .before .before .before .before .before .before .before .before .before .before
 
   abbrev kind : ℕ
   kind = e .before .before .framed .given .0 .0
@@ -28,9 +28,6 @@ module _ (e : tie.Else1) where
   inside : (4 ≤ next) × (next ≤ length (start .args .records .now))
   inside = framed-place (start .args .records .now) kind next header
 
-  whole : (next ≡ length (start .args .records .now)) × (5 ≤ length (start .args .entries .now))
-  whole = sole-fits next (length (start .args .records .now)) (length (start .args .entries .now)) (e .if1 .left)
-
 sub-done-by : tie.Need-sub-done-by
 sub-done-by c = inside (c .before .before) .0
 
@@ -40,31 +37,30 @@ part-done-by-start c = omega (arith, inside (c .before .before))
 part-done-by-end : tie.Need-part-done-by-end
 part-done-by-end c = omega (arith, inside (c .before .before))
 
-returns-3 : tie.Need-returns-3
-returns-3 c =
+returns-5 : tie.Need-returns-5
+returns-5 c =
     let t = c .before .before .before .before in
     let e = t .before .before .before .before in
     let a = start e .args in
     (not-done (a .chip .now) (getD (a .chip .now) 1 0) (kind e) (take (next e - 4) (drop 4 (a .records .now))) (t .done-by .ensures) (c .enum-told2 .given .1), refl)
 
-put-entry-requires : tie.Need-put-entry-requires
-put-entry-requires c κs = whole (c .before .before .before .before .before .before .before .before .before .before) .1
-
-returns-4 : tie.Need-returns-4
-returns-4 c =
+returns-6 : tie.Need-returns-6
+returns-6 c =
     let p = c .before .before in
     let d = p .before .before .before in
     let t = d .before .before .before .before in
     let e = t .before .before .before .before in
-    let s = start e in
-    let a = s .args in
-    alone-is (a .chip .now) (a .records .now) (a .entries .now) (kind e) (next e) (header e) (whole e .0) (d .done .given .0 .0) (d .done .given .0 .1 .0) (d .done .given .0 .1 .1 .0)
-    (s .pre) (whole e .1) (t .done-by .ensures) (d .done .given .1) (p .put-entry .ensures)
+    let a = start e .args in
+    let i = e .before .before .before .before .before in
+    alone-is (a .chip .now) (a .records .now) (a .entries .now) (kind e) (next e) (header e) (e .if3 .left) (d .done .given .0 .0) (d .done .given .0 .1 .0) (d .done .given .0 .1 .1 .0)
+    (i .before .if1 .left) (i .if2 .left) (t .done-by .ensures) (d .done .given .1) (p .put-entry .ensures)
 
 pub done-spec : {M : Type 1} → statement M
 done-spec =
     tie.close
     (tie.spec
+    (λ c. search needs)
+    (λ c. search needs)
     (λ c κs. search needs)
     (λ c. search needs)
     (λ c. search needs)
@@ -78,8 +74,8 @@ done-spec =
     (λ c. search needs)
     (λ c. search needs)
     (λ c. search needs)
-    returns-3
-    put-entry-requires
+    returns-5
+    (λ c κs. search needs)
     (λ c. search needs)
     (λ c. search needs)
-    returns-4)
+    returns-6)

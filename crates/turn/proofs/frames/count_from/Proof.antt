@@ -1,9 +1,9 @@
 -- How many entries records have at the part that stands.
 use borrow.Author.Tests.{eq-eqb, ne-eqb}
 use Rattle.turn.specs.Frames.{framesFrom}
 use borrow.Author.Needs.{needs}
-use Rattle.stream_count.proofs.count_from.Statement.{statement}
-use Rattle.stream_count.proofs.count_from.Tie as tie
+use Rattle.turn.proofs.frames.count_from.Statement.{statement}
+use Rattle.turn.proofs.frames.count_from.Tie as tie
 
 returns : tie.Need-returns
 unfolding framesFrom

@@ -2,8 +2,8 @@
 ghost use mathlib.Core.Path.{_≡_};
 ghost use lib.ListN.{length};
 ghost use Rattle.records.specs.Record.{numberOf};
 ghost use Rattle.turn.specs.Frames.{frames, framesOf, framesFrom};
-ghost use Rattle.stream_count.specs.Passed.{passed as passedSpec};
+ghost use Rattle.turn.specs.Passed.{passed as passedSpec};
 use constants::number;
 use records::Read;
 

@@ -4,9 +4,9 @@ use borrow.Author.Needs.{needs}
 use Rattle.chip.specs.declared.Chip.{Chip}
 use Rattle.smart_battery.specs.Words.{wordFor}
 use Rattle.services_chip.specs.Care.{packOf, linkedTotal}
-use Rattle.services_stream.proofs.Standing.{none-said, some-said, replied-as, replied-refused, command-large}
-use Rattle.services_stream.proofs.toralinge_reply.Statement.{statement}
-use Rattle.services_stream.proofs.toralinge_reply.Tie as tie
+use Rattle.chip_c.proofs.LeftStanding.{none-said, some-said, replied-as, replied-refused, command-large}
+use Rattle.chip_c.proofs.left.toralinge_reply.Statement.{statement}
+use Rattle.chip_c.proofs.left.toralinge_reply.Tie as tie
 
 returns : tie.Need-returns
 returns c =

@@ -2,10 +2,10 @@
 use Prim.Native.Nat.{_-_}
 use lib.ListN.{length}
 use native.Mathlib.Omega.{arith}
-use Rattle.stream_count.proofs.Counting.{Counting, counting, count-end, count-cut, count-place, count-more}
+use Rattle.turn.proofs.Counting.{Counting, counting, count-end, count-cut, count-place, count-more}
 use borrow.Author.Needs.{needs}
-use Rattle.stream_count.proofs.frames_in.Statement.{statement}
-use Rattle.stream_count.proofs.frames_in.Tie as tie
+use Rattle.turn.proofs.frames.frames_in.Statement.{statement}
+use Rattle.turn.proofs.frames.frames_in.Tie as tie
 
 abbrev Inv-loop : tie.InvT-loop
 Inv-loop s at₀ n₀ at n = Counting s at n

@@ -19,7 +19,7 @@ use Rattle.services_chip.specs.Care.{cellsOf, linkedOf, proposalSaid, packOf, l
 use Rattle.turn.specs.Entries.{lastChip}
 use Rattle.turn.specs.StandingLaws.{no-chip}
 use Rattle.turn.specs.AskedLaws.{standingSaid, standing-none, standing-some}
-use Rattle.services_stream.specs.Asks.{proposalAt, wordAt, choiceBytes, bledBytes, Bled}
+use Rattle.chip_c.specs.Asks.{proposalAt, wordAt, choiceBytes, bledBytes, Bled}
 
 -- ── no refusal has number 0 ──
 abbrev pub Numbered : {A : Type 0} → Said A → Type 0

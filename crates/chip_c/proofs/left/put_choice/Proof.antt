@@ -2,9 +2,9 @@
 use native.Mathlib.Omega.{arith}
 use lib.ListN.{length-set}
 use borrow.Author.Needs.{needs}
-use Rattle.services_stream.proofs.Standing.{put-short, put-long}
-use Rattle.services_stream.proofs.put_choice.Statement.{statement}
-use Rattle.services_stream.proofs.put_choice.Tie as tie
+use Rattle.chip_c.proofs.LeftStanding.{put-short, put-long}
+use Rattle.chip_c.proofs.left.put_choice.Statement.{statement}
+use Rattle.chip_c.proofs.left.put_choice.Tie as tie
 
 returns : tie.Need-returns
 returns c = let a = c .before .args in put-short (a .out .now) (a .choice) (c .if1 .taken)

@@ -1,15 +1,14 @@
-// What workshops and chargers ask of the chip that a stream leaves, for C.
+// What workshops and chargers ask of the chip that a stream leaves.
 ghost use Rattle.constants.specs.Answer.{gives};
 ghost use Rattle.smart_battery.specs.Reply.{Replied};
-ghost use Rattle.services_stream.specs.Asks.{proposalAt, wordAt, Bled};
+ghost use Rattle.chip_c.specs.Asks.{proposalAt, wordAt, Bled};
+use crate::MOST;
 use bleed::Choice;
 use constants::number;
 use services_chip::Proposal;
 
-// A proposal is three bytes, and a command one.
+// A proposal is three bytes.
 const PROPOSAL_SIZE: usize = 3;
-
-const COMMAND_MOST: u32 = 255;
 
 // A proposal written, where it fits.
 pub fn put_choice(out: &mut [u8], choice: Choice) -> u8
@@ -56,7 +55,7 @@ pub extern "C" fn toralinge_reply(
     if chip.setup.part == 0 {
         return records::first_number(stream);
     }
-    if COMMAND_MOST < command {
+    if MOST < command {
         return number::BAD_COMMAND;
     }
     services_chip::reply(chip, command as u8, milliohms, reply)

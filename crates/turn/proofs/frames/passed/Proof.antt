@@ -1,8 +1,8 @@
 -- How far a record leads that is not done, by what was read.
 use borrow.Author.Tests.{eq-eqb, ne-eqb}
 use borrow.Author.Needs.{needs}
-use Rattle.stream_count.proofs.passed.Statement.{statement}
-use Rattle.stream_count.proofs.passed.Tie as tie
+use Rattle.turn.proofs.frames.passed.Statement.{statement}
+use Rattle.turn.proofs.frames.passed.Tie as tie
 
 returns-2 : tie.Need-returns-2
 returns-2 c = simp (c .before .before .read2 .given .1, eq-eqb _ _ (c .if1 .taken))

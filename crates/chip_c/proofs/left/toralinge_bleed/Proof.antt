@@ -4,9 +4,9 @@ use borrow.Author.Needs.{needs}
 use Rattle.services_chip.specs.Care.{saidProposal, proposalSaid}
 use Rattle.turn.specs.Entries.{lastChip}
 use Rattle.turn.specs.AskedLaws.{standingSaid}
-use Rattle.services_stream.proofs.Standing.{none-said, some-said, bled-as, bled-refused}
-use Rattle.services_stream.proofs.toralinge_bleed.Statement.{statement}
-use Rattle.services_stream.proofs.toralinge_bleed.Tie as tie
+use Rattle.chip_c.proofs.LeftStanding.{none-said, some-said, bled-as, bled-refused}
+use Rattle.chip_c.proofs.left.toralinge_bleed.Statement.{statement}
+use Rattle.chip_c.proofs.left.toralinge_bleed.Tie as tie
 
 returns : tie.Need-returns
 returns c =

@@ -16,7 +16,7 @@ use Rattle.smart_battery.specs.Words.{wordFor}
 use Rattle.smart_battery.specs.declared.Pack.{Pack}
 use Rattle.turn.specs.Entries.{lastChip}
 use Rattle.turn.specs.AskedLaws.{standingSaid, standing-none, standing-some}
-use Rattle.services_stream.specs.Asks.{Bled}
+use Rattle.chip_c.specs.Asks.{Bled}
 
 module _ (s : List ℕ) (c : Chip) (h : c ≡ lastChip s) where
   part-as : c .setup .part ≡ lastChip s .setup .part

@@ -1,9 +1,9 @@
 -- How many entries a stream has: by its first record, then by its frames.
 use mathlib.Core.Path.{_∙_}
-use Rattle.stream_count.proofs.Counting.{count-none, count-good, count-only}
+use Rattle.turn.proofs.Counting.{count-none, count-good, count-only}
 use borrow.Author.Needs.{needs}
-use Rattle.stream_count.proofs.count.Statement.{statement}
-use Rattle.stream_count.proofs.count.Tie as tie
+use Rattle.turn.proofs.frames.count.Statement.{statement}
+use Rattle.turn.proofs.frames.count.Tie as tie
 
 returns : tie.Need-returns
 returns c = count-none (c .before .before .args .s .now) (c .if1 .taken)
