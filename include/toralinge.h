@@ -5,9 +5,9 @@
  * program that wants less links with single ones, in any number: `rt staticlib NAME` writes
  * target/staticlib/libNAME.a, where NAME is i2c_lists for toralinge_list, chip_c for toralinge_bleed,
  * toralinge_reply and the calls that read a kept chip, feed for toralinge_feed, season_stream for
- * toralinge_season, season_c for toralinge_scans and reports that are kept, plain for toralinge_plain,
- * record_c for toralinge_record and toralinge_values, values_c for the conversions and the CRC, why for
- * toralinge_why and toralinge_off, and stream for all other calls.
+ * toralinge_season, season_scans for toralinge_scans, season_c for reports that are kept, plain for
+ * toralinge_plain, record_c for toralinge_record and toralinge_values, values_c for the conversions and
+ * the CRC, why for toralinge_why and toralinge_off, and stream for all other calls.
  *
  * The rules stand in docs/CHIP.md, each with a number. Every call here answers for every value of its
  * arguments, and is proved to answer exactly as these rules say.
