@@ -1,0 +1,4 @@
+pub mod Swept
+pub mod SweptLaws
+pub mod Tick
+pub mod TickLaws

@@ -1,2 +1,0 @@
-pub mod Swept
-pub mod SweptLaws

@@ -1,2 +1,0 @@
-pub mod Tick
-pub mod TickLaws
