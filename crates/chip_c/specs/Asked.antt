@@ -15,7 +15,7 @@ use Rattle.bleed.specs.declared.Choice.{Choice}
 use Rattle.smart_battery.specs.Words.{wordFor}
 use Rattle.chip.specs.declared.Chip.{Chip}
 use Rattle.chip_voltage.specs.Voltage.{voltageSaid, forecastNumber}
-use Rattle.services_chip.specs.Care.{proposalSaid, packOf, linkedTotal}
+use Rattle.chip_voltage.specs.Care.{proposalSaid, packOf, linkedTotal}
 use Rattle.stream.specs.Forecast.{Contents}
 use Rattle.chip_bytes_layout.specs.declared.Kept.{Kept}
 

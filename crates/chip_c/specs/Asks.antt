@@ -9,7 +9,7 @@ use Rattle.constants.specs.Answer.{Said, gives, refuses}
 use Rattle.bleed.specs.declared.Choice.{Choice}
 use Rattle.smart_battery.specs.Words.{wordFor}
 use Rattle.smart_battery.specs.Reply.{repliedNumber}
-use Rattle.services_chip.specs.Care.{proposalSaid, packOf, linkedTotal}
+use Rattle.chip_voltage.specs.Care.{proposalSaid, packOf, linkedTotal}
 use Rattle.turn.specs.Entries.{lastChip}
 use Rattle.turn.specs.AskedLaws.{standingSaid}
 

@@ -15,7 +15,7 @@ use Rattle.smart_battery.specs.declared.Pack.{Pack}
 use Rattle.smart_battery.specs.Words.{kelvins, millivolts, milliamps, unsignedSaid, signedSaid, known, askedFor, wordFor}
 use Rattle.smart_battery.specs.Reply.{repliedNumber, replyBytes, repliedBytes, Replied}
 use Rattle.chip.specs.declared.Chip.{Chip}
-use Rattle.services_chip.specs.Care.{cellsOf, linkedOf, proposalSaid, packOf, linkedTotal}
+use Rattle.chip_voltage.specs.Care.{cellsOf, linkedOf, proposalSaid, packOf, linkedTotal}
 use Rattle.turn.specs.Entries.{lastChip}
 use Rattle.turn.specs.StandingLaws.{no-chip}
 use Rattle.turn.specs.AskedLaws.{standingSaid, standing-none, standing-some}

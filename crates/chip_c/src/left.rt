@@ -4,8 +4,8 @@ ghost use Rattle.smart_battery.specs.Reply.{Replied};
 ghost use Rattle.chip_c.specs.Asks.{proposalAt, wordAt, Bled};
 use crate::MOST;
 use bleed::Choice;
+use chip_voltage::services::Proposal;
 use constants::number;
-use services_chip::Proposal;
 
 // A proposal is three bytes.
 const PROPOSAL_SIZE: usize = 3;
@@ -33,7 +33,7 @@ pub extern "C" fn toralinge_bleed(stream: &[u8], margin: u32, cellbal: &mut [u8]
     if chip.setup.part == 0 {
         return records::first_number(stream);
     }
-    let answer = services_chip::bleeding(chip, margin);
+    let answer = chip_voltage::services::bleeding(chip, margin);
     match answer {
         Proposal::No(number) => number,
         Proposal::Is(choice) => put_choice(cellbal, choice),
@@ -58,5 +58,5 @@ pub extern "C" fn toralinge_reply(
     if MOST < command {
         return number::BAD_COMMAND;
     }
-    services_chip::reply(chip, command as u8, milliohms, reply)
+    chip_voltage::services::reply(chip, command as u8, milliohms, reply)
 }

@@ -11,9 +11,9 @@ ghost use Rattle.chip_c.specs.Asked.{byteOr, standsNumber, registerSaid,
 use chip_bytes_layout::Kept;
 use chip_voltage::CellAnswer;
 use chip_voltage::ForecastAnswer;
+use chip_voltage::services::Proposal;
 use constants::number;
 use constants::size;
-use services_chip::Proposal;
 
 mod left;
 
@@ -92,7 +92,7 @@ pub extern "C" fn toralinge_bleed_of(chip: &[u8], margin: u32, cellbal: &mut [u8
     if refused != number::DONE {
         return refused;
     }
-    let answer = services_chip::bleeding(kept.chip, margin);
+    let answer = chip_voltage::services::bleeding(kept.chip, margin);
     match answer {
         Proposal::No(why) => why,
         Proposal::Is(choice) => left::put_choice(cellbal, choice),
@@ -118,7 +118,7 @@ pub extern "C" fn toralinge_reply_of(
     if MOST < command {
         return number::BAD_COMMAND;
     }
-    services_chip::reply(kept.chip, command as u8, milliohms, reply)
+    chip_voltage::services::reply(kept.chip, command as u8, milliohms, reply)
 }
 
 // The number of a reading, 0 where it is given.

@@ -2,4 +2,10 @@ pub mod Voltage
 pub mod VoltageLaws
 pub mod PackedLaws
 pub mod SumLaws
+pub mod Care
+pub mod TotalLaws
+pub mod ConnectedLaws
+pub mod Proposes
+pub mod ProposesLaws
+pub mod Rows
 pub mod SameLaws

@@ -1,4 +1,4 @@
-// What leaves the chip as a voltage, with the offset added once.
+// What leaves the chip as a voltage, with the offset added once: a cell, forecasting's reading; in `services` what workshops and chargers ask, in `row` the row of a scan.
 ghost use mathlib.Core.Path.{_≡_};
 ghost use Rattle.wiring.specs.Rows.{linkedBits};
 ghost use Rattle.chip_voltage.specs.Voltage.{saidCell, voltageSaid, Forecasts};
@@ -6,6 +6,9 @@ use chip::Chip;
 use values::Microvolts;
 use values::RawCount;
 use values::Reading;
+
+pub mod row;
+pub mod services;
 
 pub enum CellAnswer {
     Is(Microvolts),

@@ -1,6 +1,6 @@
 -- By whether a chip stands, then by what it is proposed.
 use mathlib.Core.Path.{sym, ap, _∙_}
-use Rattle.services_chip.specs.Care.{saidProposal, proposalSaid}
+use Rattle.chip_voltage.specs.Care.{saidProposal, proposalSaid}
 use Rattle.chip_c.proofs.LeftStanding.{bled-as, bled-refused}
 use Rattle.chip_c.proofs.Standing.{none-said, some-said}
 use borrow.Author.Needs.{needs}

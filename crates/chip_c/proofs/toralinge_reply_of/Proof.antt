@@ -1,7 +1,7 @@
 -- By whether a chip stands, then by the command.
 use mathlib.Core.Path.{_∙_}
 use Rattle.smart_battery.specs.Words.{wordFor}
-use Rattle.services_chip.specs.Care.{packOf, linkedTotal}
+use Rattle.chip_voltage.specs.Care.{packOf, linkedTotal}
 use Rattle.chip_c.proofs.LeftStanding.{replied-as, replied-refused, command-large}
 use Rattle.chip_c.proofs.Standing.{none-said, some-said}
 use borrow.Author.Needs.{needs}

@@ -1,7 +1,7 @@
 -- By whether a chip stands, then by what it is proposed.
 use mathlib.Core.Path.{_≡_, sym, ap, _∙_}
 use borrow.Author.Needs.{needs}
-use Rattle.services_chip.specs.Care.{saidProposal, proposalSaid}
+use Rattle.chip_voltage.specs.Care.{saidProposal, proposalSaid}
 use Rattle.turn.specs.Entries.{lastChip}
 use Rattle.turn.specs.AskedLaws.{standingSaid}
 use Rattle.chip_c.proofs.LeftStanding.{none-said, some-said, bled-as, bled-refused}

@@ -3,7 +3,7 @@ use mathlib.Core.Path.{_∙_}
 use borrow.Author.Needs.{needs}
 use Rattle.chip.specs.declared.Chip.{Chip}
 use Rattle.smart_battery.specs.Words.{wordFor}
-use Rattle.services_chip.specs.Care.{packOf, linkedTotal}
+use Rattle.chip_voltage.specs.Care.{packOf, linkedTotal}
 use Rattle.chip_c.proofs.LeftStanding.{none-said, some-said, replied-as, replied-refused, command-large}
 use Rattle.chip_c.proofs.left.toralinge_reply.Statement.{statement}
 use Rattle.chip_c.proofs.left.toralinge_reply.Tie as tie

@@ -1,6 +1,0 @@
-pub mod Care
-pub mod TotalLaws
-pub mod SameLaws
-pub mod ConnectedLaws
-pub mod Proposes
-pub mod ProposesLaws
