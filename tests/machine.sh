@@ -193,13 +193,12 @@ in_memory() (
     "$@"
 )
 
-# How many checks rt is to start together: four for each processor. It waits for the slowest of them before it starts the next ones, so few leave processors
-# idle (with two for each a minute and a half of the gate), and many at once take the cache from each other. Each takes up to 2 GB, with what it lays down in
-# memory.
+# How many checks rt is to start together: three for each processor. It waits for the slowest of them before it starts the next ones, so few leave processors
+# idle, and many at once take memory: each up to 2 GB, with what it lays down there.
 at_a_time() {
     local room jobs
     room=$(awk '/^MemAvailable:/ { print int($2 / 2200000) }' /proc/meminfo)
-    jobs=$((4 * $(nproc)))
+    jobs=$((3 * $(nproc)))
     ((jobs <= room)) || jobs=$room
     ((jobs >= 1)) || jobs=1
     echo "$jobs"
