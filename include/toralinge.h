@@ -29,7 +29,7 @@ extern "C" {
 #endif
 
 /* The version of this header, as text and as 10,000 x major + 100 x minor + patch. */
-#define TORALINGE_VERSION "1.2.2"
+#define TORALINGE_VERSION "1.2.3"
 #define TORALINGE_VERSION_NUMBER 10202
 
 /* The version of the library that is linked, as text: to be compared with TORALINGE_VERSION. */

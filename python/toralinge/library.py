@@ -447,5 +447,5 @@ def call(name: str, *arguments: Argument) -> int:
 
 
 def version() -> str:
-    """The library's version, as ``1.2.2``."""
+    """The library's version, as ``1.2.3``."""
     return library().text("toralinge_version")
