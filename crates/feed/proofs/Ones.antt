@@ -43,7 +43,7 @@ use Rattle.chip_bytes_layout.specs.declared.Done.{Done}
 use Rattle.chip_bytes_layout.specs.declared.Done.the-variants.{Shows, Not}
 use Rattle.chip_bytes_layout.specs.Did.{says, CameBy, DidBy}
 use Rattle.chip_bytes_layout.specs.DidLaws.{part-of}
-use Rattle.chip_bytes_seldom.specs.Seldom.{SeldomBy}
+use Rattle.chip_bytes_done.specs.Seldom.{SeldomBy}
 use Rattle.feed.specs.Fed.{allFit, answerBy, feedsBy, chipAfter, entriesAfter, Fed}
 use Rattle.feed.specs.Alone.{doneBytes, One, OneBy, CountedBy, RecordBy, Signal, Alone, AloneBy}
 use Rattle.feed.proofs.Calls.{kept-calm, done-answer, done-feeds}

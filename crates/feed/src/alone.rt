@@ -54,7 +54,7 @@ fn tick_by(chip: &mut [u8], payload: Payload) -> Done
     let Event::Sense(value) = event else {
         return Done::Not;
     };
-    chip_bytes_measured::tick::ticked(chip, value)
+    chip_bytes_done::tick::ticked(chip, value)
 }
 
 // A scan, whose counts are the payload.
@@ -69,7 +69,7 @@ fn scan_by(chip: &mut [u8], payload: Payload, b: &[u8]) -> Done
     };
     let counts = records::counts_in(Event::Scan, b);
     let of = counts.of;
-    chip_bytes_measured::scan::scanned(chip, of)
+    chip_bytes_done::scan::scanned(chip, of)
 }
 
 // TEMP, whose counts are the payload.
@@ -84,7 +84,7 @@ fn temp_by(chip: &mut [u8], payload: Payload, b: &[u8]) -> Done
     };
     let counts = records::counts_in(Event::Temp, b);
     let of = counts.of;
-    chip_bytes_seldom::warmed(chip, of)
+    chip_bytes_done::seldom::warmed(chip, of)
 }
 
 // TICKS.
@@ -97,7 +97,7 @@ fn ticks_by(chip: &mut [u8], payload: Payload) -> Done
     let Event::Ticks(value, repeat) = event else {
         return Done::Not;
     };
-    chip_bytes_measured::tick::repeated(chip, value, repeat as u32)
+    chip_bytes_done::tick::repeated(chip, value, repeat as u32)
 }
 
 // SOAK.
@@ -110,7 +110,7 @@ fn soak_by(chip: &mut [u8], payload: Payload) -> Done
     let Event::Soak(value, repeat) = event else {
         return Done::Not;
     };
-    chip_bytes_measured::tick::repeated(chip, value, repeat)
+    chip_bytes_done::tick::repeated(chip, value, repeat)
 }
 
 // START, OUT, IN and STOP.
@@ -133,7 +133,7 @@ fn seldom_by(chip: &mut [u8], payload: Payload) -> Done
     let Payload::Whole(event) = payload else {
         return Done::Not;
     };
-    chip_bytes_seldom::happened(chip, event)
+    chip_bytes_done::seldom::happened(chip, event)
 }
 
 // The payload of a kind of the bus; each kind by itself, so that the compiler keeps of the reader only what it needs.

@@ -1,4 +1,0 @@
-pub mod Swept
-pub mod SweptLaws
-pub mod Tick
-pub mod TickLaws

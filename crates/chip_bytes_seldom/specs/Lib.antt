@@ -1,2 +1,0 @@
-pub mod Seldom
-pub mod SeldomLaws
