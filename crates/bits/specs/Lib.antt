@@ -1,2 +1,4 @@
 pub mod Bit
 pub mod BoolLaws
+pub mod Numbers
+pub mod BytesLaws

@@ -1,7 +1,9 @@
-// A bit of a byte by its weight, and what a bit adds to its byte.
+// A bit of a byte by its weight, and what a bit adds to its byte; in `bytes` numbers as bytes.
 ghost use mathlib.Core.Path.{_≡_};
 ghost use Prim.Native.Nat.{_≤_};
 ghost use Rattle.bits.specs.Bit.{bit as bitSpec, weighed};
+
+pub mod bytes;
 
 // The bit of weight 1, 2, 4, .. of a byte; no byte has a bit of weight 0.
 pub fn bit(v: u8, w: u8) -> bool

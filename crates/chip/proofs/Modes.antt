@@ -6,7 +6,8 @@ use mathlib.Core.List.{List}
 use Prim.Native.Nat.{ℕ}
 use lib.ListN.{take}
 use Rattle.events.specs.declared.Event.{Event as Coded}
-use Rattle.events.specs.Event.{Event, Por, Boot, Scan, Temp, within, countMost, fits, eventOf}
+use Rattle.events.specs.Event.{Event, Por, Boot, Scan, Temp, countMost, fits, eventOf}
+use Rattle.bits.specs.Numbers.{within}
 use Rattle.settings.specs.Write.{ships}
 use Rattle.registers.specs.declared.Registers.{Registers}
 use Rattle.registers.specs.Write.{written}

@@ -10,7 +10,7 @@ use lib.ListN.{length, getD, take, drop, drop-of-length-le}
 use lib.Seq.{drop-cons}
 use borrow.Author.Tests.{lt-ltb, le-ltb, lt-leb, eq-eqb, ne-eqb}
 use Rattle.events.specs.declared.Setup.{Setup}
-use Rattle.events.specs.Event.{within}
+use Rattle.bits.specs.Numbers.{within}
 use Rattle.chip.specs.declared.Chip.{Chip}
 use Rattle.chip_bytes_layout.specs.declared.Kept.{Kept}
 use Rattle.chip_bytes_layout.specs.Layout.{listed, setupAt, setupStands, levelStands, freshStands}

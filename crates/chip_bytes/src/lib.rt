@@ -1,7 +1,7 @@
 // The kept chip: whether bytes are one, and the chip that they have.
 ghost use mathlib.Core.Path.{_≡_};
 ghost use lib.ListN.{length};
-ghost use Rattle.events.specs.Event.{within};
+ghost use Rattle.bits.specs.Numbers.{within};
 ghost use Rattle.constants.specs.Size.{«KEPT_CHIP»};
 ghost use Rattle.chip_bytes_layout.specs.Place.{FRESH, SWITCHES, SWITCHED, REST1, RESTS};
 ghost use Rattle.chip_bytes_layout.specs.Layout.{phaseGood, listed, chipAt, formed as formedSpec, setupStands, levelStands, freshStands, couldStand, switchAt, goodAt, chipIn, goodOf, chipOf, freshOf, keptOf, noChip, none};

@@ -8,7 +8,7 @@ use lib.Seq.{sets}
 use Rattle.bits.specs.Bit.{bit}
 use Rattle.constants.specs.Address as address
 use Rattle.constants.specs.Weight as weight
-use Rattle.records.specs.Numbers.{bitOf}
+use Rattle.bits.specs.Numbers.{bitOf}
 use Rattle.settings.specs.Write.{ships}
 use Rattle.registers.specs.declared.Status.{Status}
 use Rattle.registers.specs.declared.Shown.{Shown}

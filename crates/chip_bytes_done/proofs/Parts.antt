@@ -11,7 +11,7 @@ use Rattle.events.specs.Fault.{Ov, Uv, among}
 use Rattle.cell_counts.specs.declared.Looked.{Looked}
 use Rattle.cell_counts.specs.Scan.{padded, lookedAt}
 use Rattle.settings.specs.declared.Settings.{Settings}
-use Rattle.writer.specs.Write.{wordBytes}
+use Rattle.bits.specs.Numbers.{wordBytes}
 use Rattle.registers.specs.declared.Shown.{Shown}
 use Rattle.registers.specs.State.{withShown}
 use Rattle.registers.specs.Fault.{raised}

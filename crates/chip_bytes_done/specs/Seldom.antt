@@ -8,7 +8,7 @@ use lib.Seq.{sets}
 use Rattle.events.specs.declared.Setup.{Setup}
 use Rattle.events.specs.declared.Event.{Event as Coded}
 use Rattle.events.specs.Event.{Event, means, eventOf}
-use Rattle.writer.specs.Write.{wordBytes}
+use Rattle.bits.specs.Numbers.{wordBytes}
 use Rattle.registers.specs.declared.Shown.{Shown}
 use Rattle.chip.specs.declared.Chip.{Chip}
 use Rattle.chip.specs.Chip.{numbered, normally}

@@ -13,10 +13,9 @@ use Rattle.events.specs.declared.Setup.{Setup}
 use Rattle.events.specs.Setup.{groups}
 use Rattle.cell_counts.specs.Scan.{padded}
 use Rattle.cell_counts.specs.PaddedLaws.{three-are}
-use Rattle.writer.specs.Write.{wordBytes}
+use Rattle.bits.specs.Numbers.{wordBytes, bitOf}
 use Rattle.events.specs.Event.{Event, Temp, Boot as Booted, Pin as Pulled, Xready as Unready}
 use Rattle.events.specs.Event.{Count as Counted, Load as Loaded, Level as Leveled}
-use Rattle.records.specs.Numbers.{bitOf}
 use Rattle.registers.specs.declared.Status.{Status}
 use Rattle.registers.specs.declared.Shown.{Shown}
 use Rattle.registers.specs.State.{alert, withMeasured, withLoadLevel, withOutsideLevel}

@@ -7,8 +7,7 @@ use lib.ListN.{length, take, set}
 use lib.Seq.{sets}
 use Rattle.events.specs.Setup.{inputs}
 use Rattle.events.specs.Event.{Scan}
-use Rattle.records.specs.Numbers.{bitOf}
-use Rattle.writer.specs.Write.{wordBytes}
+use Rattle.bits.specs.Numbers.{bitOf, wordBytes}
 use Rattle.registers.specs.declared.Shown.{Shown}
 use Rattle.registers.specs.State.{withShown}
 use Rattle.registers.specs.Judging.{batOf, scanKept}

@@ -7,7 +7,7 @@ use lib.ListN.{length, take, drop}
 use lib.Seq.{sets}
 use Rattle.events.specs.Setup.{inputs}
 use Rattle.events.specs.Event.{Scan}
-use Rattle.writer.specs.Write.{wordBytes}
+use Rattle.bits.specs.Numbers.{wordBytes}
 use Rattle.registers.specs.LevelLaws.{raised-calm}
 use Rattle.registers.specs.Judging.{batOf, cellsKept, scanKept, scanned}
 use Rattle.protection.specs.Runs.{risen}

@@ -5,8 +5,7 @@ use Prim.Native.Nat.{ℕ}
 use lib.ListN.{set, take}
 use lib.Seq.{sets}
 use Rattle.events.specs.Fault.{among}
-use Rattle.records.specs.Numbers.{bitOf}
-use Rattle.writer.specs.Write.{wordBytes}
+use Rattle.bits.specs.Numbers.{bitOf, wordBytes}
 use Rattle.registers.specs.declared.Shown.{Shown}
 use Rattle.registers.specs.Fault.{raised}
 use Rattle.protection.specs.declared.Runs.{Runs}

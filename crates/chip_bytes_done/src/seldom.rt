@@ -10,6 +10,7 @@ ghost use Rattle.constants.specs.Size.{«KEPT_CHIP»};
 ghost use Rattle.chip_bytes_layout.specs.Layout.{chipOf};
 ghost use Rattle.chip_bytes_layout.specs.Did.{DidBy};
 ghost use Rattle.chip_bytes_done.specs.Seldom.{readiedIn, warmedIn, Moved, MovedBy, SeldomBy};
+use bits::bytes::put_words;
 use bits::weigh;
 use chip_bytes_layout::Done;
 use chip_bytes_layout::awake;
@@ -17,7 +18,6 @@ use chip_bytes_layout::place;
 use chip_bytes_read::setup_at;
 use chip_bytes_read::shown_at;
 use chip_bytes_read::status_at;
-use chip_bytes_write::put_words;
 use constants::size;
 use events::Event;
 

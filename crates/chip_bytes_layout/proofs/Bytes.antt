@@ -9,7 +9,7 @@ use borrow.Author.Needs.{needs}
 use borrow.Author.Tests.{le-leb}
 use mir.Syntax.{w8}
 use mir.Val.{Fits}
-use Rattle.writer.specs.BytesLaws.{Bytes}
+use Rattle.bits.specs.BytesLaws.{Bytes}
 use Rattle.chip_bytes_layout.specs.Layout.{switchAt}
 use Rattle.chip_bytes_layout.specs.Did.{Awake, AwakeBy}
 

@@ -8,9 +8,10 @@ use lib.Dec.{eqb, ltb}
 use lib.ListN.{length, getD, take, drop, replicate, take-append-drop}
 use lib.Seq.{length-take-le}
 use borrow.Author.Tests.{le-ltb, eqb-true, ne-eqb}
-use Rattle.events.specs.Event.{Event, within}
+use Rattle.events.specs.Event.{Event}
+use Rattle.bits.specs.Numbers.{within}
 use Rattle.bits.specs.BoolLaws.{and-left, and-right}
-use Rattle.writer.specs.BytesLaws.{bit-same}
+use Rattle.bits.specs.BytesLaws.{bit-same}
 use Rattle.registers.specs.declared.Shown.{Shown}
 use Rattle.registers.specs.State.{alert}
 use Rattle.chip.specs.declared.Chip.{Chip}

@@ -7,7 +7,7 @@ use native.Mathlib.Omega.{arith}
 use lib.Dec.{eqb, leb, ltb}
 use lib.ListN.{length, getD, take}
 use borrow.Author.Tests.{leb-true, ne-eqb}
-use Rattle.events.specs.Event.{within}
+use Rattle.bits.specs.Numbers.{within}
 use Rattle.bits.specs.BoolLaws.{and-left, and-right}
 use Rattle.chip_bytes_layout.specs.declared.Kept.{Kept}
 use Rattle.chip_bytes_layout.specs.Layout.{switchAt, chipAt, formed, couldStand, none, keeps, noChip, keptAt, goodAt, chipIn}

@@ -7,10 +7,8 @@ use lib.Dec.{eqb, leb, ltb}
 use lib.ListN.{length, take, drop, getD, replicate}
 use Rattle.events.specs.declared.Setup.{Setup}
 use Rattle.events.specs.Setup.{setupFits}
-use Rattle.events.specs.Event.{within}
-use Rattle.records.specs.Numbers.{bitOf, words}
-use Rattle.records.specs.Record.{standing}
-use Rattle.writer.specs.Write.{wordBytes}
+use Rattle.bits.specs.Numbers.{within, bitOf, words, wordBytes}
+use Rattle.events.specs.Setup.{standing}
 use Rattle.wiring.specs.Rows.{hasRow}
 use Rattle.bus.specs.declared.Phase.{Phase}
 use Rattle.bus.specs.declared.Phase.the-variants.{Idle, Address, Pointing, Writing, Checking, Reading, Summing}

@@ -8,8 +8,7 @@ use lib.Dec.{eqb, leb}
 use lib.ListN.{length, getD, take, drop, replicate, length-drop}
 use lib.Seq.{drop-cons, take-all, getD-drop}
 use borrow.Author.Tests.{leb-true, eqb-true, eqb-false}
-use Rattle.events.specs.Event.{within}
-use Rattle.records.specs.Numbers.{bitOf, le16, words}
+use Rattle.bits.specs.Numbers.{within, bitOf, le16, words}
 use Rattle.bits.specs.BoolLaws.{and-left, and-right}
 use Rattle.chip_bytes_layout.specs.Layout.{listed, wordIn}
 

@@ -9,11 +9,10 @@ use native.Mathlib.Omega.{arith}
 use lib.Dec.{leb, eqb}
 use lib.ListN.{length, replicate}
 use borrow.Author.Tests.{leb-true, ne-eqb}
-use Rattle.events.specs.Event.{within}
+use Rattle.bits.specs.Numbers.{within, bitOf}
 use Rattle.events.specs.Setup.{setupFits}
-use Rattle.records.specs.Numbers.{bitOf}
 use Rattle.bits.specs.BoolLaws.{and-left, and-right}
-use Rattle.writer.specs.BytesLaws.{Bytes}
+use Rattle.bits.specs.BytesLaws.{Bytes}
 use Rattle.chip.specs.declared.Chip.{Chip}
 use Rattle.chip_bytes_layout.specs.declared.Kept.{Kept}
 use Rattle.chip_bytes_layout.specs.Layout.{plainOf, switchesOf, wordsOf, chipBytes, switchAt, chipAt, formed, setupStands, couldStand}

@@ -5,7 +5,7 @@ use Prim.Native.Nat.{ℕ}
 use lib.Dec.{eqb, leb}
 use borrow.Author.Tests.{eqb-true, leb-true}
 use Rattle.bits.specs.BoolLaws.{and-left, and-right}
-use Rattle.writer.specs.BytesLaws.{bit-same}
+use Rattle.bits.specs.BytesLaws.{bit-same}
 use Rattle.bus.specs.declared.Phase.{Phase}
 use Rattle.bus.specs.declared.Phase.the-variants.{Idle, Address, Pointing, Writing, Checking, Reading, Summing}
 use Rattle.chip_bytes_layout.specs.Layout.{tagOf, firstOf, secondOf, phaseOf, phaseGood}

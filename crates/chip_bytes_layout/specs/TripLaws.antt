@@ -7,12 +7,9 @@ use native.Mathlib.Omega.{arith}
 use lib.Dec.{eqb}
 use lib.ListN.{length, getD, drop, replicate, length-drop, take-append-drop}
 use borrow.Author.Tests.{eqb-true}
-use Rattle.events.specs.Event.{within}
-use Rattle.records.specs.Numbers.{words}
-use Rattle.records.specs.CountedLaws.{words-count}
+use Rattle.bits.specs.Numbers.{within, words, wordBytes}
+use Rattle.bits.specs.BytesLaws.{words-count, Bytes, bytes-drop, words-back, words-forth, bit-same}
 use Rattle.bits.specs.BoolLaws.{and-left, and-right}
-use Rattle.writer.specs.Write.{wordBytes}
-use Rattle.writer.specs.BytesLaws.{Bytes, bytes-drop, words-back, words-forth, bit-same}
 use Rattle.registers.specs.declared.Measured.{Measured}
 use Rattle.chip.specs.declared.Chip.{Chip}
 use Rattle.chip_bytes_layout.specs.Layout.{phaseOf, phaseGood, listed, plainOf, switchesOf, wordsOf, chipBytes}

@@ -1,7 +1,7 @@
 // The kept chip: how a chip, and whether a wiring record is still taken, stand in 96 bytes.
 ghost use mathlib.Core.Path.{_≡_};
 ghost use lib.ListN.{length};
-ghost use Rattle.writer.specs.BytesLaws.{Bytes};
+ghost use Rattle.bits.specs.BytesLaws.{Bytes};
 ghost use Rattle.constants.specs.Size.{«KEPT_CHIP»};
 ghost use Rattle.chip_bytes_layout.specs.Place.{NORMAL};
 ghost use Rattle.chip_bytes_layout.specs.Layout.{switchAt};

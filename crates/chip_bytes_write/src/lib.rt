@@ -1,12 +1,12 @@
 // The bytes of a chip.
 ghost use mathlib.Core.Path.{_≡_};
 ghost use mathlib.Core.List.{_++_};
-ghost use Prim.Native.Nat.{_+_, _*_, _≤_};
+ghost use Prim.Native.Nat.{_+_, _≤_};
 ghost use lib.ListN.{length, drop, replicate};
-ghost use lib.Seq.{sets};
-ghost use Rattle.writer.specs.Write.{wordBytes};
 ghost use Rattle.constants.specs.Size.{«KEPT_CHIP»};
 ghost use Rattle.chip_bytes_layout.specs.Layout.{tagOf, firstOf, secondOf, plainOf, switchesOf, wordsOf, chipBytes, keptIn};
+use bits::bytes::put_bytes;
+use bits::bytes::put_words;
 use bits::weigh;
 use bus::Phase;
 use chip::Chip;
@@ -158,31 +158,6 @@ fn words_of(chip: Chip) -> [u16; 25]
         cells[13],
         cells[14],
     ]
-}
-
-// Bytes put at a place.
-fn put_bytes(out: &mut [u8], at: usize, from: &[u8])
-    requires { ⌜ at + length (now from) ≤ length (now out) ⌝ }
-    ensures { λ _. ⌜ now (out .exit) ≡ sets (now (out .entry)) at (now (from .entry)) ⌝ }
-{
-    let mut i = 0;
-    while i < from.len() {
-        out[at + i] = from[i];
-        i += 1;
-    }
-}
-
-// Numbers of two bytes put at a place, the low byte first.
-pub fn put_words(out: &mut [u8], at: usize, of: &[u16])
-    requires { ⌜ at + 2 * length (now of) ≤ length (now out) ⌝ }
-    ensures { λ _. ⌜ now (out .exit) ≡ sets (now (out .entry)) at (wordBytes (now (of .entry))) ⌝ }
-{
-    let mut i = 0;
-    while i < of.len() {
-        out[at + 2 * i] = (of[i] % 256) as u8;
-        out[at + 2 * i + 1] = (of[i] / 256) as u8;
-        i += 1;
-    }
 }
 
 // A chip that stands, in full.

@@ -13,7 +13,7 @@ use Rattle.events.specs.declared.Event.the-variants.{Setup, Por, Boot, Scan, Te
 use Rattle.events.specs.declared.Event.the-variants.{Soak, Wires}
 use Rattle.records.specs.declared.Read.{Read}
 use Rattle.records.specs.declared.Read.the-variants.{Record, Refused, Cut}
-use Rattle.records.specs.Numbers.{le16}
+use Rattle.bits.specs.Numbers.{le16}
 use Rattle.records.specs.Record.{readOf, countsBeside}
 use Rattle.bus.specs.declared.Phase.the-variants.{Idle}
 use Rattle.chip.specs.declared.Chip.{Chip}

@@ -14,7 +14,7 @@ use Rattle.events.specs.declared.Setup.{Setup as SetupValues}
 use Rattle.events.specs.declared.Event.the-variants.{Setup}
 use Rattle.records.specs.declared.Read.{Read}
 use Rattle.records.specs.declared.Read.the-variants.{Record, Refused, Cut}
-use Rattle.records.specs.Numbers.{le16}
+use Rattle.bits.specs.Numbers.{le16}
 use Rattle.records.specs.Frame.{frameOf}
 use Rattle.records.specs.Record.{readOf, countsBeside}
 use Rattle.records.specs.ReadingLaws.{read-whole}

@@ -11,7 +11,7 @@ use borrow.Author.Tests.{ne-eqb, lt-leb, le-ltb}
 use Rattle.records.specs.declared.Payload.the-variants.{Unfit}
 use Rattle.records.specs.declared.Read.{Read}
 use Rattle.records.specs.declared.Read.the-variants.{Record, Refused, Cut}
-use Rattle.records.specs.Numbers.{le16}
+use Rattle.bits.specs.Numbers.{le16}
 use Rattle.records.specs.Frame.{frameOf}
 use Rattle.records.specs.Record.{payloadOf, asRead, readOf}
 use Rattle.chip.specs.declared.Chip.{Chip}

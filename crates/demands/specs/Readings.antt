@@ -9,7 +9,8 @@ use lib.ListN.{getD}
 use lib.IntN.{ℤ, pos, negℤ}
 use lib.Signed.{ltZ}
 use Rattle.events.specs.declared.Setup.{Setup}
-use Rattle.events.specs.Event.{Event, Scan, Sense, fits, within, senseFits}
+use Rattle.events.specs.Event.{Event, Scan, Sense, fits, senseFits}
+use Rattle.bits.specs.Numbers.{within}
 use Rattle.events.specs.Fault.{Ov, Uv, Scd, Ocd}
 use Rattle.bits.specs.Bit.{bit}
 use Rattle.cell_counts.specs.Scan.{someAbove, someBetween}

@@ -7,6 +7,7 @@ use lib.Dec.{leb, eqb}
 use lib.IntN.{ℤ, pos, negℤ}
 use lib.Signed.{ltZ}
 use lib.ListN.{take, drop, replicate}
+use Rattle.bits.specs.Numbers.{within}
 use Rattle.constants.specs.Range.{«COUNT_MOST», «SENSE_MOST», «TICKS_MOST», «SOAK_MOST»}
 use Rattle.events.specs.Setup.{groups, inputs}
 use Rattle.events.specs.declared.Setup.{Setup}
@@ -31,10 +32,6 @@ pub data Event : Type 0 where
   Level : Bool → Event
 
 -- ── values in range (CHIP R3), else 3 ──
-abbrev pub within : ℕ → List ℕ → Bool
-within most [] = true
-within most (x ∷ xs) = leb x most && within most xs
-
 -- a count is 0 to 16,383
 abbrev pub countMost : ℕ
 countMost = «COUNT_MOST»

@@ -12,7 +12,8 @@ use borrow.Author.Tests.{leb-true, le-leb, lt-leb, ltb-true, ltb-false, lt-ltb, 
 use Rattle.events.specs.declared.Setup.{Setup}
 use Rattle.events.specs.declared.Event.the-variants.{Ticks, Soak}
 use Rattle.events.specs.Setup.{groups, inputs, setupFits}
-use Rattle.events.specs.Event.{Scan, Temp, Sense, fits, within, ticksFit, ticks, eventOf}
+use Rattle.events.specs.Event.{Scan, Temp, Sense, fits, ticksFit, ticks, eventOf}
+use Rattle.bits.specs.Numbers.{within}
 
 -- counts: each of them, by its place, 0 to 16,383
 pub counts-within : (most : ℕ) (xs : List ℕ) → (within most xs ≡ true) ↔ ((k : ℕ) → getD xs k 0 ≤ most)

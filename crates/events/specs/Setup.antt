@@ -50,3 +50,7 @@ withCells n u =
       floor = u .floor;
       cells = n;
     }
+
+-- what is known of a setup by its part alone
+abbrev pub standing : ℕ → Setup
+standing part = record { part = part; crc = false; address = 0; «gain_code» = 0; offset = 0; floor = 0; cells = 0 }

@@ -26,7 +26,8 @@ use Rattle.records.specs.ReadingLaws.{Placed, placed}
 use Rattle.records.specs.declared.Framed.the-variants.{Header}
 use Rattle.records.specs.Frame.{headerOf}
 use Rattle.records.specs.SoundLaws.{first-setup, no-setup}
-use Rattle.records.specs.Record.{standing, payloadOf, asRead, readOf, countsIn, countsBeside}
+use Rattle.events.specs.Setup.{standing}
+use Rattle.records.specs.Record.{payloadOf, asRead, readOf, countsIn, countsBeside}
 use Rattle.registers.specs.declared.Shown.{Shown}
 use Rattle.chip.specs.declared.Chip.{Chip}
 use Rattle.chip.specs.declared.Stepped.{Stepped}

@@ -14,7 +14,7 @@ use Rattle.events.specs.Setup.{withCells, setupFits}
 use Rattle.events.specs.Event.{Meant, meantOf}
 use Rattle.records.specs.declared.Read.{Read}
 use Rattle.records.specs.declared.Read.the-variants.{Record, Refused, Cut}
-use Rattle.records.specs.Numbers.{bitOf}
+use Rattle.bits.specs.Numbers.{bitOf}
 use Rattle.records.specs.Record.{setupGood, readOf, countsBeside}
 use Rattle.bits.specs.BoolLaws.{and-left, and-right}
 use Rattle.records.specs.SoundLaws.{IsSetup, first-setup, wires-by, later-means}

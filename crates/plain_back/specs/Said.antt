@@ -14,7 +14,8 @@ use Rattle.events.specs.declared.Event.the-variants.{Soak, Wires}
 use Rattle.events.specs.Fault.{Fault}
 use Rattle.records.specs.declared.Read.{Read}
 use Rattle.records.specs.declared.Read.the-variants.{Record, Refused, Cut}
-use Rattle.records.specs.Record.{standing, readOf}
+use Rattle.events.specs.Setup.{standing}
+use Rattle.records.specs.Record.{readOf}
 use Rattle.constants.specs.Answer.{Said, gives, refuses}
 use Rattle.protection.specs.Streak.{streak}
 use Rattle.demands.specs.Demand.{verdicts}

@@ -17,7 +17,8 @@ use mir.Facts.{toZ-ofZ}
 use borrow.Author.Tests.{le-leb, lt-leb, le-ltb, lt-ltb, leb-true, leb-false}
 use denote.Enum.Declared.{tagOf}
 use types.Run.{OneOf, miss}
-use Rattle.events.specs.Event.{within, senseFits, fits, countsWanted, countsFit, unfit, eventOf, meantOf}
+use Rattle.bits.specs.Numbers.{within}
+use Rattle.events.specs.Event.{senseFits, fits, countsWanted, countsFit, unfit, eventOf, meantOf}
 use Rattle.events.specs.declared.Setup.{Setup}
 use Rattle.events.specs.declared.Counts.{Counts}
 use Rattle.events.specs.declared.Event.{Event}

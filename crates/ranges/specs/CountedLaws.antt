@@ -6,7 +6,8 @@ use native.Mathlib.Omega.{arith}
 use lib.Dec.{eqb}
 use lib.ListN.{drop}
 use borrow.Author.Tests.{eqb-true}
-use Rattle.events.specs.Event.{within, countsFit}
+use Rattle.bits.specs.Numbers.{within}
+use Rattle.events.specs.Event.{countsFit}
 use Rattle.events.specs.declared.Counts.{Counts}
 
 fit-by : (n : ℕ) (k : Counts) (t : Bool) → eqb (k .many) n ≡ t → t && within 0 (drop n (k .of)) ≡ true

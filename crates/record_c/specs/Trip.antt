@@ -11,7 +11,8 @@ use lib.ListN.{length, take, drop}
 use borrow.Author.Tests.{eqb-true, leb-true, le-leb}
 use Rattle.constants.specs.Answer.{Said, gives, refuses}
 use Rattle.events.specs.Setup.{setupFits, setupOf, checkedOf}
-use Rattle.events.specs.Event.{within, countMost, senseFits, ticksMost, soakMost, ticksFit}
+use Rattle.bits.specs.Numbers.{within, bitOf}
+use Rattle.events.specs.Event.{countMost, senseFits, ticksMost, soakMost, ticksFit}
 use Rattle.events.specs.declared.Checked.the-variants.{Good, Bad}
 use Rattle.events.specs.declared.Counts.{Counts}
 use Rattle.events.specs.declared.BusEvent.the-variants.{Start, Out, In, Stop}
@@ -21,8 +22,8 @@ use Rattle.events.specs.declared.Event.the-variants.{Soak, Wires}
 use Rattle.records.specs.Kind.{SETUP, POR, BOOT, SCAN, TEMP, COUNT, SENSE, PIN, LOAD, XREADY, START, OUT, IN, STOP, LEVEL, TICKS, SOAK}
 use Rattle.records.specs.Kind.{WIRES}
 use Rattle.cell_counts.specs.Scan.{padded}
-use Rattle.records.specs.Numbers.{bitOf}
-use Rattle.records.specs.Record.{checkedIn, ticksOf, soakOf, standing, inputsAt, groupsAt, readOf}
+use Rattle.records.specs.Record.{checkedIn, ticksOf, soakOf, inputsAt, groupsAt, readOf}
+use Rattle.events.specs.Setup.{standing}
 use Rattle.events.specs.FewLaws.{few-groups, few-inputs}
 use Rattle.bits.specs.BoolLaws.{and-left, and-right}
 use Rattle.records.specs.declared.Payload.{Payload}

@@ -11,7 +11,8 @@ use lib.Seq.{drop-cons}
 use lib.Signed.{mag}
 use borrow.Author.Tests.{eq-eqb, le-leb, lt-leb, leb-true}
 use Rattle.events.specs.Setup.{checkedOf}
-use Rattle.events.specs.Event.{within, countMost, senseFits, ticksFit}
+use Rattle.bits.specs.Numbers.{within}
+use Rattle.events.specs.Event.{countMost, senseFits, ticksFit}
 use Rattle.events.specs.declared.Checked.{Checked}
 use Rattle.events.specs.declared.Event.{Event}
 use Rattle.events.specs.declared.Event.the-variants.{Sense}

@@ -8,7 +8,8 @@ use lib.IntN.{ℤ}
 use lib.ListN.{length}
 use Rattle.constants.specs.Number.{«BAD_SETUP», «BAD_KIND», «BAD_VALUE», «NO_ROW»}
 use Rattle.events.specs.Setup.{checkedOf}
-use Rattle.events.specs.Event.{within, countMost, senseFits, ticksFit}
+use Rattle.bits.specs.Numbers.{within}
+use Rattle.events.specs.Event.{countMost, senseFits, ticksFit}
 use Rattle.events.specs.declared.BusEvent.the-variants.{Out}
 use Rattle.events.specs.declared.Event.{Event}
 use Rattle.events.specs.declared.Event.the-variants.{Count, Sense, OnBus, Wires}

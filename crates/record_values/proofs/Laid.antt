@@ -17,7 +17,7 @@ use Rattle.events.specs.declared.BusEvent.the-variants.{Start, Out, In, Stop}
 use Rattle.records.specs.Record.{noCounts}
 use Rattle.events.specs.declared.Event.{Event}
 use Rattle.events.specs.declared.Event.the-variants.{OnBus}
-use Rattle.records.specs.Numbers.{bitOf}
+use Rattle.bits.specs.Numbers.{bitOf}
 use Rattle.record_values.specs.Values.{valuesFor, setupValues, countValues}
 use Rattle.record_values.specs.Named.{laid}
 

@@ -8,7 +8,7 @@ use Rattle.events.specs.declared.BusEvent.the-variants.{Start, Out, In, Stop}
 use Rattle.events.specs.declared.Event.{Event}
 use Rattle.events.specs.declared.Event.the-variants.{Setup, Por, Boot, Scan, Temp, Count, Sense, Pin, Load, Xready, OnBus, Level, Ticks}
 use Rattle.events.specs.declared.Event.the-variants.{Soak, Wires}
-use Rattle.records.specs.Numbers.{bitOf}
+use Rattle.bits.specs.Numbers.{bitOf}
 
 -- ── the values of an event: its payload's, in their order ──
 abbrev pub setupValues : SetupValues → List ℤ

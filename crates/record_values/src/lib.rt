@@ -5,7 +5,7 @@ ghost use Prim.Native.Nat.{_≤_};
 ghost use lib.ListN.{length};
 ghost use lib.IntN.{pos};
 ghost use Rattle.constants.specs.Answer.{gives};
-ghost use Rattle.records.specs.Numbers.{bitOf};
+ghost use Rattle.bits.specs.Numbers.{bitOf};
 ghost use Rattle.records.specs.Record.{noCounts};
 ghost use Rattle.events.specs.declared.Event.the-variants.{OnBus};
 ghost use Rattle.writer.specs.Write.{kindFor};

@@ -11,7 +11,7 @@ use Rattle.events.specs.Setup.{checkedOf}
 use Rattle.events.specs.declared.Checked.{Checked}
 use Rattle.events.specs.declared.Counts.{Counts}
 use Rattle.events.specs.declared.Event.{Event}
-use Rattle.records.specs.Numbers.{le16}
+use Rattle.bits.specs.Numbers.{le16}
 use Rattle.records.specs.Record.{checkedIn, setupIn, payloadOf, asRead, readOf, noCounts, countsIn, takenFrom, takenAt}
 use Rattle.records.specs.ReadingLaws.{Placed, placed}
 use Rattle.records.specs.declared.Payload.{Payload}

@@ -14,7 +14,7 @@ use borrow.Author.Tests.{lt-ltb, le-ltb, ltb-true, ltb-false, leb-true, leb-fals
 use Rattle.events.specs.Event.{senseFits, ticksFit}
 use Rattle.events.specs.declared.Event.{Event}
 use Rattle.events.specs.declared.Event.the-variants.{Sense}
-use Rattle.records.specs.Numbers.{signed32}
+use Rattle.bits.specs.Numbers.{signed32}
 use Rattle.records.specs.Record.{senseOf, repeatOf}
 use Rattle.bits.specs.BoolLaws.{and-left}
 use Rattle.records.specs.RangesLaws.{fits-pos, fits-neg, as-pos, as-neg}

@@ -8,16 +8,11 @@ use lib.Dec.{ltb}
 use lib.ListN.{length, take, drop, replicate}
 use lib.Seq.{take-append-seam, drop-append-seam}
 use borrow.Author.Tests.{ltb-false, eq-eqb}
-use Rattle.events.specs.Event.{within, countsFit}
+use Rattle.bits.specs.BytesLaws.{words-count}
+use Rattle.bits.specs.Numbers.{within, words}
+use Rattle.events.specs.Event.{countsFit}
 use Rattle.cell_counts.specs.Scan.{padded}
-use Rattle.records.specs.Numbers.{words}
 use Rattle.records.specs.Record.{countsOf}
-
-pub words-count : (b : List ℕ) (n : ℕ) → length b ≡ 2 * n → length (words b) ≡ n
-words-count [] n h = omega arith
-words-count (x ∷ []) n h = absurd (omega arith)
-words-count (x ∷ y ∷ b) zero h = absurd (omega arith)
-words-count (x ∷ y ∷ b) (suc n) h = ap suc (words-count b n (omega arith))
 
 none-padded : (n : ℕ) → padded n [] ≡ replicate n 0
 none-padded zero = refl

@@ -12,7 +12,7 @@ use Rattle.events.specs.declared.Checked.{Checked}
 use Rattle.events.specs.declared.Checked.the-variants.{Good, Bad}
 use Rattle.events.specs.declared.Event.{Event}
 use Rattle.events.specs.declared.Event.the-variants.{Setup}
-use Rattle.records.specs.Numbers.{le16}
+use Rattle.bits.specs.Numbers.{le16}
 use Rattle.records.specs.Frame.{headerOf, framedNumber}
 use Rattle.records.specs.Record.{checkedIn, setupIn, payloadOf, asRead, readOf, numberOf}
 use Rattle.records.specs.declared.Framed.{Framed}

@@ -7,7 +7,8 @@ use Prim.Native.Nat.{ℕ, _+_, _*_, _<_}
 use lib.Dec.{eqb, leb}
 use lib.ListN.{length, getD, take, drop}
 use borrow.Author.Tests.{eqb-true, eq-eqb, lt-leb}
-use Rattle.events.specs.Event.{ticksMost, soakMost, ticksFit, senseFits, within, countMost}
+use Rattle.events.specs.Event.{ticksMost, soakMost, ticksFit, senseFits, countMost}
+use Rattle.bits.specs.Numbers.{within, le16, le32, signed32, words}
 use Rattle.events.specs.Setup.{checkedOf}
 use Rattle.events.specs.declared.Checked.{Checked}
 use Rattle.events.specs.declared.Checked.the-variants.{Good, Bad}
@@ -16,7 +17,6 @@ use Rattle.events.specs.declared.BusEvent.the-variants.{Start, Stop, Out, In}
 use Rattle.events.specs.declared.Event.{Event}
 use Rattle.events.specs.declared.Event.the-variants.{Setup, Por, Boot, Scan, Temp, Count, Sense, Pin, Load, Xready, OnBus, Level, Ticks}
 use Rattle.events.specs.declared.Event.the-variants.{Soak, Wires}
-use Rattle.records.specs.Numbers.{le16, le32, signed32, words}
 use Rattle.records.specs.Record.{checkedIn, setupIn, bareIn, countedIn, senseOf, senseIn, repeatOf, ticksOf, ticksIn, soakOf}
 use Rattle.records.specs.Record.{soakIn, switchIn, loadOf, levelOf, inOf, groupsAt, inputsAt, laterOf, payloadOf, readOf}
 use Rattle.records.specs.ReadingLaws.{WholeAt, read-whole}

@@ -10,7 +10,7 @@ use Rattle.events.specs.Event.{senseFits, ticksMost, soakMost, ticksFit}
 use Rattle.events.specs.declared.Checked.the-variants.{Good, Bad}
 use Rattle.events.specs.declared.Event.the-variants.{Setup, Count, Sense, Ticks, Soak}
 use Rattle.events.specs.declared.Setup.{Setup as SetupValues}
-use Rattle.records.specs.Numbers.{signed32}
+use Rattle.bits.specs.Numbers.{signed32}
 use Rattle.records.specs.Record.{checkedIn, setupIn, countIn, senseOf, senseIn, repeatOf, ticksIn, soakIn}
 use Rattle.records.specs.declared.Payload.the-variants.{Whole, Unfit}
 

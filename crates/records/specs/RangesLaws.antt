@@ -6,7 +6,7 @@ use lib.Dec.{ltb}
 use lib.IntN.{pos, negsuc}
 use borrow.Author.Tests.{lt-ltb, le-ltb}
 use Rattle.events.specs.Event.{senseMost, senseFits}
-use Rattle.records.specs.Numbers.{signed32}
+use Rattle.bits.specs.Numbers.{signed32}
 
 pub fits-pos : (n : ℕ) → senseFits (pos n) ≡ not (ltb senseMost n)
 fits-pos zero = refl

@@ -10,7 +10,7 @@ use lib.Dec.{ltb, eqb}
 use lib.ListN.{length, take, drop, length-append}
 use lib.Seq.{drop-append-seam}
 use borrow.Author.Tests.{ltb-false, le-ltb, eqb-true, ne-eqb}
-use Rattle.records.specs.Numbers.{le16}
+use Rattle.bits.specs.Numbers.{le16}
 use Rattle.records.specs.Kind.{SETUP, POR, BOOT, SCAN, TEMP, COUNT, SENSE, PIN, LOAD, XREADY, START, OUT, IN, STOP, LEVEL, TICKS}
 use Rattle.records.specs.Kind.{SOAK, WIRES}
 use Rattle.records.specs.Record.{bareIn, countedIn, countIn, senseIn, switchIn, loadOf, levelOf, inOf, outIn, ticksIn, soakIn}

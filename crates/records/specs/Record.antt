@@ -1,12 +1,13 @@
 -- CHIP R1 to R7 and N30: reading, with the numbers 1, 2, 3 and 9. Assumes nothing.
 use Prim.Native.Nat.{ℕ, _+_, _-_, _*_, _/_}
 use mathlib.Core.List.{List}
-use mathlib.Core.Bool.{Bool, false, cond, _&&_}
+use mathlib.Core.Bool.{Bool, cond, _&&_}
 use lib.ListN.{length, getD, take, drop, replicate}
 use lib.Dec.{ltb, leb, eqb}
 use lib.IntN.{ℤ}
-use Rattle.events.specs.Setup.{setupFits, checkedOf, setupNumber, groups, inputs}
-use Rattle.events.specs.Event.{besideOf, countMost, within, senseFits, ticksMost, soakMost, ticksFit}
+use Rattle.events.specs.Setup.{setupFits, checkedOf, setupNumber, groups, inputs, standing}
+use Rattle.events.specs.Event.{besideOf, countMost, senseFits, ticksMost, soakMost, ticksFit}
+use Rattle.bits.specs.Numbers.{within, le16, le32, signed32, bitOf, words}
 use Rattle.events.specs.declared.Setup.{Setup as SetupValues}
 use Rattle.events.specs.declared.Counts.{Counts}
 use Rattle.events.specs.declared.Checked.{Checked}
@@ -20,7 +21,6 @@ use Rattle.events.specs.declared.Event.the-variants.{Soak, Wires}
 use Rattle.constants.specs.Number.{DONE, «BAD_KIND», «BAD_VALUE», CUT}
 use Rattle.constants.specs.Size.{HEADER, «SETUP_PAYLOAD», «COUNT_PAYLOAD», «SENSE_PAYLOAD», «TICKS_PAYLOAD», «SOAK_PAYLOAD»}
 use Rattle.cell_counts.specs.Scan.{padded}
-use Rattle.records.specs.Numbers.{le16, le32, signed32, bitOf, words}
 use Rattle.records.specs.Kind.{SETUP, POR, BOOT, SCAN, TEMP, COUNT, SENSE, PIN, LOAD, XREADY, START, OUT, IN, STOP, LEVEL, TICKS}
 use Rattle.records.specs.Kind.{SOAK, WIRES}
 use Rattle.records.specs.declared.Payload.{Payload}
@@ -103,9 +103,6 @@ wiresIn b = cond (eqb (length b) 1) (Whole (Wires (getD b 0 0))) (Unfit «BAD_KI
 
 -- ── the kinds ──
 -- the inputs, and the groups of five, of the part that stands
-abbrev pub standing : ℕ → SetupValues
-standing part = record { part = part; crc = false; address = 0; «gain_code» = 0; offset = 0; floor = 0; cells = 0 }
-
 abbrev pub groupsAt : ℕ → ℕ
 groupsAt part = groups (standing part)
 

@@ -13,7 +13,8 @@ use lib.IntN.{ℤ}
 use borrow.Author.Tests.{eqb-true, leb-true, ne-eqb}
 use Rattle.bits.specs.BoolLaws.{and-left, and-right}
 use Rattle.events.specs.Setup.{setupFits, setupOf, checkedOf, groups, inputs}
-use Rattle.events.specs.Event.{within, countMost, senseFits, ticksMost, soakMost, ticksFit, fits, countsFit, inRange}
+use Rattle.bits.specs.Numbers.{within, le16, le32, signed32, bitOf, words}
+use Rattle.events.specs.Event.{countMost, senseFits, ticksMost, soakMost, ticksFit, fits, countsFit, inRange}
 use Rattle.events.specs.Event.{meantOf}
 use Rattle.events.specs.declared.Setup.{Setup as SetupValues}
 use Rattle.events.specs.declared.Counts.{Counts}
@@ -24,7 +25,6 @@ use Rattle.events.specs.declared.Role.the-variants.{Makes, Rewires, Happens}
 use Rattle.events.specs.declared.Event.{Event}
 use Rattle.events.specs.declared.Event.the-variants.{Setup, Por, Boot, Scan, Temp, Count, Sense, Pin, Load, Xready, OnBus, Level, Ticks}
 use Rattle.events.specs.declared.Event.the-variants.{Soak, Wires}
-use Rattle.records.specs.Numbers.{le16, le32, signed32, bitOf, words}
 use Rattle.records.specs.Kind.{SETUP}
 use Rattle.records.specs.Record.{setupGood, checkedIn, setupIn, countedIn, senseOf, repeatOf, ticksOf, soakOf, payloadOf, laterOf}
 use Rattle.records.specs.Record.{readOf, groupsAt, inputsAt, countsOf, countsIn, countsBeside}

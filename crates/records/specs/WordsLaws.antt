@@ -10,9 +10,9 @@ use lib.Dec.{leb}
 use lib.ListN.{length, drop, length-drop}
 use lib.Seq.{drop-cons}
 use borrow.Author.Tests.{le-leb, lt-leb, leb-true, leb-false}
-use Rattle.events.specs.Event.{within, countMost}
+use Rattle.bits.specs.Numbers.{within, le16, words, wordOr}
+use Rattle.events.specs.Event.{countMost}
 use Rattle.cell_counts.specs.Scan.{padded}
-use Rattle.records.specs.Numbers.{le16, words, wordOr}
 
 pub words-at : (b : List ℕ) (i : ℕ) → i + 2 ≤ length b → words (drop i b) ≡ le16 b i ∷ words (drop (i + 2) b)
 words-at b i h =

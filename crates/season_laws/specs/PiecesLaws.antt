@@ -14,7 +14,7 @@ use lib.Signed.{nonNeg}
 use borrow.Author.Tests.{le-ltb, eq-eqb, eqb-true}
 use Rattle.constants.specs.Answer.{Said, gives, refuses}
 use Rattle.events.specs.declared.Setup.{Setup}
-use Rattle.records.specs.Numbers.{bitOf}
+use Rattle.bits.specs.Numbers.{bitOf}
 use Rattle.wiring.specs.Rows.{hasRow}
 use Rattle.registers.specs.State.{alert}
 use Rattle.season.specs.declared.Season.{Season}

@@ -18,7 +18,7 @@ use Rattle.records.specs.declared.Payload.{Payload}
 use Rattle.records.specs.declared.Payload.the-variants.{Whole, Unfit}
 use Rattle.records.specs.declared.Read.{Read}
 use Rattle.records.specs.declared.Read.the-variants.{Record, Refused, Cut}
-use Rattle.records.specs.Numbers.{le16}
+use Rattle.bits.specs.Numbers.{le16}
 use Rattle.records.specs.Frame.{frameOf}
 use Rattle.records.specs.Record.{setupGood, payloadOf, asRead, readOf, countsBeside}
 use Rattle.records.specs.SoundLaws.{IsSetup, first-setup}

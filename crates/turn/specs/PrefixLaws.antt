@@ -13,7 +13,7 @@ use Rattle.records.specs.declared.Payload.{Payload}
 use Rattle.records.specs.declared.Payload.the-variants.{Whole, Unfit}
 use Rattle.records.specs.declared.Read.{Read}
 use Rattle.records.specs.declared.Read.the-variants.{Record, Refused, Cut}
-use Rattle.records.specs.Numbers.{le16}
+use Rattle.bits.specs.Numbers.{le16}
 use Rattle.records.specs.Record.{payloadOf, asRead, readOf, countsIn}
 use Rattle.records.specs.ReadingLaws.{Placed, placed}
 use Rattle.chip.specs.declared.Chip.{Chip}

@@ -24,7 +24,7 @@ use Rattle.records.specs.declared.Payload.{Payload}
 use Rattle.records.specs.declared.Payload.the-variants.{Whole, Unfit}
 use Rattle.records.specs.declared.Read.{Read}
 use Rattle.records.specs.declared.Read.the-variants.{Record, Refused, Cut}
-use Rattle.records.specs.Numbers.{le16, bitOf}
+use Rattle.bits.specs.Numbers.{le16, bitOf}
 use Rattle.records.specs.Kind.{SETUP}
 use Rattle.records.specs.Record.{setupGood, checkedIn, setupIn, payloadOf, asRead, readOf, numberOf, countsBeside}
 use Rattle.records.specs.ReadingLaws.{cond-by}

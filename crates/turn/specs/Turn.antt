@@ -12,7 +12,8 @@ use Rattle.events.specs.declared.Role.the-variants.{Makes, Rewires, Happens}
 use Rattle.events.specs.declared.Event.{Event}
 use Rattle.records.specs.declared.Read.{Read}
 use Rattle.records.specs.declared.Read.the-variants.{Record, Refused, Cut}
-use Rattle.records.specs.Record.{standing, readOf, countsBeside}
+use Rattle.events.specs.Setup.{standing}
+use Rattle.records.specs.Record.{readOf, countsBeside}
 use Rattle.wiring.specs.Rows.{wiredWith, wiredNumber}
 use Rattle.wiring.specs.declared.Wiring.{Wiring}
 use Rattle.wiring.specs.declared.Wiring.the-variants.{With, NoRow}

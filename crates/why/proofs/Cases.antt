@@ -17,8 +17,8 @@ use Rattle.turn.specs.Entries.{entries}
 use Rattle.turn.specs.Frames.{framesOf}
 use Rattle.turn.specs.CountedLaws.{entries-count}
 use Rattle.turn.proofs.Runs.{rest-is}
-use Rattle.writer.specs.Write.{wordBytes}
-use Rattle.writer.specs.BytesLaws.{words-length}
+use Rattle.bits.specs.Numbers.{wordBytes}
+use Rattle.bits.specs.BytesLaws.{words-length}
 use Rattle.why_rows.specs.declared.Why.{Why}
 use Rattle.causes.specs.Cause.{isJudged, causeOf, needOf, limitOf, knownBit}
 use Rattle.causes.specs.Hold.{heldBy, isDrive}

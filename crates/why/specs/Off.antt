@@ -13,7 +13,7 @@ use Rattle.bits.specs.Bit.{bit}
 use Rattle.turn.specs.Entries.{entries}
 use Rattle.causes.specs.Hold.{heldBy, isDrive}
 use Rattle.why_rows.specs.Row.{offWords}
-use Rattle.writer.specs.Write.{wordBytes}
+use Rattle.bits.specs.Numbers.{wordBytes}
 use Rattle.why.specs.declared.Rose.{Rose}
 use Rattle.why.specs.Rise.{risen}
 

@@ -16,7 +16,7 @@ use Rattle.turn.specs.Entries.{entries}
 use Rattle.why_rows.specs.declared.Why.{Why}
 use Rattle.causes.specs.Cause.{isJudged, causeOf, needOf, limitOf, knownBit}
 use Rattle.why_rows.specs.Row.{whyWords}
-use Rattle.writer.specs.Write.{wordBytes}
+use Rattle.bits.specs.Numbers.{wordBytes}
 use Rattle.why_scan.specs.declared.Says.{Says}
 use Rattle.why_walk.specs.Says.{saysIn}
 use Rattle.why.specs.declared.Rose.{Rose}

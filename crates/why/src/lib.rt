@@ -1,12 +1,11 @@
 // CHIP P17 and P18: since when and why a bit of SYS_STAT is up, since when a drive is off and what holds it, for C.
 ghost use mathlib.Core.Path.{_≡_};
-ghost use Prim.Native.Nat.{_*_, _<_, _≤_, _^_};
+ghost use Prim.Native.Nat.{_<_, _≤_, _^_};
 ghost use lib.ListN.{length};
-ghost use lib.Seq.{sets};
-ghost use Rattle.writer.specs.Write.{wordBytes};
 ghost use Rattle.why.specs.Rise.{isSuch, roseOn, searchedOn, risen, searched, Few};
 ghost use Rattle.why.specs.Why.{leastOf, whyOf, Explained};
 ghost use Rattle.why.specs.Off.{Held};
+use bits::bytes::put_words;
 use constants::answer;
 use constants::size;
 use why_rows::Why;
@@ -152,20 +151,6 @@ fn why_of(s: &[u8], bit: u8, found: Rose) -> Why
     }
 }
 
-// Numbers of two bytes, at the start of a buffer.
-fn put_words(out: &mut [u8], words: &[u16])
-    requires { ⌜ 2 * length (now words) ≤ length (now out) ⌝ }
-    ensures { λ _. ⌜ now (out .exit) ≡ sets (now (out .entry)) 0 (wordBytes (now (words .entry))) ⌝ }
-{
-    let mut i = 0;
-    while i < words.len() {
-        let word = words[i];
-        out[2 * i] = (word % 256) as u8;
-        out[2 * i + 1] = (word / 256) as u8;
-        i += 1;
-    }
-}
-
 // Since when and why a bit of SYS_STAT is up that is up after a record. Answers 0, or with nothing written -24 for more than 4,294,967,295 bytes, -27 no such
 // record, -28 the bit is not up, -5 for room below 36.
 #[no_mangle]
@@ -187,7 +172,7 @@ pub extern "C" fn toralinge_why(bytes: &[u8], number: u64, bit: u32, row: &mut [
         return answer::NO_ROOM;
     }
     let words = why_rows::why_words(why_of(bytes, weight, found));
-    put_words(row, &words);
+    put_words(row, 0, &words);
     0
 }
 
@@ -212,6 +197,6 @@ pub extern "C" fn toralinge_off(bytes: &[u8], number: u64, drive: u32, row: &mut
         return answer::NO_ROOM;
     }
     let words = why_rows::off_words(found.rose, causes::held_by(found.last.stat, pin));
-    put_words(row, &words);
+    put_words(row, 0, &words);
     0
 }

@@ -20,7 +20,7 @@ use Rattle.events.specs.Fault.{Ov, Uv, Scd, Ocd}
 use Rattle.records.specs.declared.Read.{Read}
 use Rattle.records.specs.declared.Read.the-variants.{Record, Refused, Cut}
 use Rattle.records.specs.Record.{readOf, countsIn}
-use Rattle.writer.specs.Write.{bits32}
+use Rattle.bits.specs.Numbers.{bits32}
 use Rattle.limits.specs.Rule.{rule, beyond}
 use Rattle.chip.specs.declared.Chip.{Chip}
 use Rattle.records.specs.ReadingLaws.{Placed, placed}

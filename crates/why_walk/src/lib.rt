@@ -4,9 +4,9 @@ ghost use mathlib.Core.Bool.{cond};
 ghost use Prim.Native.Nat.{_+_, _≤_, _<_, _^_};
 ghost use lib.ListN.{length, take};
 ghost use Rattle.events.specs.Setup.{inputs as inputsSpec};
-ghost use Rattle.writer.specs.Write.{bits32};
 ghost use Rattle.why_walk.specs.Says.{scanSays, ticksSay, eventSays, saysIn, streakAfter};
 ghost use Rattle.why_walk.specs.Standing.{begun as begunSpec, advanced};
+use bits::bytes::bits_of;
 use chip::Chip;
 use constants::weight;
 use events::Counts;
@@ -40,13 +40,6 @@ fn scan_says(chip: Chip, counts: [u16; 15], bit: u8) -> Says
         return why_scan::scan_of(counts, setup.inputs(), s.adc_en, false, setup.floor, line);
     }
     why_scan::says_none()
-}
-
-// The 32 bits of a number with its sign.
-fn bits_of(v: i32) -> u32
-    ensures { λ r. ⌜ r ≡ bits32 v ⌝ }
-{
-    ((v as i64 + 4294967296) as u64 % 4294967296) as u32
 }
 
 // What ticks of one value say of SCD and OCD.

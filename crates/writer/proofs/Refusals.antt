@@ -18,9 +18,9 @@ use Rattle.events.specs.declared.Role.the-variants.{Makes, Rewires, Happens}
 use Rattle.events.specs.declared.Event.{Event}
 use Rattle.events.specs.declared.Event.the-variants.{Setup as SetupEvent, OnBus, Wires}
 use Rattle.wiring.specs.Rows.{hasRow}
-use Rattle.records.specs.Numbers.{bitOf}
+use Rattle.bits.specs.Numbers.{bitOf, bytes32, bits32}
 use Rattle.records.specs.Record.{setupGood, noCounts}
-use Rattle.writer.specs.Write.{recordOf, recordFor, bytes32, bits32, valueRefusal, refusalFor, Writes, Puts}
+use Rattle.writer.specs.Write.{recordOf, recordFor, valueRefusal, refusalFor, Writes, Puts}
 use Rattle.writer.specs.CheckedLaws.{refusalAt, refusal-is}
 use Rattle.writer.specs.declared.Wrote.{Wrote}
 use Rattle.writer.specs.declared.Wrote.the-variants.{Refused}

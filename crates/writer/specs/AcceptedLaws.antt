@@ -11,7 +11,7 @@ use Rattle.events.specs.declared.Event.{Event}
 use Rattle.events.specs.declared.Event.the-variants.{Setup as Setup-, Por, Boot, Scan, Temp, Count, Sense, Pin, Load, Xready, OnBus}
 use Rattle.events.specs.declared.Event.the-variants.{Level, Ticks, Soak, Wires}
 use Rattle.ranges.specs.CountedLaws.{fit-is}
-use Rattle.records.specs.Record.{standing}
+use Rattle.events.specs.Setup.{standing}
 use Rattle.events.specs.FewLaws.{few-groups, few-inputs}
 use Rattle.writer.specs.Write.{partFor, valueRefusal, refusalFor, Puts}
 use Rattle.writer.specs.declared.Wrote.{Wrote}

@@ -11,7 +11,8 @@ use lib.ListN.{length, getD, take, drop, length-drop}
 use lib.Seq.{length-take-le}
 use borrow.Author.Tests.{le-leb, eqb-true, ne-eqb}
 use Rattle.events.specs.Setup.{setupFits, checkedOf}
-use Rattle.events.specs.Event.{within, countMost, senseFits, ticksMost, soakMost, ticksFit, fits, countsWanted, countsFit, Meant, unfit}
+use Rattle.bits.specs.Numbers.{within, le16, le32, signed32, bitOf, words, bytes16, wordBytes}
+use Rattle.events.specs.Event.{countMost, senseFits, ticksMost, soakMost, ticksFit, fits, countsWanted, countsFit, Meant, unfit}
 use Rattle.events.specs.Event.{eventOf, meantOf, inRange}
 use Rattle.events.specs.declared.Setup.{Setup as SetupValues}
 use Rattle.events.specs.declared.Counts.{Counts}
@@ -22,9 +23,9 @@ use Rattle.events.specs.declared.Event.the-variants.{Soak, Wires}
 use Rattle.wiring.specs.Rows.{hasRow}
 use Rattle.records.specs.Kind.{SETUP, POR, BOOT, SCAN, TEMP, COUNT, SENSE, PIN, LOAD, XREADY, START, OUT, IN, STOP, LEVEL, TICKS, SOAK}
 use Rattle.records.specs.Kind.{WIRES}
-use Rattle.records.specs.Numbers.{le16, le32, signed32, bitOf, words}
 use Rattle.records.specs.Record.{setupGood, checkedIn, setupIn, countedIn, senseOf, repeatOf, ticksOf, soakOf, groupsAt, inputsAt}
-use Rattle.records.specs.Record.{standing, laterOf, payloadOf, readOf, countsOf, countsIn, countsBeside}
+use Rattle.events.specs.Setup.{standing}
+use Rattle.records.specs.Record.{laterOf, payloadOf, readOf, countsOf, countsIn, countsBeside}
 use Rattle.records.specs.CountedLaws.{many-is, counts-taken}
 use Rattle.events.specs.FewLaws.{few-groups, few-inputs}
 use Rattle.records.specs.ReadingLaws.{WholeAt, read-whole, later-by, cond-by}
@@ -33,10 +34,11 @@ use Rattle.records.specs.SoundLaws.{bit-back, crc-back, IsSetup, first-setup, M
 use Rattle.records.specs.declared.Payload.{Payload}
 use Rattle.records.specs.declared.Payload.the-variants.{Whole, Unfit}
 use Rattle.records.specs.declared.Read.the-variants.{Record}
-use Rattle.writer.specs.Write.{bytes16, wordBytes, recordOf, kindFor, payloadFor, countBytes, recordFor, partFor, valueRefusal}
+use Rattle.writer.specs.Write.{recordOf, kindFor, payloadFor, countBytes, recordFor, partFor, valueRefusal}
 use Rattle.writer.specs.Write.{refusalFor}
-use Rattle.writer.specs.BytesLaws.{Bytes, byte-first, byte-rest, bytes-drop, bytes-take, low-forth, high-forth, words-forth}
-use Rattle.writer.specs.BytesLaws.{none-forth, one-forth, two-forth, four-forth, six-forth, eight-forth}
+use Rattle.bits.specs.BytesLaws.{Bytes, byte-first, byte-rest, bytes-drop, bytes-take, low-forth, high-forth, words-forth, none-forth}
+use Rattle.bits.specs.BytesLaws.{one-forth, two-forth}
+use Rattle.writer.specs.BytesLaws.{four-forth, six-forth, eight-forth}
 use Rattle.ranges.specs.CountedLaws.{fit-is}
 use Rattle.writer.specs.AcceptedLaws.{Accepted, not-refused}
 

@@ -1,44 +1,24 @@
--- Laws of numbers written as bytes and read back, both ways. Assumes nothing.
+-- Laws of values written as bytes and read back, both ways, over those of numbers (bits/BytesLaws). Assumes nothing.
 use mathlib.Core.Path.{_≡_, refl, ap, ap₂, sym, _∙_}
-use Prim.Native.Nat.{ℕ, suc, zero, _+_, _-_, _*_, _/_, _%_, _<_, _≤_, _^_}
+use Prim.Native.Nat.{ℕ, suc, _+_, _-_, _*_, _/_, _%_, _<_, _≤_, _^_}
 use mathlib.Core.List.{List, [], _∷_, _++_}
 use mathlib.Core.Bool.{Bool, true, false, not, _&&_, cond}
 use native.Mathlib.Omega.{arith}
-use lib.Dec.{leb, ltb, eqb}
+use lib.Dec.{leb, ltb}
 use lib.IntN.{ℤ, pos, negsuc}
-use lib.ListN.{length, getD, take, drop}
-use borrow.Author.Tests.{leb-true, ltb-true, ltb-false, not-true}
-use Rattle.events.specs.Event.{within, senseFits, senseMost, ticksFit}
+use lib.ListN.{length}
+use borrow.Author.Tests.{ltb-true, ltb-false, not-true}
+use Rattle.bits.specs.BytesLaws.{Bytes, byte-first, byte-rest, low-forth, high-forth, two-forth}
+use Rattle.bits.specs.Numbers.{le16, le32, signed32, bytes16, bytes32, bits32}
+use Rattle.events.specs.Event.{senseFits, senseMost, ticksFit}
 use Rattle.events.specs.declared.Event.{Event}
 use Rattle.events.specs.declared.Event.the-variants.{Sense}
-use Rattle.records.specs.Numbers.{le16, le32, signed32, bitOf, words}
 use Rattle.records.specs.Record.{senseOf, repeatOf}
 use Rattle.records.specs.RangesLaws.{fits-pos, fits-neg, as-pos, as-neg}
-use Rattle.bits.specs.BoolLaws.{and-left, and-right}
+use Rattle.bits.specs.BoolLaws.{and-left}
 use Rattle.records.specs.declared.Payload.the-variants.{Whole, Unfit}
-use Rattle.writer.specs.Write.{bytes16, bytes32, bits32, wordBytes}
 
 -- ── written, then read ──
-pub back16 : (x : ℕ) → x % 256 + 256 * (x / 256) ≡ x
-back16 x = omega arith
-
-pub back32 : (x : ℕ) → x % 65536 + 65536 * (x / 65536) ≡ x
-back32 x = omega arith
-
-pub words-length : (a : List ℕ) → length (wordBytes a) ≡ 2 * length a
-words-length [] = refl
-words-length (x ∷ a) =
-    let h : length (wordBytes a) ≡ 2 * length a = words-length a in
-    omega arith
-
-pub words-back : (cs : List ℕ) → words (wordBytes cs) ≡ cs
-words-back [] = refl
-words-back (x ∷ cs) = ap₂ _∷_ (back16 x) (words-back cs)
-
-pub bit-same : (t : Bool) → eqb (bitOf t) 1 ≡ t
-bit-same true = refl
-bit-same false = refl
-
 sense-most : (n : ℕ) → not (ltb senseMost n) ≡ true → n ≤ 500000
 sense-most n h = ltb-false _ _ (not-true _ h)
 
@@ -65,62 +45,6 @@ unfolding repeatOf
 ticks-back e most z n h =
     ap (λ (z : ℤ). cond (ticksFit most z n) (Whole (e z n)) (Unfit 3)) (value-back z (fit-value most z n h))
     ∙ ap (λ (t : Bool). cond t (Whole (e z n)) (Unfit 3)) h
-
--- ── read, then written: the numbers of a list are bytes ──
-abbrev pub Bytes : List ℕ → Type 0
-Bytes b = within 255 b ≡ true
-
-pub byte-first : (x : ℕ) (b : List ℕ) → Bytes (x ∷ b) → x < 256
-byte-first x b h = omega (arith, leb-true x 255 (and-left (leb x 255) (within 255 b) h))
-
-pub byte-rest : (x : ℕ) (b : List ℕ) → Bytes (x ∷ b) → Bytes b
-byte-rest x b h = and-right (leb x 255) (within 255 b) h
-
-pub bytes-drop : (n : ℕ) (b : List ℕ) → Bytes b → Bytes (drop n b)
-bytes-drop zero b h = h
-bytes-drop (suc n) [] h = refl
-bytes-drop (suc n) (x ∷ b) h = bytes-drop n b (byte-rest x b h)
-
-both : (s t : Bool) → s ≡ true → t ≡ true → s && t ≡ true
-both true t g h = h
-both false t g h = g
-
-pub bytes-take : (n : ℕ) (b : List ℕ) → Bytes b → Bytes (take n b)
-bytes-take zero b h = refl
-bytes-take (suc n) [] h = refl
-bytes-take (suc n) (x ∷ b) h =
-    both (leb x 255) (within 255 (take n b)) (and-left (leb x 255) (within 255 b) h) (bytes-take n b (byte-rest x b h))
-
--- two bytes as a number, and the bytes of that
-module _ (x y : ℕ) (hx : x < 256) where
-  pub low-forth : (x + 256 * y) % 256 ≡ x
-  low-forth = omega arith
-
-  pub high-forth : (x + 256 * y) / 256 ≡ y
-  high-forth = omega arith
-
-pub words-forth : (b : List ℕ) (n : ℕ) → length b ≡ 2 * n → Bytes b → wordBytes (words b) ≡ b
-words-forth [] n l h = refl
-words-forth (x ∷ []) n l h = absurd (omega arith)
-words-forth (x ∷ y ∷ b) zero l h = absurd (omega arith)
-words-forth (x ∷ y ∷ b) (suc n) l h =
-    let hx : x < 256 = byte-first x (y ∷ b) h in
-    ap₂ _∷_ (low-forth x y hx) (ap₂ _∷_ (high-forth x y hx) (words-forth b n (omega arith) (byte-rest y b (byte-rest x (y ∷ b) h))))
-
-pub none-forth : (b : List ℕ) → length b ≡ 0 → [] ≡ b
-none-forth [] l = refl
-none-forth (x ∷ b) l = absurd (omega arith)
-
-pub one-forth : (b : List ℕ) → length b ≡ 1 → getD b 0 0 ∷ [] ≡ b
-one-forth [] l = absurd (omega arith)
-one-forth (x ∷ []) l = refl
-one-forth (x ∷ y ∷ b) l = absurd (omega arith)
-
-pub two-forth : (b : List ℕ) → length b ≡ 2 → Bytes b → bytes16 (le16 b 0) ≡ b
-two-forth [] l h = absurd (omega arith)
-two-forth (x ∷ []) l h = absurd (omega arith)
-two-forth (x ∷ y ∷ []) l h = words-forth (x ∷ y ∷ []) 1 l h
-two-forth (x ∷ y ∷ z ∷ b) l h = absurd (omega arith)
 
 signed-by : (u : ℕ) (t : Bool) → ltb u 2147483648 ≡ t → u < 2 ^ 32 → bits32 (signed32 u) ≡ u
 unfolding bits32

@@ -6,7 +6,8 @@ use mathlib.Core.List.{List}
 use mathlib.Core.Bool.{Bool, true, false, cond, _&&_}
 use lib.Dec.{leb}
 use lib.ListN.{take}
-use Rattle.events.specs.Event.{within, countMost, fits, countsWanted, countsFit, Meant, unfit, eventOf, meantOf}
+use Rattle.bits.specs.Numbers.{within}
+use Rattle.events.specs.Event.{countMost, fits, countsWanted, countsFit, Meant, unfit, eventOf, meantOf}
 use Rattle.events.specs.declared.Counts.{Counts}
 use Rattle.events.specs.Role.{roleOf}
 use Rattle.events.specs.declared.Role.the-variants.{Happens}
@@ -15,7 +16,7 @@ use Rattle.events.specs.declared.Event.the-variants.{Setup, Por, Boot, Scan, Te
 use Rattle.events.specs.declared.Event.the-variants.{Soak, Wires}
 use Rattle.ranges.specs.Refusal.{refusalOf}
 use Rattle.ranges.specs.CountedLaws.{fit-is}
-use Rattle.records.specs.Record.{standing}
+use Rattle.events.specs.Setup.{standing}
 use Rattle.writer.specs.Write.{valueRefusal, refusalFor}
 
 -- 1 for a part that is not 1 to 3, and what the event is refused with where that part stands

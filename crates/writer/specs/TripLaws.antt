@@ -12,7 +12,8 @@ use lib.Seq.{take-append-seam, length-take-le}
 use native.Mathlib.Nat.{zero-add}
 use borrow.Author.Tests.{le-ltb, ne-eqb, eq-eqb, leb-true, eqb-true}
 use Rattle.events.specs.Setup.{setupFits, setupOf, checkedOf}
-use Rattle.events.specs.Event.{within, countMost, ticksMost, soakMost, countsFit}
+use Rattle.bits.specs.Numbers.{within, bitOf, bits32, wordBytes}
+use Rattle.events.specs.Event.{countMost, ticksMost, soakMost, countsFit}
 use Rattle.events.specs.declared.Setup.{Setup as SetupValues}
 use Rattle.events.specs.declared.Counts.{Counts}
 use Rattle.events.specs.declared.Checked.the-variants.{Good}
@@ -21,7 +22,6 @@ use Rattle.events.specs.declared.Event.{Event}
 use Rattle.events.specs.declared.Event.the-variants.{Setup, Por, Boot, Scan, Temp, Count, Sense, Pin, Load, Xready, OnBus, Level, Ticks}
 use Rattle.events.specs.declared.Event.the-variants.{Soak, Wires}
 use Rattle.cell_counts.specs.Scan.{padded}
-use Rattle.records.specs.Numbers.{bitOf}
 use Rattle.records.specs.Record.{setupGood, checkedIn, setupIn, countedIn, ticksOf, soakOf, groupsAt, inputsAt, laterOf, payloadOf}
 use Rattle.records.specs.Record.{asRead, readOf, noCounts, countsOf, countsIn, countsBeside, takenFrom, takenAt}
 use Rattle.records.specs.CountedLaws.{many-is}
@@ -30,10 +30,11 @@ use Rattle.bits.specs.BoolLaws.{and-left, and-right}
 use Rattle.records.specs.declared.Payload.the-variants.{Whole}
 use Rattle.records.specs.declared.Read.the-variants.{Record}
 use Rattle.records.specs.declared.Taken.{Taken}
-use Rattle.writer.specs.Write.{bits32, wordBytes, recordOf, kindFor, payloadFor, countBytes, recordFor, valueRefusal, refusalFor}
+use Rattle.writer.specs.Write.{recordOf, kindFor, payloadFor, countBytes, recordFor, valueRefusal, refusalFor}
 use Rattle.writer.specs.Write.{writtenOf, Puts}
 use Rattle.writer.specs.declared.Wrote.the-variants.{Done, Refused}
-use Rattle.writer.specs.BytesLaws.{back16, back32, words-length, words-back, bit-same, sense-back, ticks-back}
+use Rattle.bits.specs.BytesLaws.{back16, back32, words-length, words-back, bit-same}
+use Rattle.writer.specs.BytesLaws.{sense-back, ticks-back}
 use Rattle.ranges.specs.CountedLaws.{fit-is}
 use Rattle.writer.specs.AcceptedLaws.{wanted-few, Accepted, accepted}
 

@@ -1,14 +1,14 @@
 -- CHIP R9 to R11: writing, with the numbers 1, 2, 3, 13 and 5. Assumes nothing.
 use mathlib.Core.Path.{_≡_}
-use Prim.Native.Nat.{ℕ, _-_, _/_, _%_}
+use Prim.Native.Nat.{ℕ, _/_, _%_}
 use mathlib.Core.List.{List, [], _∷_, _++_}
 use mathlib.Core.Bool.{cond, _&&_}
 use lib.ListN.{length, take, drop}
 use lib.Dec.{leb, eqb}
-use lib.IntN.{ℤ, pos, negsuc}
 use Rattle.constants.specs.Number.{DONE, «BAD_SETUP», «BAD_KIND», «BAD_VALUE», «NO_ROOM», «NO_ROW»}
 use Rattle.constants.specs.Range.{«PART_MOST»}
-use Rattle.events.specs.Event.{within, countMost, senseFits, ticksMost, soakMost, ticksFit, countsWanted, countsFit}
+use Rattle.bits.specs.Numbers.{within, bitOf, bytes16, bytes32, bits32, wordBytes}
+use Rattle.events.specs.Event.{countMost, senseFits, ticksMost, soakMost, ticksFit, countsWanted, countsFit}
 use Rattle.events.specs.declared.Setup.{Setup as SetupValues}
 use Rattle.events.specs.declared.Counts.{Counts}
 use Rattle.events.specs.declared.BusEvent.the-variants.{Start, Out, In, Stop}
@@ -21,26 +21,10 @@ use Rattle.events.specs.declared.Event.the-variants.{Soak, Wires}
 use Rattle.wiring.specs.Rows.{hasRow}
 use Rattle.records.specs.Kind.{SETUP, POR, BOOT, SCAN, TEMP, COUNT, SENSE, PIN, LOAD, XREADY, START, OUT, IN, STOP, LEVEL, TICKS, SOAK}
 use Rattle.records.specs.Kind.{WIRES}
-use Rattle.records.specs.Numbers.{bitOf}
-use Rattle.records.specs.Record.{setupGood, standing}
+use Rattle.records.specs.Record.{setupGood}
+use Rattle.events.specs.Setup.{standing}
 use Rattle.writer.specs.declared.Wrote.{Wrote}
 use Rattle.writer.specs.declared.Wrote.the-variants.{Done, Refused}
-
--- ── low byte first (CHIP R1) ──
-abbrev pub bytes16 : ℕ → List ℕ
-bytes16 n = n % 256 ∷ n / 256 ∷ []
-
-abbrev pub bytes32 : ℕ → List ℕ
-bytes32 u = u % 65536 % 256 ∷ u % 65536 / 256 ∷ u / 65536 % 256 ∷ u / 65536 / 256 ∷ []
-
--- the 32 bits of a number with its sign
-unfoldable pub bits32 : ℤ → ℕ
-bits32 (pos n) = n
-bits32 (negsuc n) = 4294967295 - n
-
-abbrev pub wordBytes : List ℕ → List ℕ
-wordBytes [] = []
-wordBytes (x ∷ xs) = x % 256 ∷ x / 256 ∷ wordBytes xs
 
 -- ── a record: the payload's length, its kind, the payload (CHIP R1) ──
 abbrev pub recordOf : ℕ → List ℕ → List ℕ

@@ -3,12 +3,15 @@ ghost use mathlib.Core.Path.{_≡_};
 ghost use Prim.Native.Nat.{_+_, _*_, _≤_};
 ghost use mathlib.Core.List.{[], _∷_, _++_};
 ghost use lib.ListN.{length, take};
-ghost use lib.Seq.{sets};
 ghost use Rattle.events.specs.declared.Event.the-variants.{Setup as SetupEvent, OnBus, Wires};
-ghost use Rattle.records.specs.Numbers.{bitOf};
-ghost use Rattle.records.specs.Record.{setupGood, standing, noCounts};
-ghost use Rattle.writer.specs.Write.{bits32, bytes16, bytes32, wordBytes, recordOf, recordFor, refusalFor, setupBytes, Writes, Puts};
+ghost use Rattle.bits.specs.Numbers.{bitOf, bytes16, bytes32, wordBytes};
+ghost use Rattle.records.specs.Record.{setupGood, noCounts};
+ghost use Rattle.events.specs.Setup.{standing};
+ghost use Rattle.writer.specs.Write.{recordOf, recordFor, refusalFor, setupBytes, Writes, Puts};
 ghost use Rattle.writer.specs.CheckedLaws.{refusalAt};
+use bits::bytes::bits_of;
+use bits::bytes::put_bytes;
+use bits::bytes::put_words;
 use constants::kind;
 use constants::number;
 use constants::range;
@@ -31,13 +34,6 @@ fn bit_of(t: bool) -> u8
     if t { 1 } else { 0 }
 }
 
-// The 32 bits of a number with its sign.
-fn bits_of(v: i32) -> u32
-    ensures { λ r. ⌜ r ≡ bits32 v ⌝ }
-{
-    ((v as i64 + 4294967296) as u64 % 4294967296) as u32
-}
-
 // Whether a SETUP's values are in range.
 fn setup_good(v: Setup) -> bool
     ensures { λ r. ⌜ r ≡ setupGood v ⌝ }
@@ -49,32 +45,6 @@ fn setup_good(v: Setup) -> bool
         & (v.gain_code <= range::GAIN_CODE_MOST)
         & (v.floor <= range::FLOOR_MOST)
         & (v.cells == 0)
-}
-
-// Bytes, at a place.
-fn put_bytes(out: &mut [u8], at: usize, bytes: &[u8])
-    requires { ⌜ at + length (now bytes) ≤ length (now out) ⌝ }
-    ensures { λ _. ⌜ now (out .exit) ≡ sets (now (out .entry)) at (now (bytes .entry)) ⌝ }
-{
-    let mut i = 0;
-    while i < bytes.len() {
-        out[at + i] = bytes[i];
-        i += 1;
-    }
-}
-
-// The bytes of numbers of 2 bytes, at the start of a buffer.
-fn put_words(out: &mut [u8], words: &[u16])
-    requires { ⌜ 2 * length (now words) ≤ length (now out) ⌝ }
-    ensures { λ _. ⌜ now (out .exit) ≡ sets (now (out .entry)) 0 (wordBytes (now (words .entry))) ⌝ }
-{
-    let mut i = 0;
-    while i < words.len() {
-        let word = words[i];
-        out[2 * i] = (word % 256) as u8;
-        out[2 * i + 1] = (word / 256) as u8;
-        i += 1;
-    }
 }
 
 // A record: its header, and its payload.
@@ -101,7 +71,7 @@ fn write_words(out: &mut [u8], kind: u16, words: &[u16]) -> Wrote
 {
     let n = 2 * words.len();
     let mut bytes = [0u8; size::PAYLOAD_MOST];
-    put_words(&mut bytes, words);
+    put_words(&mut bytes, 0, words);
     write_bytes(out, kind, &bytes[..n])
 }
 

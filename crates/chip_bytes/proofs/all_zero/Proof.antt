@@ -3,7 +3,7 @@ use mathlib.Core.Path.{_≡_, refl, sym, _∙_}
 use Prim.Native.Nat.{_≤_, _-_}
 use native.Mathlib.Omega.{arith}
 use lib.ListN.{length, drop}
-use Rattle.events.specs.Event.{within}
+use Rattle.bits.specs.Numbers.{within}
 use Rattle.chip_bytes.proofs.Tests.{zero-not, zero-next, zero-end}
 use Rattle.chip_bytes.proofs.all_zero.Statement.{statement}
 use Rattle.chip_bytes.proofs.all_zero.Tie as tie

@@ -3,7 +3,7 @@ use mathlib.Core.Path.{_≡_, refl, _∙_}
 use mathlib.Core.Bool.{_&&_}
 use Prim.Native.Nat.{_≤_, _-_}
 use native.Mathlib.Omega.{arith}
-use Rattle.events.specs.Event.{within}
+use Rattle.bits.specs.Numbers.{within}
 use Rattle.chip_bytes_layout.specs.Layout.{listed}
 use Rattle.chip_bytes.proofs.Tests.{switch-next, switch-end}
 use Rattle.chip_bytes.proofs.switches_good.Statement.{statement}

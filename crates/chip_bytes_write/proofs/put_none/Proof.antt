@@ -1,7 +1,7 @@
 -- Zeros put at the start.
 use mathlib.Core.Path.{refl}
 use lib.ListN.{replicate}
-use Rattle.chip_bytes_write.proofs.Stores.{put-whole}
+use Rattle.bits.proofs.Stores.{put-whole}
 use borrow.Author.Needs.{needs}
 use Rattle.chip_bytes_write.proofs.put_none.Statement.{statement}
 use Rattle.chip_bytes_write.proofs.put_none.Tie as tie

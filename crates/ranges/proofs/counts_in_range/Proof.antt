@@ -4,7 +4,8 @@ use Prim.Native.Nat.{_-_}
 use mathlib.Core.Path.{_≡_, refl, sym, _∙_}
 use native.Mathlib.Omega.{arith}
 use lib.ListN.{length, take, drop}
-use Rattle.events.specs.Event.{within, countMost}
+use Rattle.bits.specs.Numbers.{within}
+use Rattle.events.specs.Event.{countMost}
 use Rattle.ranges.proofs.Looks.{first-not, first-next, first-all, first-end}
 use Rattle.ranges.proofs.counts_in_range.Statement.{statement}
 use Rattle.ranges.proofs.counts_in_range.Tie as tie

@@ -4,7 +4,8 @@ use mir.Syntax.{w32}
 use mir.Val.{toZ, ofZ}
 use Prim.Native.Nat.{ℕ}
 use lib.ListN.{take}
-use Rattle.events.specs.Event.{within, countMost, senseFits, fits, ticksMost, soakMost, ticksFit}
+use Rattle.bits.specs.Numbers.{within}
+use Rattle.events.specs.Event.{countMost, senseFits, fits, ticksMost, soakMost, ticksFit}
 use Rattle.ranges.proofs.Looks.{at-event, pick-is, no-kind, no-value}
 use borrow.Author.Needs.{needs}
 use Rattle.ranges.proofs.value_refusal.Statement.{statement}

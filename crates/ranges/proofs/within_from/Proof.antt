@@ -4,7 +4,7 @@ use Prim.Native.Nat.{_-_}
 use mathlib.Core.Path.{_≡_, refl, ap, sym, _∙_}
 use native.Mathlib.Omega.{arith}
 use lib.ListN.{length, drop, drop-of-length-le}
-use Rattle.events.specs.Event.{within}
+use Rattle.bits.specs.Numbers.{within}
 use Rattle.ranges.proofs.Looks.{fit-not, fit-next}
 use Rattle.ranges.proofs.within_from.Statement.{statement}
 use Rattle.ranges.proofs.within_from.Tie as tie

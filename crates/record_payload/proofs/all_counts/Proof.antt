@@ -1,6 +1,7 @@
 -- `all_counts` looks at each value; the loop keeps what is left to look at (Meant).
 use Rattle.record_numbers.specs.Values.{natOf}
-use Rattle.events.specs.Event.{within, countMost}
+use Rattle.bits.specs.Numbers.{within}
+use Rattle.events.specs.Event.{countMost}
 use Prim.Native.Nat.{_≤_, _-_}
 use lib.ListN.{length, drop, drop-of-length-le}
 use lib.IntN.{ℤ}

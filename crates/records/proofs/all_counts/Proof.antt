@@ -3,8 +3,8 @@ use Prim.Native.Nat.{_≤_, _-_, _+_, _*_}
 use mathlib.Core.Path.{_≡_, refl, ap, sym, _∙_}
 use native.Mathlib.Omega.{arith}
 use lib.ListN.{drop}
-use Rattle.events.specs.Event.{within, countMost}
-use Rattle.records.specs.Numbers.{words}
+use Rattle.bits.specs.Numbers.{within, words}
+use Rattle.events.specs.Event.{countMost}
 use Rattle.records.specs.WordsLaws.{words-end, fit-not, fit-next}
 use Rattle.records.proofs.all_counts.Statement.{statement}
 use Rattle.records.proofs.all_counts.Tie as tie

@@ -1,5 +1,5 @@
 -- `word` is a number of two bytes, or 0 past the end, by its test.
-use Rattle.records.specs.Numbers.{wordOr}
+use Rattle.bits.specs.Numbers.{wordOr}
 use Rattle.records.proofs.Tests.{tests}
 use borrow.Author.Needs.{needs}
 use Rattle.records.proofs.word.Statement.{statement}

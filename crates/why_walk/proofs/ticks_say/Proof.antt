@@ -4,7 +4,7 @@ use mir.Syntax.{w32}
 use mir.Val.{toZ, ofZ}
 use Rattle.events.specs.Fault.{Scd, Ocd}
 use Rattle.limits.specs.Rule.{rule, beyond}
-use Rattle.writer.specs.Write.{bits32}
+use Rattle.bits.specs.Numbers.{bits32}
 use Rattle.why_walk.proofs.Cases.{ticks-scd, ticks-ocd, ticks-none}
 use borrow.Author.Needs.{needs}
 use Rattle.why_walk.proofs.ticks_say.Statement.{statement}

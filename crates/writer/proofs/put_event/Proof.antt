@@ -3,7 +3,8 @@ use mathlib.Core.Path.{_≡_}
 use mir.Syntax.{w32}
 use mir.Val.{toZ, ofZ}
 use Rattle.records.specs.Kind.{TICKS, SOAK}
-use Rattle.writer.specs.Write.{recordFor, bytes16, bytes32}
+use Rattle.writer.specs.Write.{recordFor}
+use Rattle.bits.specs.Numbers.{bytes16, bytes32}
 use Rattle.writer.proofs.Refusals.{at-record, at-bits, at-ticks, at-bit, at-bus}
 use borrow.Author.Needs.{needs}
 use Rattle.writer.proofs.put_event.Statement.{statement}

@@ -3,7 +3,7 @@ use mathlib.Core.Path.{ap}
 use mathlib.Core.List.{List, _∷_}
 use Prim.Native.Nat.{ℕ}
 use Rattle.events.specs.declared.Setup.{Setup}
-use Rattle.writer.specs.Write.{bytes16}
+use Rattle.bits.specs.Numbers.{bytes16}
 use Rattle.writer.proofs.Stores.{at-payload}
 use borrow.Author.Needs.{needs}
 use Rattle.writer.proofs.write_setup.Statement.{statement}

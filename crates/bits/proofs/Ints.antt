@@ -10,7 +10,7 @@ use mir.Syntax.{w32, w64}
 use mir.Val.{toZ, ofZ, SFits, Fits}
 use mir.Facts.{toZ-ofZ, sfits-widen}
 use borrow.Author.Tests.{le-ltb}
-use Rattle.writer.specs.Write.{bits32}
+use Rattle.bits.specs.Numbers.{bits32}
 
 -- 2 ^ 32 more than a number
 pub total : ℤ → ℕ

@@ -4,10 +4,10 @@ use mathlib.Core.Path.{_≡_, refl, ap, _∙_}
 use native.Mathlib.Omega.{arith}
 use lib.ListN.{length, getD, take, length-set}
 use lib.Seq.{sets, length-sets, take-all}
-use Rattle.writer.specs.Write.{wordBytes}
-use Rattle.chip_bytes_write.proofs.Stores.{words-next}
-use Rattle.chip_bytes_write.proofs.put_words.Statement.{statement}
-use Rattle.chip_bytes_write.proofs.put_words.Tie as tie
+use Rattle.bits.specs.Numbers.{wordBytes}
+use Rattle.bits.proofs.Stores.{words-next}
+use Rattle.bits.proofs.bytes.put_words.Statement.{statement}
+use Rattle.bits.proofs.bytes.put_words.Tie as tie
 
 abbrev Inv-loop : tie.InvT-loop
 Inv-loop out₀ at of i₀ out i = (i ≤ length of) × (length out ≡ length out₀) × (out ≡ sets out₀ at (wordBytes (take i of)))

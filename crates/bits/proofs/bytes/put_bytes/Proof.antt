@@ -4,9 +4,9 @@ use mathlib.Core.Path.{_≡_, refl, ap, _∙_}
 use native.Mathlib.Omega.{arith}
 use lib.ListN.{length, take}
 use lib.Seq.{sets, length-sets, take-all}
-use Rattle.chip_bytes_write.proofs.Stores.{bytes-next}
-use Rattle.chip_bytes_write.proofs.put_bytes.Statement.{statement}
-use Rattle.chip_bytes_write.proofs.put_bytes.Tie as tie
+use Rattle.bits.proofs.Stores.{bytes-next}
+use Rattle.bits.proofs.bytes.put_bytes.Statement.{statement}
+use Rattle.bits.proofs.bytes.put_bytes.Tie as tie
 
 abbrev Inv-loop : tie.InvT-loop
 Inv-loop out₀ at from i₀ out i = (i ≤ length from) × (length out ≡ length out₀) × (out ≡ sets out₀ at (take i from))

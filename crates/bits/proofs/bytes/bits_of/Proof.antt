@@ -1,8 +1,8 @@
 -- `bits_of` is the two's complement of a number in 32 bits (Ints).
-use Rattle.writer.proofs.Ints.{wide, sum-fits, sum-cast, sum-bits}
+use Rattle.bits.proofs.Ints.{wide, sum-fits, sum-cast, sum-bits}
 use borrow.Author.Needs.{needs}
-use Rattle.writer.proofs.bits_of.Statement.{statement}
-use Rattle.writer.proofs.bits_of.Tie as tie
+use Rattle.bits.proofs.bytes.bits_of.Statement.{statement}
+use Rattle.bits.proofs.bytes.bits_of.Tie as tie
 
 cast-result : tie.Need-cast-result
 cast-result c = wide (c .args .v) (c .fits .v)
