@@ -30,7 +30,7 @@ extern "C" {
 
 /* The version of this header, as text and as 10,000 x major + 100 x minor + patch. */
 #define TORALINGE_VERSION "1.2.3"
-#define TORALINGE_VERSION_NUMBER 10202
+#define TORALINGE_VERSION_NUMBER 10203
 
 /* The version of the library that is linked, as text: to be compared with TORALINGE_VERSION. */
 const char *toralinge_version(void);

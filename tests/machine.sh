@@ -193,12 +193,12 @@ in_memory() (
     "$@"
 )
 
-# How many checks rt is to start together: three for each processor. It waits for the slowest of them before it starts the next ones, so few leave processors
-# idle, and many at once take memory: each up to 2 GB, with what it lays down there.
+# How many checks rt is to start together: one more than there are processors. It waits for the slowest of them before it starts the next ones, so few leave
+# processors idle; many at once take the cache from each other (six on two processors 8 percent of it), and memory, up to 2 GB each.
 at_a_time() {
     local room jobs
     room=$(awk '/^MemAvailable:/ { print int($2 / 2200000) }' /proc/meminfo)
-    jobs=$((3 * $(nproc)))
+    jobs=$(($(nproc) + 1))
     ((jobs <= room)) || jobs=$room
     ((jobs >= 1)) || jobs=1
     echo "$jobs"

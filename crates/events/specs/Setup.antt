@@ -1,5 +1,5 @@
 -- CHIP S1, S4 and S5: the setup, and number 1. Assumes nothing.
-use mathlib.Core.Bool.{Bool, _&&_, cond}
+use mathlib.Core.Bool.{Bool, false, _&&_, cond}
 use Prim.Native.Nat.{ℕ, _*_}
 use lib.Dec.{eqb, leb, ltb}
 use Rattle.constants.specs.Range.{«PART_MOST», «ADDRESS_LEAST», «ADDRESS_MOST», «GAIN_CODE_MOST», «FLOOR_MOST»}

@@ -1,3 +1,2 @@
-pub mod Ints
 pub mod Refusals
 pub mod Stores
