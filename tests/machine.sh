@@ -134,8 +134,9 @@ told_library() {
     printf '%s: %s is %s (%s s), %d left\n' "$me" "$2" "$([[ " ${fell[*]-} " = *" $2 "* ]] && echo 'not built' || echo 'built')" "$3" "$to_build" >&2
 }
 
-# How many more lanes than processors there are side by side: some wait for files, a browser or a bus.
+# How many more lanes than processors there are side by side: some wait for files, a browser or a bus; and how many seconds pass between two looks at them.
 more_lanes=1
+pause=0.1
 
 # side_by_side FOLDER WORK TOLD NAME..: runs `WORK NAME` for each name, as many at once as there are processors and four at most, and `more_lanes`, each in a lane
 # with the number `lane`. What one says goes to FOLDER/NAME.log, its status and seconds to FOLDER/NAME.end. As they end, in the order of the names,
@@ -154,7 +155,7 @@ side_by_side() {
     fell=()
     for name in "$@"; do
         until [[ -e $folder/$name.end || -z $(jobs -pr) ]]; do
-            sleep 0.1
+            sleep "$pause"
         done
         status=1 seconds=0
         [[ ! -e $folder/$name.end ]] || read -r status seconds <"$folder/$name.end"
