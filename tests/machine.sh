@@ -195,7 +195,7 @@ in_memory() (
 )
 
 # How many checks rt is to start together: one more than there are processors. It waits for the slowest of them before it starts the next ones, so few leave
-# processors idle; many at once take the cache from each other (six on two processors 8 percent of it), and memory, up to 2 GB each.
+# processors idle; many at once take the cache from each other (six checks of `chip` on two processors took 8 percent more time each) and memory, up to 2 GB each.
 at_a_time() {
     local room jobs
     room=$(awk '/^MemAvailable:/ { print int($2 / 2200000) }' /proc/meminfo)
