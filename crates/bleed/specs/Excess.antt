@@ -5,23 +5,10 @@ use Rattle.std.proofs.Common.{arith, ltb-true}
 use Rattle.bits.specs.Bit.{bit}
 use Rattle.bleed.specs.declared.Choice.{Choice}
 use Rattle.bleed.specs.Choice.{chosen}
-use Rattle.bleed.specs.BestLaws.{left_of, right_of}
 
 -- the weight of an input in a number of fifteen bits, input 1 lowest
 abbrev pub weights : List ℕ
 weights = 1 ∷ 2 ∷ 4 ∷ 8 ∷ 16 ∷ 32 ∷ 64 ∷ 128 ∷ 256 ∷ 512 ∷ 1024 ∷ 2048 ∷ 4096 ∷ 8192 ∷ 16384 ∷ []
-
-pub weights_up : (i : ℕ) → i < 15 → 0 < get_or weights i 0
-weights_up i h = up weights i refl h
-  where
-    ups : List ℕ → Bool
-    ups [] = true
-    ups (w ∷ ws) = ltb 0 w && ups ws
-
-    up : (ws : List ℕ) (i : ℕ) → ups ws ≡ true → i < length ws → 0 < get_or ws i 0
-    up [] i e h = absurd (omega arith)
-    up (w ∷ ws) zero e h = ltb-true 0 w (left_of (ltb 0 w) (ups ws) e)
-    up (w ∷ ws) (suc i) e h = up ws i (right_of (ltb 0 w) (ups ws) e) (omega arith)
 
 -- an input is connected where its bit is up
 unfoldable pub linked_at : ℕ → ℕ → Bool

@@ -1,4 +1,2 @@
 pub mod Choice
-pub mod BestLaws
 pub mod Excess
-pub mod ReadingsLaws

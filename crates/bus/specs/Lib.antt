@@ -1,3 +1,2 @@
 pub mod Bus
-pub mod Laws
 pub mod LineLaws

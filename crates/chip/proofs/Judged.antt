@@ -24,7 +24,8 @@ use Rattle.chip.specs.declared.Heard.{Heard}
 use Rattle.chip.specs.declared.Stepped.{Stepped}
 use Rattle.chip.specs.Chip.{numbered, with_bus, with_registers, with_runs, settled, normally, ticking, ticked, watched}
 use Rattle.chip.specs.Parts.{raised_by, heard_of, landed, told, tick_parts, bus_parts}
-use Rattle.chip.specs.RepeatLaws.{ticked_by, first_tick, ticking_all}
+use Rattle.chip.specs.RepeatLaws.{ticked_by}
+use Rattle.chip.proofs.RepeatLaws.{first_tick, ticking_all}
 
 pub scan_done : {d : Chip} (c : Chip) (xs : List ℕ) (l : Looked) (j : Judged) (r : Registers)
     → l ≡ looked_at (rule Ov c.registers.settings).limit c.setup.floor (rule Uv c.registers.settings).limit xs

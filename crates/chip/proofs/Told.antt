@@ -13,7 +13,7 @@ use Rattle.bus.specs.declared.Phase.TheVariants.{Idle, Address, Pointing, Writin
 use Rattle.bus.specs.declared.Taken.{Taken}
 use Rattle.bus.specs.declared.Want.TheVariants.{Register, Nothing as NoRegister}
 use Rattle.bus.specs.Bus.{is_high, grown, keeps, in_owed, owing, taken, byte_given as given_of, gives, wanted, takes}
-use Rattle.bus.specs.Laws.{wants_nothing, wants_at}
+use Rattle.bus.proofs.Laws.{wants_nothing, wants_at}
 use Rattle.registers.specs.declared.Pair.{Pair}
 use Rattle.registers.specs.Read.{pair_at}
 use Rattle.registers.specs.Laws.{pair_low}

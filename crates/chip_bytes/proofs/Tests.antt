@@ -16,7 +16,7 @@ use Rattle.chip_bytes_layout.specs.declared.Kept.{Kept}
 use Rattle.chip_bytes_layout.specs.Layout.{listed, setup_at, setup_stands, level_stands, fresh_stands}
 use Rattle.chip_bytes_layout.specs.Layout.{switch_at, chip_at, formed, could_stand, none, keeps, no_chip, good_at, chip_in}
 use Rattle.chip_bytes_layout.specs.Layout.{kept_of, good_of, chip_of, fresh_of}
-use Rattle.chip_bytes_layout.specs.GoodLaws.{kept_as, good_keeps}
+use Rattle.chip_bytes_layout.proofs.GoodLaws.{kept_as, good_keeps}
 
 module _ (b : List ℕ) {t : Bool} (z : t ≡ within 0 b) where
   pub good_zero : t ≡ true → true ≡ good_at b

@@ -24,13 +24,13 @@ use Rattle.registers.specs.Judging.{ts_kept, ts_of, warmed, coulombs, pulled, un
 use Rattle.registers.specs.LevelLaws.{pulled_calm, unready_calm, coulombs_calm}
 use Rattle.chip.specs.declared.Chip.{Chip}
 use Rattle.chip.specs.Chip.{numbered, with_registers, normally}
-use Rattle.chip.specs.Calm.{Calmed}
+use Rattle.chip.proofs.Calm.{Calmed}
 use Rattle.chip_bytes_layout.specs.Place.{FRESH}
 use Rattle.chip_bytes_layout.specs.Layout.{listed, plain_of, switches_of, words_of, chip_bytes}
 use Rattle.chip_bytes_layout.specs.Layout.{switch_at, setup_at, status_at, shown_at, chip_at, good_of, chip_of}
 use Rattle.chip_bytes_layout.specs.ListedLaws.{listed_all}
 use Rattle.chip_bytes_layout.specs.Did.{Awake, chip_here, Did}
-use Rattle.chip_bytes_layout.specs.DidLaws.{calm, bytes_are, chip_is, did, shown_back}
+use Rattle.chip_bytes_layout.proofs.DidLaws.{calm, bytes_are, chip_is, did, shown_back}
 use Rattle.chip_bytes_done.specs.Seldom.{overridden_in, readied_in, counting_in, warmed_in, Moved, Seldom}
 
 -- ── over the bytes of any chip ──

@@ -18,13 +18,14 @@ use Rattle.chip.specs.declared.Chip.{Chip}
 use Rattle.chip.specs.declared.Stepped.{Stepped}
 use Rattle.chip.specs.Chip.{numbered, with_runs, settled, normally, asleep, happened, ticking, ticked}
 use Rattle.chip.specs.Parts.{raised_by, tick_parts, still_tick}
-use Rattle.chip.specs.RepeatLaws.{ticked_by, ticking_is}
+use Rattle.chip.specs.RepeatLaws.{ticked_by}
+use Rattle.chip.proofs.RepeatLaws.{ticking_is}
 use Rattle.chip_bytes_layout.specs.Place.{FRESH}
 use Rattle.chip_bytes_layout.specs.Layout.{plain_of, switches_of, words_of, chip_bytes, switch_at, settings_at, runs_at, shown_at, chip_at}
 use Rattle.chip_bytes_layout.specs.Layout.{good_of}
 use Rattle.chip_bytes_layout.specs.Layout.{chip_of}
 use Rattle.chip_bytes_layout.specs.Did.{Awake, chip_here, Came, Did}
-use Rattle.chip_bytes_layout.specs.DidLaws.{calm, bytes_are, came, did}
+use Rattle.chip_bytes_layout.proofs.DidLaws.{calm, bytes_are, came, did}
 use Rattle.chip_bytes_done.specs.Tick.{runs_in, raised_in, PutBy}
 
 moved : (c : Chip) (f : Bool) (r : Runs) (rest : List ℕ) → r.ov ≡ c.runs.ov → r.uv ≡ c.runs.uv

@@ -1,9 +1,4 @@
 pub mod Place
 pub mod Layout
 pub mod ListedLaws
-pub mod PhaseLaws
-pub mod TripLaws
-pub mod OneLaws
-pub mod GoodLaws
 pub mod Did
-pub mod DidLaws

@@ -10,7 +10,7 @@ use Rattle.constants.specs.Answer.{Said, gives, refuses}
 use Rattle.records.specs.Record.{read_of, number_of}
 use Rattle.chip.specs.declared.Chip.{Chip}
 use Rattle.bleed.specs.declared.Choice.{Choice}
-use Rattle.smart_battery.specs.Laws.{three_set}
+use Rattle.smart_battery.proofs.Laws.{three_set}
 use Rattle.smart_battery.specs.Reply.{Replied}
 use Rattle.smart_battery.specs.Words.{word_for}
 use Rattle.smart_battery.specs.declared.Pack.{Pack}

@@ -12,7 +12,7 @@ use Rattle.constants.specs.Answer.{Said, gives, refuses, number_said, value_said
 use Rattle.values.specs.declared.Reading.{Reading}
 use Rattle.registers.specs.Read.{read_at}
 use Rattle.wiring.specs.Rows.{pack_cells}
-use Rattle.wiring.specs.Numbered.{few_cells}
+use Rattle.wiring.proofs.Numbered.{few_cells}
 use Rattle.chip.specs.declared.Chip.{Chip}
 use Rattle.chip_voltage.specs.Voltage.{voltage_said, Reads, forecast_number}
 use Rattle.values_c.specs.Convert.{Gives}

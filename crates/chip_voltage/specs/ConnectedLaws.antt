@@ -8,7 +8,7 @@ use Rattle.std.proofs.Math.Dec.{leb-suc-suc}
 use Rattle.events.specs.Setup.{inputs}
 use Rattle.bits.specs.Bit.{bit}
 use Rattle.wiring.specs.Rows.{bits, connected, linked_bits}
-use Rattle.bleed.specs.BestLaws.{left_of, right_of}
+use Rattle.bleed.proofs.BestLaws.{left_of, right_of}
 use Rattle.bleed.specs.Excess.{weights, linked_at, may_bleed}
 use Rattle.chip.specs.declared.Chip.{Chip}
 use Rattle.chip_voltage.specs.Care.{cells_of, linked_of}

@@ -5,8 +5,9 @@ use Rattle.std.proofs.Math.Seq.{take-length}
 use Rattle.cell_counts.specs.Scan.{padded}
 use Rattle.events.specs.declared.Counts.{Counts}
 use Rattle.wiring.specs.Rows.{linked_inputs}
-use Rattle.wiring.specs.Linked.{few_linked}
-use Rattle.wiring.specs.Kept.{counts_of, padded_at, take-padded, picked_many}
+use Rattle.wiring.proofs.LinkedLaws.{few_linked}
+use Rattle.wiring.specs.Kept.{counts_of}
+use Rattle.wiring.proofs.Kept.{padded_at, take-padded, picked_many}
 use Rattle.values.specs.Values.{cell_microvolts}
 use Rattle.values.specs.Double.{IsDouble}
 use Rattle.values.specs.Forecast.{IsReading, fold, lesser, greater, voltages}

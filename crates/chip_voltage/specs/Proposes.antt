@@ -6,7 +6,7 @@ use Rattle.events.specs.Setup.{inputs}
 use Rattle.wiring.specs.Rows.{connected}
 use Rattle.bleed.specs.declared.Choice.{Choice}
 use Rattle.bleed.specs.Choice.{number}
-use Rattle.bleed.specs.ReadingsLaws.{no_bytes}
+use Rattle.bleed.proofs.ReadingsLaws.{no_bytes}
 use Rattle.chip.specs.declared.Chip.{Chip}
 use Rattle.chip_voltage.specs.Care.{cells_of}
 

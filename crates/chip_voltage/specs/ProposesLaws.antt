@@ -16,9 +16,9 @@ use Rattle.wiring.specs.Rows.{bits, connected, linked_bits}
 use Rattle.constants.specs.Answer.{Said, gives, refuses}
 use Rattle.bleed.specs.declared.Choice.{Choice}
 use Rattle.bleed.specs.Choice.{excess_in, near, low, may_in, chosen, allowed, total}
-use Rattle.bleed.specs.BestLaws.{Best as BleedBest, chosen_best, right_of}
+use Rattle.bleed.proofs.BestLaws.{Best as BleedBest, chosen_best, right_of}
 use Rattle.bleed.specs.Excess.{linked_at, lowest, may_bleed, excess_at, excesses_over, excesses, proposed}
-use Rattle.bleed.specs.ReadingsLaws.{Has, lowest_below_lem, lowest_is, none_zero}
+use Rattle.bleed.proofs.ReadingsLaws.{Has, lowest_below_lem, lowest_is, none_zero}
 use Rattle.chip.specs.declared.Chip.{Chip}
 use Rattle.chip_voltage.specs.Care.{cells_of, linked_of, proposal_said}
 use Rattle.chip_voltage.specs.ConnectedLaws.{linked_is, bled_is}

@@ -4,8 +4,8 @@ use Rattle.std.proofs.Common.{sym, ap, ◌∙◌, arith, le-leb, lt-ltb}
 use Rattle.std.proofs.lemmas.Bool.{lt-leb}
 use Rattle.events.specs.Setup.{inputs}
 use Rattle.wiring.specs.Rows.{pack_cells, input_of, connected, converts}
-use Rattle.wiring.specs.Numbered.{numbers}
-use Rattle.wiring.specs.Linked.{cell_converts}
+use Rattle.wiring.proofs.Numbered.{numbers}
+use Rattle.wiring.proofs.LinkedLaws.{cell_converts}
 use Rattle.registers.specs.Read.{cell_at}
 use Rattle.constants.specs.Answer.{Said, gives, refuses}
 use Rattle.values.specs.Values.{cell_microvolts}

@@ -1,3 +1,2 @@
 pub mod Crc
 pub mod Laws
-pub mod DivisionLaws

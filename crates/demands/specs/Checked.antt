@@ -4,7 +4,7 @@
 use Rattle.std.specs.Prelude.{◌≡◌, refl, Bool, true, false, cond, List, [], ◌∷◌, ℕ, ◌*◌, ◌<◌, eqb}
 use Rattle.std.proofs.Common.{sym, ap, ◌∙◌, arith, eq-eqb}
 use Rattle.crc8.specs.Crc.{crc, byte_on}
-use Rattle.crc8.specs.DivisionLaws.{crc_is}
+use Rattle.crc8.proofs.DivisionLaws.{crc_is}
 use Rattle.events.specs.declared.BusEvent.TheVariants.{Start, Out}
 use Rattle.events.specs.Event.{Event, OnBus, fits}
 use Rattle.bus.specs.declared.Line.{Line}
@@ -12,11 +12,11 @@ use Rattle.bus.specs.declared.Outed.{Outed}
 use Rattle.bus.specs.declared.Phase.{Phase}
 use Rattle.bus.specs.declared.Phase.TheVariants.{Idle, Address, Pointing, Writing, Checking}
 use Rattle.bus.specs.Bus.{addressed, fed, checked, line_of, outed, grown, goes, refuses, stores}
-use Rattle.bus.specs.Laws.{wrong_crc}
+use Rattle.bus.proofs.Laws.{wrong_crc}
 use Rattle.chip.specs.declared.Chip.{Chip}
 use Rattle.chip.specs.Chip.{answered, line_moved, stored_at, stored, sent, watched, settled, stepped, next}
-use Rattle.chip.specs.Calm.{Calmed, calm_watched, settles}
-use Rattle.chip.specs.MovesLaws.{normal_is}
+use Rattle.chip.proofs.Calm.{Calmed, calm_watched, settles}
+use Rattle.chip.proofs.MovesLaws.{normal_is}
 
 -- events as they come, oldest first
 abbrev pub ran : Chip → List Event → Chip

@@ -18,7 +18,7 @@ use Rattle.registers.specs.Write.{status_of, without, shown_with, cellbal_with}
 use Rattle.chip.specs.declared.Chip.{Chip}
 use Rattle.registers.specs.LevelLaws.{let_go}
 use Rattle.chip.specs.Chip.{with_registers, stored_at, stored, on_bus, watched, next}
-use Rattle.chip.specs.MovesLaws.{normal_is}
+use Rattle.chip.proofs.MovesLaws.{normal_is}
 
 abbrev pub either : Status → Status → Status
 either a b =

@@ -2,15 +2,15 @@
 use Rattle.std.specs.Prelude.{◌≡◌, refl, Bool, true, false, [], ◌∷◌, ℕ, ◌+◌, ◌*◌, ◌<◌}
 use Rattle.std.proofs.Common.{sym, ap, ◌∙◌, arith, eq-eqb, ne_eqb}
 use Rattle.crc8.specs.Crc.{crc, byte_on}
-use Rattle.crc8.specs.DivisionLaws.{crc_is}
+use Rattle.crc8.proofs.DivisionLaws.{crc_is}
 use Rattle.events.specs.declared.BusEvent.TheVariants.{Start, Out, In}
 use Rattle.events.specs.Event.{OnBus, fits}
 use Rattle.bus.specs.declared.Phase.TheVariants.{Address, Reading}
 use Rattle.bus.specs.Bus.{line_of, outed, addressed, taken, byte_given, owing, after_data, keeps, goes}
 use Rattle.chip.specs.declared.Chip.{Chip}
 use Rattle.chip.specs.Chip.{line_moved, reads, on_bus, watched, stepped, next}
-use Rattle.chip.specs.Calm.{Calmed}
-use Rattle.chip.specs.MovesLaws.{normal_is}
+use Rattle.chip.proofs.Calm.{Calmed}
+use Rattle.chip.proofs.MovesLaws.{normal_is}
 use Rattle.demands.specs.Checked.{ran, one_start, one_goes}
 
 -- the bus reads, and no low byte is kept

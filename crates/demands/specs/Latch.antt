@@ -22,7 +22,7 @@ use Rattle.protection.specs.Runs.{risen}
 use Rattle.chip.specs.declared.Chip.{Chip}
 use Rattle.chip.specs.Chip.{stored, on_bus, normally, next}
 use Rattle.chip.specs.Core.{Core, core_of}
-use Rattle.chip.specs.MovesLaws.{next_by, stored_by, asleep_by}
+use Rattle.chip.proofs.MovesLaws.{next_by, stored_by, asleep_by}
 use Rattle.demands.specs.Demand.{judges, wrote, clears, enables}
 use Rattle.demands.specs.Told.{says_one}
 

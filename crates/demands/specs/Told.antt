@@ -21,7 +21,7 @@ use Rattle.protection.specs.TablesLaws.{run_tells}
 use Rattle.chip.specs.declared.Chip.{Chip}
 use Rattle.chip.specs.Chip.{numbered, in_ship, on_bus, settled, normally, asleep, happened, stepped, next}
 use Rattle.chip.specs.Core.{core_of}
-use Rattle.chip.specs.MovesLaws.{normal_is, next_by, stored_by, asleep_by}
+use Rattle.chip.proofs.MovesLaws.{normal_is, next_by, stored_by, asleep_by}
 use Rattle.demands.specs.Demand.{judges}
 
 -- ── four values are those that they show ──

@@ -12,7 +12,7 @@ use mir.Val.{to_z}
 use mir.Facts.{to_z_pos}
 use borrow.Author.Tests.{ltb-true, ltb-false, lt-ltb, le-ltb, lt-leb, le-leb}
 use Rattle.chip.specs.declared.Chip.{Chip}
-use Rattle.chip.specs.Calm.{Calmed}
+use Rattle.chip.proofs.Calm.{Calmed}
 use Rattle.stream_run.specs.declared.Left.{Left}
 use Rattle.stream_run.specs.Stream.{Ran}
 use Rattle.turn.specs.Frames.{frames_from}
@@ -20,7 +20,7 @@ use Rattle.turn.specs.CountedLaws.{entries_from_count}
 use Rattle.turn.proofs.Runs.{entered_all}
 use Rattle.chip_bytes_layout.specs.declared.Kept.{Kept}
 use Rattle.chip_bytes_layout.specs.Layout.{no_chip, kept_at, kept_of, kept_in}
-use Rattle.chip_bytes_layout.specs.OneLaws.{kept_stood}
+use Rattle.chip_bytes_layout.proofs.OneLaws.{kept_stood}
 use Rattle.feed.specs.Fed.{entries_of, all_fit, answer_by, feeds_by, chip_after, entries_after, Fed}
 use Rattle.feed.specs.KeptLaws.{stood_calm}
 

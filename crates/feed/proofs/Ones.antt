@@ -33,18 +33,18 @@ use Rattle.registers.specs.declared.Shown.{Shown}
 use Rattle.chip.specs.declared.Chip.{Chip}
 use Rattle.chip.specs.declared.Stepped.{Stepped}
 use Rattle.chip.specs.Chip.{happened, ticked, happened_as, happened_by}
-use Rattle.chip.specs.Calm.{Calmed}
+use Rattle.chip.proofs.Calm.{Calmed}
 use Rattle.turn.specs.declared.Entry.{Entry}
 use Rattle.turn.specs.Turn.{Turn, acted, stays_fresh, turn, turn_of, entry_of}
 use Rattle.turn.specs.Entries.{runs, stands, stays, entries_from, chip_from, fresh_from, bytes_of}
 use Rattle.stream_run.proofs.Steps.{other_is, done_turn}
 use Rattle.chip_bytes_layout.specs.declared.Kept.{Kept}
 use Rattle.chip_bytes_layout.specs.Layout.{keeps, kept_of, good_of, chip_of, fresh_of, kept_in}
-use Rattle.chip_bytes_layout.specs.GoodLaws.{good_keeps}
+use Rattle.chip_bytes_layout.proofs.GoodLaws.{good_keeps}
 use Rattle.chip_bytes_layout.specs.declared.Done.{Done}
 use Rattle.chip_bytes_layout.specs.declared.Done.TheVariants.{Shows, Not}
 use Rattle.chip_bytes_layout.specs.Did.{says, CameBy, DidBy}
-use Rattle.chip_bytes_layout.specs.DidLaws.{part_of}
+use Rattle.chip_bytes_layout.proofs.DidLaws.{part_of}
 use Rattle.chip_bytes_done.specs.Seldom.{SeldomBy}
 use Rattle.feed.specs.Fed.{all_fit, answer_by, feeds_by, chip_after, entries_after, Fed}
 use Rattle.feed.specs.Alone.{done_bytes, One, OneBy, CountedBy, RecordBy, Signal, Alone, AloneBy}

@@ -16,7 +16,7 @@ use Rattle.stream_run.specs.Stream.{Played}
 use Rattle.turn.specs.Pieces.{joined, fed_entries, fed_chip, fed_fresh, WholePieces, fed_in_pieces, played_in_pieces}
 use Rattle.chip_bytes_layout.specs.declared.Kept.{Kept}
 use Rattle.chip_bytes_layout.specs.Layout.{keeps, no_chip, kept_at, kept_of, kept_bytes, kept_in}
-use Rattle.chip_bytes_layout.specs.OneLaws.{Stood, not_yet, trip, kept_length}
+use Rattle.chip_bytes_layout.proofs.OneLaws.{Stood, not_yet, trip, kept_length}
 use Rattle.feed.specs.Fed.{entries_of, all_fit, feed_answer, feeds, chip_after, entries_after, Fed}
 use Rattle.feed.specs.KeptLaws.{from_stands}
 

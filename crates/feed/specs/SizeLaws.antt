@@ -13,8 +13,8 @@ use Rattle.registers.specs.declared.Measured.{Measured}
 use Rattle.registers.specs.Judging.{cells_of, ts_of, cc_of}
 use Rattle.chip.specs.declared.Chip.{Chip}
 use Rattle.chip.specs.Chip.{numbered, in_ship, on_bus, watched, settled, normally, asleep, happened, next, ticking, stepped_as}
-use Rattle.chip.specs.MovesLaws.{next_by, asleep_by, stored_by}
-use Rattle.chip_bytes_layout.specs.TripLaws.{Sized}
+use Rattle.chip.proofs.MovesLaws.{next_by, asleep_by, stored_by}
+use Rattle.chip_bytes_layout.proofs.TripLaws.{Sized}
 
 padded-length : (k : ℕ) (xs : List ℕ) → length (padded k xs) ≡ k
 padded-length zero xs = refl

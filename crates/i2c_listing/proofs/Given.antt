@@ -12,7 +12,7 @@ use mir.Syntax.{w64}
 use mir.Val.{Fits, SFits, to_z, of_z}
 use mir.Facts.{to_z-of_z}
 use Rattle.i2c_lists.specs.Records.{Taken}
-use Rattle.i2c_lists.specs.AnswersLaws.{Answered, done, refused, answered}
+use Rattle.i2c_lists.proofs.AnswersLaws.{Answered, done, refused, answered}
 
 abbrev back : ℤ → ℤ
 back r = to_z w64 (of_z w64 r)

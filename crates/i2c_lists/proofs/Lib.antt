@@ -2,3 +2,6 @@ pub mod Tests
 pub mod Steps
 pub mod Writing
 pub mod Listing
+pub mod AnswersLaws
+pub mod WordingLaws
+pub mod NumberingLaws

@@ -20,8 +20,9 @@ use Rattle.i2c_words.specs.declared.Word.{Word}
 use Rattle.i2c_lists.specs.Reader.{word_length, words_in, words_at, list_in}
 use Rattle.i2c_lists.specs.CuttingLaws.{words_all, words_none}
 use Rattle.i2c_lists.specs.Records.{records_of, bytes_of, number_for, Taken}
-use Rattle.i2c_lists.specs.WordingLaws.{on_word, on_words, near_word, near_words}
-use Rattle.i2c_lists.specs.NumberingLaws.{Accepted, accepted}
+use Rattle.i2c_lists.specs.WordingLaws.{on_word, on_words, near_word}
+use Rattle.i2c_lists.proofs.WordingLaws.{near_words}
+use Rattle.i2c_lists.proofs.NumberingLaws.{Accepted, accepted}
 use Rattle.i2c_lists.specs.Putting.{Puts}
 use Rattle.i2c_lists.proofs.Steps.{turn, turn_within}
 use Rattle.i2c_lists.proofs.Writing.{Putting, putting_none, putting_room, putting_more, putting_end}

@@ -21,7 +21,8 @@ use Rattle.writer.specs.declared.Wrote.{Wrote}
 use Rattle.writer.specs.declared.Wrote.TheVariants.{Done, Refused}
 use Rattle.i2c_lists.specs.Records.{taken, records_of, near}
 use Rattle.i2c_words.specs.declared.Word.{Word}
-use Rattle.i2c_lists.specs.WordingLaws.{on_word, near_word, records_append}
+use Rattle.i2c_lists.specs.WordingLaws.{on_word, near_word}
+use Rattle.i2c_lists.proofs.WordingLaws.{records_append}
 use Rattle.i2c_lists.specs.Putting.{Puts}
 
 -- ── one record, by the writer, which refuses no bus event ──

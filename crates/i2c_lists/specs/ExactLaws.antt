@@ -3,7 +3,7 @@ use Rattle.std.specs.Prelude.{◌≡◌, refl, ℕ, zero, suc, List, [], ◌∷�
 use Rattle.std.proofs.Common.{ap, ap₂, sym, ◌∙◌, subst, append-nil, arith}
 use Rattle.i2c_words.specs.Grammar.{Spells}
 use Rattle.i2c_words.specs.Reader.{word_of}
-use Rattle.i2c_words.specs.ExactLaws.{Spelt, word_spelt, word_read}
+use Rattle.i2c_words.proofs.ExactLaws.{Spelt, word_spelt, word_read}
 use Rattle.i2c_words.specs.SpacesLaws.{word_clear}
 use Rattle.i2c_words.specs.declared.Word.{Word}
 use Rattle.i2c_words.specs.declared.Word.TheVariants.{Write, Read, Byte, Unknown}

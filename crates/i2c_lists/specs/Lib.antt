@@ -6,6 +6,4 @@ pub mod Putting
 pub mod CuttingLaws
 pub mod ExactLaws
 pub mod WordingLaws
-pub mod NumberingLaws
-pub mod AnswersLaws
 pub mod ExamplesLaws

@@ -1,2 +1,4 @@
 pub mod Tests
 pub mod Cases
+pub mod DigitsLaws
+pub mod ExactLaws

@@ -1,2 +1,4 @@
 pub mod Cases
 pub mod Loop
+pub mod NoRunsLaws
+pub mod SameLaws

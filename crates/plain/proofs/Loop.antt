@@ -17,7 +17,7 @@ use Rattle.stream_run.specs.declared.Left.{Left}
 use Rattle.turn.specs.Turn.{none, Turn, turn_of}
 use Rattle.turn.specs.Entries.{noted, entered, entries, entries_from}
 use Rattle.stream_run.specs.Stream.{Ran}
-use Rattle.chip.specs.Calm.{ship_calm}
+use Rattle.chip.proofs.Calm.{ship_calm}
 use Rattle.turn.specs.Frames.{frames_of}
 use Rattle.turn.specs.CountedLaws.{entries_count}
 use Rattle.turn.proofs.Runs.{rest_is, entered_all}
@@ -27,7 +27,7 @@ use Rattle.turn.specs.TurnedLaws.{as_turn}
 use Rattle.plain_back.specs.Said.{most}
 use Rattle.plain.specs.Plain.{plain_turn, plain_entries, Noted, PlainPlayed}
 use Rattle.plain.specs.AsideLaws.{unrun, forgetful}
-use Rattle.plain.specs.SameLaws.{plain_turn_lem, plain_entries_lem, Lent, lent_none, lent_runs, lent_next}
+use Rattle.plain.proofs.SameLaws.{plain_turn_lem, plain_entries_lem, Lent, lent_none, lent_runs, lent_next}
 
 -- the base engine's chip stands beside the one that is kept
 pub record Playing (s old out : List ℕ) (o : Bool) (chip : Chip) (at n : ℕ) : Type 0 where

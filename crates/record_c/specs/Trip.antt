@@ -28,7 +28,7 @@ use Rattle.records.specs.declared.Payload.{Payload}
 use Rattle.records.specs.declared.Payload.TheVariants.{Whole, Unfit}
 use Rattle.records.specs.declared.Read.TheVariants.{Record}
 use Rattle.writer.specs.Write.{kind_for, record_for, refusal_for}
-use Rattle.writer.specs.TripLaws.{stands_for, read_back, beside_back}
+use Rattle.writer.proofs.TripLaws.{stands_for, read_back, beside_back}
 use Rattle.record_numbers.specs.Values.{nat_of, value_at, nat_at, byte_of, word_of}
 use Rattle.record_payload.specs.Values.{setup_by, bare_by, counted_by, sense_by, repeat_by}
 use Rattle.record_event.specs.Values.{later_by, part_by, event_by, count_of, counts_at, counts_by}

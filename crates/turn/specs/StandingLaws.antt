@@ -27,7 +27,7 @@ use Rattle.records.specs.SoundLaws.{IsSetup, first_setup, Meaning, wires_by, lat
 use Rattle.chip.specs.declared.Chip.{Chip}
 use Rattle.chip.specs.declared.Stepped.{Stepped}
 use Rattle.chip.specs.Chip.{numbered, in_ship, stepped_by}
-use Rattle.chip.specs.RepeatLaws.{setup_as}
+use Rattle.chip.proofs.RepeatLaws.{setup_as}
 use Rattle.turn.specs.Turn.{Turn, none, entry_of, born_of, wired_as, acted, turned, turn_of}
 use Rattle.turn.specs.Entries.{runs, stands, entries, last_chip}
 

@@ -13,8 +13,8 @@ use Rattle.chip.specs.Chip.{stepped}
 use Rattle.chip.specs.Core.{Core, core_of}
 use Rattle.demands.specs.Demand.{judges, chip, up, Accepted, verdicts, delay, Due}
 use Rattle.demands.specs.Refused.{refused}
-use Rattle.demands.specs.History.{core_is, delay_is, rises}
-use Rattle.demands.specs.Theorem.{nothing_else_raises}
+use Rattle.demands.proofs.History.{core_is, delay_is, rises}
+use Rattle.demands.proofs.Theorem.{nothing_else_raises}
 
 module _ (u : Setup) (k : Fault) where
   -- ── one event ──

@@ -7,7 +7,7 @@ use Rattle.registers.specs.declared.Status.{Status}
 use Rattle.registers.specs.Read.{status_byte}
 use Rattle.registers.specs.Write.{holds_chg, holds_dsg}
 use Rattle.events.specs.Fault.{Ov, Uv, Scd, Ocd}
-use Rattle.demands.specs.BytesLaws.{status_bit}
+use Rattle.demands.proofs.BytesLaws.{status_bit}
 use Rattle.causes.specs.Hold.{held_by}
 
 one_is : (b : Bool) → eqb (weighed b 1) 1 ≡ b

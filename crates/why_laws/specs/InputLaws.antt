@@ -19,8 +19,8 @@ use Rattle.limits.specs.Rule.{rule, over, under, opinion}
 use Rattle.protection.specs.TablesLaws.{need_fair}
 use Rattle.chip.specs.Core.{bare}
 use Rattle.demands.specs.Demand.{of_cells, judges, core, standing, verdicts, delay}
-use Rattle.demands.specs.History.{verdicts_are}
-use Rattle.demands.specs.BytesLaws.{place}
+use Rattle.demands.proofs.History.{verdicts_are}
+use Rattle.demands.proofs.BytesLaws.{place}
 use Rattle.why_scan.specs.declared.Says.{Says}
 use Rattle.why_scan.specs.Scan.{is_outside, lowest, says_scan}
 use Rattle.why_walk.specs.Says.{scan_says}

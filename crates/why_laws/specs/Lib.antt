@@ -6,5 +6,4 @@ pub mod AlongLaws
 pub mod FirstLaws
 pub mod DueLaws
 pub mod InputLaws
-pub mod WhyLaws
 pub mod HeldLaws

@@ -7,7 +7,7 @@ use Rattle.chip.specs.declared.Chip.{Chip}
 use Rattle.turn.specs.declared.Entry.{Entry}
 use Rattle.turn.specs.Turn.{Turn, turn_of}
 use Rattle.turn.specs.Entries.{runs, entries}
-use Rattle.demands.specs.BytesLaws.{no_entry}
+use Rattle.demands.proofs.BytesLaws.{no_entry}
 use Rattle.why_walk.specs.declared.Standing.{Standing}
 use Rattle.why_walk.specs.Standing.{advanced, standing_at}
 

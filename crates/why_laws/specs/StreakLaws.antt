@@ -16,7 +16,7 @@ use Rattle.limits.specs.Rule.{rule, over, under, beyond}
 use Rattle.chip.specs.declared.Chip.{Chip}
 use Rattle.chip.specs.Chip.{stepped_by}
 use Rattle.chip.specs.Core.{core_of, bare}
-use Rattle.demands.specs.BytesLaws.{place}
+use Rattle.demands.proofs.BytesLaws.{place}
 use Rattle.demands.specs.Wired.{celled}
 use Rattle.plain_due.specs.declared.Streaks.{Streaks}
 use Rattle.plain_due.specs.Streaks.{streak_of, no_streaks}

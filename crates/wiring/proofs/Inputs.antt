@@ -13,8 +13,9 @@ use Rattle.events.specs.Setup.{inputs}
 use Rattle.events.specs.FewLaws.{few_inputs}
 use Rattle.cell_counts.specs.Scan.{padded}
 use Rattle.wiring.specs.Rows.{is_wired, upward, wired_inputs, pack_cells, input_of}
-use Rattle.wiring.specs.Numbered.{numbers}
-use Rattle.wiring.specs.Kept.{counts_of, picked, padded_at}
+use Rattle.wiring.proofs.Numbered.{numbers}
+use Rattle.wiring.specs.Kept.{counts_of, picked}
+use Rattle.wiring.proofs.Kept.{padded_at}
 use Rattle.wiring.proofs.Table.{every, every_is}
 
 abbrev pub ones : List ℕ

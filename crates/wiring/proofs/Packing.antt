@@ -11,7 +11,8 @@ use lib.Seq.{drop-cons}
 use borrow.Author.Tests.{eq-eqb, ne_eqb}
 use Rattle.events.specs.declared.Counts.{Counts}
 use Rattle.cell_counts.specs.Scan.{padded}
-use Rattle.wiring.specs.Kept.{kept, counts_of, set_next}
+use Rattle.wiring.specs.Kept.{kept, counts_of}
+use Rattle.wiring.proofs.Kept.{set_next}
 
 pub record Packing (mask : ℕ) (xs : List ℕ) (rest : ℕ) (out : List ℕ) (many i : ℕ) : Type 0 where
   pub done : List ℕ

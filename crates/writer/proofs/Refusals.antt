@@ -21,7 +21,8 @@ use Rattle.wiring.specs.Rows.{has_row}
 use Rattle.bits.specs.Numbers.{bit_of, bytes32, bits32}
 use Rattle.records.specs.Record.{setup_good, no_counts}
 use Rattle.writer.specs.Write.{record_of, record_for, value_refusal, refusal_for, Writes, Puts}
-use Rattle.writer.specs.CheckedLaws.{refusal_at, refusal_is}
+use Rattle.writer.specs.CheckedLaws.{refusal_at}
+use Rattle.writer.proofs.CheckedLaws.{refusal_is}
 use Rattle.writer.specs.declared.Wrote.{Wrote}
 use Rattle.writer.specs.declared.Wrote.TheVariants.{Refused}
 

@@ -8,7 +8,7 @@ use lib.Dec.{leb}
 use lib.ListN.{get_or}
 use borrow.Author.Rules.{rules}
 use borrow.Author.Tests.{leb-true}
-use Rattle.bleed.specs.BestLaws.{right_of}
+use Rattle.bleed.proofs.BestLaws.{right_of}
 use Rattle.bleed.specs.Excess.{linked_at, excess_at}
 use Rattle.bleed.proofs.excess_at.Statement.{statement}
 use Rattle.bleed.proofs.excess_at.Tie as tie

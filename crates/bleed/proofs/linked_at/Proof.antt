@@ -2,7 +2,8 @@
 use mathlib.Core.Path.{refl}
 use Prim.Native.Nat.{◌<◌}
 use borrow.Author.Rules.{rules}
-use Rattle.bleed.specs.Excess.{linked_at, weights_up}
+use Rattle.bleed.specs.Excess.{linked_at}
+use Rattle.bleed.proofs.Excess.{weights_up}
 use Rattle.bleed.proofs.linked_at.Statement.{statement}
 use Rattle.bleed.proofs.linked_at.Tie as tie
 

@@ -12,7 +12,7 @@ use lib.IntN.{ℤ}
 use native.Mathlib.Omega.{arith}
 use Prim.Native.Nat.{ℕ, ◌-◌, ◌≤◌}
 use Rattle.wiring.specs.Rows.{pack_cells, input_of, connected, converts}
-use Rattle.wiring.specs.Numbered.{numbers}
+use Rattle.wiring.proofs.Numbered.{numbers}
 use Rattle.chip.specs.declared.Chip.{Chip}
 use borrow.Author.Rules.{rules}
 use Rattle.chip_voltage.proofs.voltage.Statement.{statement}

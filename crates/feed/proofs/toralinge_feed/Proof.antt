@@ -6,7 +6,7 @@ use mathlib.Core.List.{List}
 use Prim.Native.Nat.{ℕ, ◌≤◌}
 use lib.ListN.{length}
 use Rattle.chip_bytes_layout.specs.Layout.{kept_of, good_of}
-use Rattle.chip_bytes_layout.specs.GoodLaws.{good_is}
+use Rattle.chip_bytes_layout.proofs.GoodLaws.{good_is}
 use Rattle.feed.proofs.Calls.{fed_short, fed_bad}
 use Rattle.feed.proofs.Ones.{fed_alone, undone, fed_as, up, down}
 use borrow.Author.Rules.{rules}

@@ -1,5 +1,5 @@
 -- `judge` is the number of what all the words leave, which is the list's (Numbering).
-use Rattle.i2c_lists.specs.NumberingLaws.{number_is}
+use Rattle.i2c_lists.proofs.NumberingLaws.{number_is}
 use Rattle.i2c_lists.specs.Judging.{number_in}
 use mathlib.Core.Path.{ap, ◌∙◌}
 use borrow.Author.Rules.{rules}

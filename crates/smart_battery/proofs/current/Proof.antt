@@ -2,7 +2,7 @@
 use mathlib.Core.Path.{sym}
 use Prim.Native.Nat.{◌<◌}
 use borrow.Author.Rules.{rules}
-use Rattle.smart_battery.specs.Laws.{charge_is, charge_far, draw_is, draw_far}
+use Rattle.smart_battery.proofs.Laws.{charge_is, charge_far, draw_is, draw_far}
 use Rattle.smart_battery.proofs.current.Statement.{statement}
 use Rattle.smart_battery.proofs.current.Tie as tie
 

@@ -7,7 +7,7 @@ use lib.ListN.{length, length-set, set}
 use borrow.Author.Rules.{rules}
 use borrow.Author.Tests.{lt-ltb, le-ltb}
 use Rattle.constants.specs.Answer.{gives}
-use Rattle.smart_battery.specs.Laws.{three_set}
+use Rattle.smart_battery.proofs.Laws.{three_set}
 use Rattle.smart_battery.specs.Reply.{Replied, pec_of}
 use Rattle.smart_battery.proofs.put_reply.Statement.{statement}
 use Rattle.smart_battery.proofs.put_reply.Tie as tie

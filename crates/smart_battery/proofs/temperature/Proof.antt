@@ -1,7 +1,7 @@
 -- By the laws of the word.
 use mathlib.Core.Path.{sym}
 use borrow.Author.Rules.{rules}
-use Rattle.smart_battery.specs.Laws.{warm_is, cold_is}
+use Rattle.smart_battery.proofs.Laws.{warm_is, cold_is}
 use Rattle.smart_battery.proofs.temperature.Statement.{statement}
 use Rattle.smart_battery.proofs.temperature.Tie as tie
 

@@ -2,7 +2,7 @@
 use mathlib.Core.Path.{sym, ap, ◌∙◌}
 use lib.ListN.{take}
 use Rattle.events.specs.Setup.{groups}
-use Rattle.chip.specs.Calm.{settles}
+use Rattle.chip.proofs.Calm.{settles}
 use Rattle.chip.specs.Chip.{numbered, normally}
 use borrow.Author.Tests.{not-true, not-false}
 use Rattle.events.specs.Event.{Temp}

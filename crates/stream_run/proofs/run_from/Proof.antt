@@ -21,7 +21,7 @@ use Rattle.chip.specs.declared.Chip.{Chip}
 use Rattle.chip.specs.declared.Stepped.{Stepped}
 use Rattle.chip.specs.Chip.{numbered, with_bus, with_runs, happened_by}
 use Rattle.chip.specs.Parts.{landed}
-use Rattle.chip.specs.Calm.{Calmed, calm_bus}
+use Rattle.chip.proofs.Calm.{Calmed, calm_bus}
 use Rattle.stream_run.specs.Often.{often, work_of, Sorted, sorted}
 use Rattle.turn.specs.Turn.{Turn, turn_of, acted, stays_fresh, turn, entry_of}
 use Rattle.turn.specs.Passed.{passed}

@@ -4,7 +4,8 @@ use mathlib.Core.Path.{◌≡◌}
 use Prim.Native.Nat.{◌+◌, ◌-◌, ◌≤◌}
 use native.Mathlib.Omega.{arith}
 use Rattle.wiring.specs.Rows.{bits}
-use Rattle.wiring.specs.Linked.{above_floor, few_bits}
+use Rattle.wiring.specs.Linked.{above_floor}
+use Rattle.wiring.proofs.LinkedLaws.{few_bits}
 use Rattle.wiring.proofs.Downward.{begins, more, ends}
 use Rattle.wiring.proofs.above.Statement.{statement}
 use Rattle.wiring.proofs.above.Tie as tie

@@ -1,7 +1,7 @@
 -- `cells` is the row's number, or all inputs (Numbered).
 use borrow.Author.Rules.{rules}
 use mathlib.Core.Path.{sym, ◌∙◌}
-use Rattle.wiring.specs.Numbered.{numbering, all_cells}
+use Rattle.wiring.proofs.Numbered.{numbering, all_cells}
 use Rattle.wiring.proofs.cells.Statement.{statement}
 use Rattle.wiring.proofs.cells.Tie as tie
 

@@ -9,7 +9,7 @@ use lib.ListN.{get_or}
 use Rattle.events.specs.declared.Setup.{Setup}
 use Rattle.events.specs.declared.Counts.{Counts}
 use Rattle.wiring.specs.Rows.{pack_cells, input_of, wired_inputs}
-use Rattle.wiring.specs.Numbered.{few_cells}
+use Rattle.wiring.proofs.Numbered.{few_cells}
 use Rattle.wiring.specs.Kept.{counts_of}
 use Rattle.wiring.proofs.Inputs.{packed_is, no_cell, a_cell, at_place, small}
 use Rattle.wiring.proofs.input_of.Statement.{statement}

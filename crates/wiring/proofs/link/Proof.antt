@@ -4,7 +4,7 @@ use mathlib.Core.Path.{◌≡◌, ap, ◌∙◌}
 use Prim.Native.Nat.{ℕ}
 use lib.ListN.{length}
 use Rattle.wiring.specs.Kept.{kept, counts_of}
-use Rattle.wiring.specs.Linked.{kept_linked}
+use Rattle.wiring.proofs.LinkedLaws.{kept_linked}
 use Rattle.wiring.proofs.link.Statement.{statement}
 use Rattle.wiring.proofs.link.Tie as tie
 

@@ -5,7 +5,8 @@ use mathlib.Core.Path.{ap, sym, ◌∙◌}
 use Prim.Native.Nat.{ℕ}
 use Rattle.events.specs.FewLaws.{few_inputs}
 use Rattle.wiring.specs.Rows.{bits}
-use Rattle.wiring.specs.Linked.{above_floor, linked_row, linked_none}
+use Rattle.wiring.specs.Linked.{above_floor}
+use Rattle.wiring.proofs.LinkedLaws.{linked_row, linked_none}
 use Rattle.wiring.proofs.linked.Statement.{statement}
 use Rattle.wiring.proofs.linked.Tie as tie
 

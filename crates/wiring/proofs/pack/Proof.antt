@@ -3,7 +3,8 @@ use borrow.Author.Rules.{rules}
 use mathlib.Core.Path.{◌≡◌, ap, ◌∙◌}
 use Prim.Native.Nat.{ℕ}
 use lib.ListN.{length}
-use Rattle.wiring.specs.Kept.{kept, counts_of, kept_wired}
+use Rattle.wiring.specs.Kept.{kept, counts_of}
+use Rattle.wiring.proofs.Kept.{kept_wired}
 use Rattle.wiring.proofs.pack.Statement.{statement}
 use Rattle.wiring.proofs.pack.Tie as tie
 

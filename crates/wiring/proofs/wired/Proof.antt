@@ -4,7 +4,7 @@ use native.Mathlib.Omega.{arith}
 use mathlib.Core.Path.{ap, ◌∙◌}
 use Prim.Native.Nat.{ℕ}
 use lib.ListN.{get_or}
-use Rattle.wiring.specs.Numbered.{few_cells}
+use Rattle.wiring.proofs.Numbered.{few_cells}
 use Rattle.wiring.proofs.Table.{table, table_bits}
 use Rattle.wiring.proofs.wired.Statement.{statement}
 use Rattle.wiring.proofs.wired.Tie as tie

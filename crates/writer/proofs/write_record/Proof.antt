@@ -1,7 +1,7 @@
 -- `write_record` refuses as `refusal` says and writes nothing then, or writes the event's record.
 use mathlib.Core.Path.{sym, ◌∙◌}
 use Rattle.writer.specs.Write.{refusal_for, record_for}
-use Rattle.writer.specs.AcceptedLaws.{accepted_few}
+use Rattle.writer.proofs.AcceptedLaws.{accepted_few}
 use Rattle.writer.proofs.Refusals.{refused_puts, taken_puts}
 use borrow.Author.Rules.{rules}
 use Rattle.writer.proofs.write_record.Statement.{statement}

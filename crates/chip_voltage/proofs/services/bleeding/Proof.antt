@@ -9,7 +9,7 @@ use borrow.Author.Tests.{eq-eqb, ne_eqb, leb-true}
 use native.Mathlib.Omega.{arith}
 use mir.Syntax.{w16}
 use mir.Val.{Fits}
-use Rattle.bleed.specs.BestLaws.{right_of}
+use Rattle.bleed.proofs.BestLaws.{right_of}
 use Rattle.constants.specs.Answer.{Said, gives, refuses}
 use Rattle.bleed.specs.declared.Choice.{Choice}
 use Rattle.bleed.specs.Excess.{proposed}

@@ -8,8 +8,9 @@ use Rattle.events.specs.declared.Counts.{Counts}
 use Rattle.cell_counts.specs.declared.Looked.{Looked}
 use Rattle.cell_counts.specs.Scan.{total, looked_at}
 use Rattle.wiring.specs.Rows.{linked_inputs}
-use Rattle.wiring.specs.Kept.{counts_of, take-padded, picked_many}
-use Rattle.wiring.specs.Linked.{few_linked}
+use Rattle.wiring.specs.Kept.{counts_of}
+use Rattle.wiring.proofs.Kept.{take-padded, picked_many}
+use Rattle.wiring.proofs.LinkedLaws.{few_linked}
 use Rattle.chip.specs.declared.Chip.{Chip}
 use Rattle.chip_voltage.specs.Voltage.{linked_counts}
 use Rattle.values.specs.Values.{microvolts_by}

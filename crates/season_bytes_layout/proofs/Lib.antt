@@ -1,0 +1,2 @@
+pub mod TripLaws
+pub mod OwnLaws
