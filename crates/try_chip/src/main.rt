@@ -1,8 +1,14 @@
 // A chip stepped from Rattle, by events made by hand, most of which no record can hold: asleep, then awake. A line for each: its number, SYS_STAT and the
 // pins. They are held to tests/vectors/by_hand.
+#![tactic(auto)]
+
+ghost use Rattle.std.specs.Prelude.{◌≡◌, IfOk, OnOk};
+ghost use Rattle.std.specs.Io.KnownBytes.{Appends};
+ghost use Rattle.try_chip.specs.Line.{line_of};
+
 use chip::{Chip, Stepped};
 use events::{Counts, Event, Setup};
-use libc::STDOUT_FILENO;
+use std::io::{self, Write};
 
 fn set_up() -> Setup {
     Setup {
@@ -58,20 +64,23 @@ fn counts_of(k: usize) -> Counts {
     Counts { many: MANY[at], of }
 }
 
-fn show(s: Stepped) -> Chip {
-    let chip = s.chip;
-    io::print_decimal(STDOUT_FILENO, s.number as u64);
-    io::write_all(STDOUT_FILENO, b" ");
-    io::print_hex(STDOUT_FILENO, chip.status() as u64, 2);
-    io::write_all(STDOUT_FILENO, b" ");
-    io::print_decimal(STDOUT_FILENO, chip.pins() as u64);
-    io::write_all(STDOUT_FILENO, b"\n");
-    chip
+// The line of a step, and its chip.
+fn show<W: Write>(out: &mut W, stepped: Stepped) -> io::Result<Chip>
+    ensures text { OnOk result (Appends (W.contents out.old) (W.contents out.new) (line_of stepped)) }
+    ensures chip { IfOk result (λ c. c ≡ stepped.chip) }
+{
+    let chip = stepped.chip;
+    let number = stepped.number;
+    let status = chip.status();
+    let pins = chip.pins();
+    writeln!(out, "{number} {status:02x} {pins}")?;
+    Ok(chip)
 }
 
-fn main() {
+fn main(rt: HostRuntime) -> io::Result<()> {
     let mut chip = chip::in_ship(set_up());
     for k in 0..38usize {
-        chip = show(chip.step(event_of(k % 19), counts_of(k)));
+        chip = show(&mut rt.stdout(), chip.step(event_of(k % 19), counts_of(k)))?;
     }
+    Ok(())
 }
