@@ -1,4 +1,6 @@
 // A bit of a byte by its weight, and what a bit adds to its byte; in `bytes` numbers as bytes.
+#![tactic(auto)]
+
 ghost use Rattle.std.specs.Prelude.{◌≡◌, ◌≤◌};
 ghost use Rattle.bits.specs.Bit.{bit, weighed};
 

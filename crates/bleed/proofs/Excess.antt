@@ -8,7 +8,6 @@ use Rattle.bleed.specs.Choice.{chosen}
 use Rattle.bleed.proofs.BestLaws.{left_of, right_of}
 use Rattle.bleed.specs.Excess.{weights}
 
-
 pub weights_up : (i : ℕ) → i < 15 → 0 < get_or weights i 0
 weights_up i h = up weights i refl h
   where

@@ -1,4 +1,6 @@
 // Which cells to bleed: the CELLBAL bytes with the largest total excess over the lowest cell, no two neighbours of a group together.
+#![tactic(auto)]
+
 ghost use Rattle.std.specs.Prelude.{◌≡◌, ◌+◌, ◌≤◌, ◌<◌};
 ghost use Rattle.bits.specs.Bit.{bit, weighed};
 ghost use Rattle.bleed.specs.Excess.{linked_at, lower_at, lowest, excess_at, excesses_over, proposed};

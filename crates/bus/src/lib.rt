@@ -1,4 +1,6 @@
 // The bus as a value: what START, OUT, IN and STOP do to it. It knows no register.
+#![tactic(auto)]
+
 ghost use Rattle.std.specs.Prelude.{◌≡◌};
 ghost use Rattle.bus.specs.Bus.{line_of, idle_bus, grown, goes, refuses, stores, is_high, started, stopped, addressed, fed, checked, outed, after_data, after_sum, next_byte, keeps, wanted, takes, gives};
 

@@ -1,4 +1,6 @@
 // CHIP P17 and P18: what raised a bit of SYS_STAT, by its weight, with the delay and limit that are set; which bits hold a drive off. Nothing of a stream.
+#![tactic(auto)]
+
 ghost use Rattle.std.specs.Prelude.{◌≡◌, ◌≤◌};
 ghost use Rattle.causes.specs.Cause.{is_judged, cause_of, need_of, limit_of, known_bit};
 ghost use Rattle.causes.specs.Hold.{held_bit, held_by, is_drive};

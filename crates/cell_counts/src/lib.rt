@@ -1,4 +1,6 @@
 // One look over the counts of a scan.
+#![tactic(auto)]
+
 ghost use Rattle.std.specs.Prelude.{◌≡◌, ◌&&◌, leb, ltb, take, get_or, ◌<◌, min};
 ghost use Rattle.cell_counts.specs.Scan.{looked_at, padded, ts_places};
 

@@ -23,7 +23,6 @@ use Rattle.chip.specs.Parts.{raised_by, tick_parts}
 use Rattle.chip.proofs.Calm.{Calmed, calm_next, calm_tick}
 use Rattle.chip.specs.RepeatLaws.{ticked_by}
 
-
 -- ── one tick, by the mode ──
 tick_awake : (v : ℤ) (c : Chip) → c.normal ≡ true → happened (Sense v) c ≡ settled (normally (Sense v) c)
 unfolding happened

@@ -1,4 +1,6 @@
 // The chip by value: setup, mode, bus, registers and runs. Each event is a method that takes it and returns the next chip and its answer.
+#![tactic(auto)]
+
 ghost use Rattle.std.specs.Prelude.{◌≡◌, take};
 ghost use Rattle.events.specs.Setup.{groups, inputs};
 ghost use Rattle.events.specs.Event.{event_of, ticks, ticks_most, soak_most, Por, Boot, Pin, Xready, Scan, Temp, Count, Sense, Load, OnBus, Level};

@@ -1,4 +1,6 @@
 // The kept chip: whether bytes are one, and the chip that they have.
+#![tactic(auto)]
+
 ghost use Rattle.std.specs.Prelude.{◌≡◌, length};
 ghost use Rattle.bits.specs.Numbers.{within};
 ghost use Rattle.constants.specs.Size.{KEPT_CHIP};

@@ -1,4 +1,6 @@
 // START, OUT, IN and STOP done in the bytes of a kept chip.
+#![tactic(auto)]
+
 ghost use Rattle.std.specs.Prelude.{◌≡◌, ◌≤◌, length};
 ghost use Rattle.events.specs.Event.{OnBus};
 ghost use Rattle.bus.specs.Bus.{wanted};

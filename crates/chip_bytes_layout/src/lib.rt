@@ -1,4 +1,6 @@
 // The kept chip: how a chip, and whether a wiring record is still taken, stand in 96 bytes.
+#![tactic(auto)]
+
 ghost use Rattle.std.specs.Prelude.{◌≡◌, length};
 ghost use Rattle.bits.specs.BytesLaws.{Bytes};
 ghost use Rattle.constants.specs.Size.{KEPT_CHIP};

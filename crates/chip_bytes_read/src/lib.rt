@@ -1,4 +1,6 @@
 // The parts of a chip from its bytes.
+#![tactic(auto)]
+
 ghost use Rattle.std.specs.Prelude.{◌≡◌, ◌<◌, length};
 ghost use Rattle.constants.specs.Size.{KEPT_CHIP};
 ghost use Rattle.chip_bytes_layout.specs.Place.{NUMBERS};

@@ -1,4 +1,6 @@
 // The bytes of a chip.
+#![tactic(auto)]
+
 ghost use Rattle.std.specs.Prelude.{◌≡◌, ◌++◌, ◌+◌, ◌≤◌, length, drop, replicate};
 ghost use Rattle.constants.specs.Size.{KEPT_CHIP};
 ghost use Rattle.chip_bytes_layout.specs.Layout.{tag_of, first_of, second_of, plain_of, switches_of, words_of, chip_bytes, kept_in};

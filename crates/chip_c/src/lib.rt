@@ -1,5 +1,7 @@
 // A chip that is kept as bytes, for C: what its registers hold, its voltages, and what forecasting, workshops and chargers ask. What these two ask of the chip that a
 // stream leaves stands in `left`.
+#![tactic(auto)]
+
 ghost use Rattle.std.specs.Prelude.{◌≡◌};
 ghost use Rattle.chip_bytes_layout.specs.Layout.{kept_of};
 ghost use Rattle.constants.specs.Answer.{number_said};

@@ -1,4 +1,6 @@
 // What leaves the chip as a voltage, with the offset added once: a cell, forecasting's reading; in `services` what workshops and chargers ask, in `row` the row of a scan.
+#![tactic(auto)]
+
 ghost use Rattle.std.specs.Prelude.{◌≡◌};
 ghost use Rattle.wiring.specs.Rows.{linked_bits};
 ghost use Rattle.chip_voltage.specs.Voltage.{said_cell, voltage_said, Forecasts};

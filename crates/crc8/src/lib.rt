@@ -1,4 +1,6 @@
 // CRC-8 with x^8 + x^2 + x + 1: start 0, high bit first, nothing inverted.
+#![tactic(auto)]
+
 ghost use Rattle.std.specs.Prelude.{◌≡◌, ◌<◌};
 ghost use Rattle.crc8.specs.Crc.{by_seven, turns, byte_on, crc_on};
 

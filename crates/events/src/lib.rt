@@ -1,4 +1,6 @@
 // What the chip is set up with, and what can happen to it.
+#![tactic(auto)]
+
 ghost use Rattle.std.specs.Prelude.{◌≡◌};
 ghost use Rattle.constants.specs.Range.{PART_MOST, ADDRESS_LEAST, ADDRESS_MOST};
 ghost use Rattle.events.specs.Event.{beside_of};

@@ -1,4 +1,6 @@
 // Records fed to a chip that the caller keeps as bytes.
+#![tactic(auto)]
+
 ghost use Rattle.std.specs.Prelude.{◌≡◌, true, ◌*◌, ◌≤◌, ltb, length};
 ghost use Rattle.constants.specs.Size.{ENTRY, KEPT_CHIP};
 ghost use Rattle.chip_bytes_layout.specs.Layout.{good_of};

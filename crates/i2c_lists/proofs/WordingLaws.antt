@@ -13,7 +13,6 @@ use Rattle.i2c_lists.specs.Records.{to_write, to_read, out_of, taken, events_of,
 use Rattle.i2c_lists.specs.Judging.{size_of}
 use Rattle.i2c_lists.specs.WordingLaws.{on_word, on_words, near_word}
 
-
 abbrev pub near_words : List Word → Bool
 near_words [] = true
 near_words (x ∷ xs) = near_word x && near_words xs

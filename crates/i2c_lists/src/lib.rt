@@ -1,4 +1,6 @@
 // Command lists of `i2ctransfer`, turned into records: judged whole, then written.
+#![tactic(auto)]
+
 ghost use Rattle.std.specs.Prelude.{◌≡◌, ◌+◌, ◌-◌, ◌≤◌, ◌<◌, ◌^◌, not, true, [], ◌∷◌, ◌++◌, length, drop};
 ghost use Rattle.events.specs.declared.BusEvent.TheVariants.{Start, Out, Stop};
 ghost use Rattle.i2c_lists.specs.Reader.{word_length, words_at, list_in};

@@ -1,4 +1,6 @@
 // The words of a command list: a message to write or to read, or a byte.
+#![tactic(auto)]
+
 ghost use Rattle.std.specs.Prelude.{◌≡◌, ◌<◌};
 ghost use Rattle.i2c_words.specs.Reader.{hex_of, digit_of, pair_of, digits_of, value_of, one_of, joined_of, two_of, message_for, message_of, word_by, word_of};
 

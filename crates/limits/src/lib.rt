@@ -1,4 +1,6 @@
 // Limits and delays by register code, and the verdict of a tick.
+#![tactic(auto)]
+
 ghost use Rattle.std.specs.Prelude.{◌≡◌, ◌%◌, ◌<◌, get_or};
 ghost use Rattle.events.specs.Fault.{Ov, Uv, Scd, Ocd};
 ghost use Rattle.bits.specs.Bit.{bit};

@@ -6,6 +6,8 @@
 // (records); thresholds and delays by their codes, and which count or value is beyond one (limits, cell_counts); where counts are stored, what a bit
 // that rises puts off, and the outside level (registers); every record that is no scan and no tick, in the look back too (turn, chip); an entry's
 // bytes (turn), and how many entries there are (stream).
+#![tactic(auto)]
+
 ghost use Rattle.std.specs.Prelude.{◌≡◌, ◌≤◌, length, take};
 ghost use Rattle.events.specs.Setup.{inputs};
 ghost use Rattle.turn.specs.TurnedLaws.{as_turn};

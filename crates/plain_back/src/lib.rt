@@ -1,6 +1,8 @@
 // CHIP P11: what the records lent so far say of the four faults, found by walking them from the first on. Nothing is kept between two
 // calls. Each scan or tick says yes or no by the settings that stand when it comes; what moves these, and the mode, is any other record, which
 // is done as the base engine does it, by `chip`.
+#![tactic(auto)]
+
 ghost use Rattle.std.specs.Prelude.{◌≡◌, cond, ◌≤◌, ◌^◌, length, take};
 ghost use Rattle.events.specs.Setup.{inputs};
 ghost use Rattle.chip.specs.Core.{core_of, bare};

@@ -1,5 +1,7 @@
 // CHIP P11: the decision of the plain engine. It keeps no runs: the bit of a fault is due where a scan or ticks say yes, and they and those in a row
 // before them that said yes are as many as the delay asks for (CHIP J9, J10, H1 and H2).
+#![tactic(auto)]
+
 ghost use Rattle.std.specs.Prelude.{◌≡◌};
 ghost use Rattle.plain_due.specs.Streaks.{no_streaks};
 ghost use Rattle.plain_due.specs.Decision.{due, scan_due, ticks_due};

@@ -1,4 +1,6 @@
 // The line that `play` prints for a record, put into a lent buffer as far as it reaches.
+#![tactic(auto)]
+
 ghost use Rattle.std.specs.Prelude.{◌≡◌, ◌+◌, ◌<◌, [], ◌∷◌};
 ghost use Rattle.play_line.specs.Line.{leading, decimal, hex_glyph, hex_byte, kind_text, bus_text, pins_text, record_text, answer_text, state_text, line_of};
 ghost use Rattle.play_line.specs.Put.{too_long, Puts, Written};

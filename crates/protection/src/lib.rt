@@ -1,4 +1,6 @@
 // The four runs, and what rises.
+#![tactic(auto)]
+
 ghost use Rattle.std.specs.Prelude.{◌≡◌, replicate};
 ghost use Rattle.protection.specs.Streak.{bump, bumps};
 ghost use Rattle.protection.specs.Fault.{no_runs};

@@ -1,4 +1,6 @@
 // The checks of an event made by hand, for the writer and the chip: counts that fit the part, and values in range.
+#![tactic(auto)]
+
 ghost use Rattle.std.specs.Prelude.{◌≡◌, cond, take, drop};
 ghost use Rattle.constants.specs.Number.{DONE, BAD_VALUE};
 ghost use Rattle.bits.specs.Numbers.{within};

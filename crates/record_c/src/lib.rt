@@ -1,4 +1,6 @@
 // A record from its kind and values, and back, for C.
+#![tactic(auto)]
+
 ghost use Rattle.std.specs.Prelude.{◌≡◌};
 ghost use Rattle.record_values.specs.Named.{Names};
 ghost use Rattle.record_c.specs.Calls.{record_said, Records, CountedFew, wrote_answer, named_said};

@@ -1,4 +1,6 @@
 // The event that a kind and values mean, and the counts beside it.
+#![tactic(auto)]
+
 ghost use Rattle.std.specs.Prelude.{◌≡◌};
 ghost use Rattle.record_event.specs.Values.{later_by, part_by, event_by, counts_at, counts_by};
 

@@ -1,4 +1,6 @@
 // Values as C hands them over: a value as a number from 0 up, and what a byte, or two, hold of it.
+#![tactic(auto)]
+
 pub mod kind;
 
 ghost use Rattle.std.specs.Prelude.{◌≡◌};

@@ -1,4 +1,6 @@
 // What values mean, kind by kind.
+#![tactic(auto)]
+
 ghost use Rattle.std.specs.Prelude.{◌≡◌, true, map, ◌<◌, length};
 ghost use Rattle.bits.specs.Numbers.{within};
 ghost use Rattle.events.specs.Event.{count_most, sense_fits, ticks_most, soak_most};

@@ -1,4 +1,6 @@
 // An event's kind and its values.
+#![tactic(auto)]
+
 ghost use Rattle.std.specs.Prelude.{◌≡◌, [], ◌∷◌, ◌≤◌, length, pos};
 ghost use Rattle.constants.specs.Answer.{gives};
 ghost use Rattle.bits.specs.Numbers.{bit_of};

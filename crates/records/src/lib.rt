@@ -1,4 +1,6 @@
 // Records, read: the record that bytes begin with, or the number it is refused with.
+#![tactic(auto)]
+
 ghost use Rattle.std.specs.Prelude.{◌≡◌, true, ◌+◌, ◌<◌, ◌≤◌, length};
 ghost use Rattle.events.specs.Event.{count_most, sense_fits, ticks_most, soak_most};
 ghost use Rattle.bits.specs.Numbers.{within, le16, le32, signed32, words, word_or};

@@ -1,4 +1,6 @@
 // The registers as a value: what an address reads, what an accepted write does, and what events leave.
+#![tactic(auto)]
+
 ghost use Rattle.std.specs.Prelude.{◌≡◌, ◌&&◌, not};
 ghost use Rattle.bits.specs.Bit.{bit};
 ghost use Rattle.events.specs.Fault.{among};

@@ -1,4 +1,6 @@
 // Where what stands in the 309 bytes of a season's report, and numbers of four bytes in halves.
+#![tactic(auto)]
+
 ghost use Rattle.std.specs.Prelude.{◌≡◌};
 ghost use Rattle.season_bytes_layout.specs.Layout.{lows_of, highs_of, longs_of};
 

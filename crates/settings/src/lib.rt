@@ -1,4 +1,6 @@
 // The settings as a value: what accepted writes alone move.
+#![tactic(auto)]
+
 ghost use Rattle.std.specs.Prelude.{◌≡◌};
 ghost use Rattle.settings.specs.State.{reset_settings};
 ghost use Rattle.settings.specs.Write.{ships, control_with, protect1_of, protect2_of, protect3_of, cc_cfg_of, settings_with};

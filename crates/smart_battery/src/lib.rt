@@ -1,4 +1,6 @@
 // Smart Battery words: the replies that a charger is given to Temperature(), Voltage() and Current().
+#![tactic(auto)]
+
 ghost use Rattle.std.specs.Prelude.{◌≡◌, ◌<◌, ◌≤◌};
 ghost use Rattle.constants.specs.Answer.{gives};
 ghost use Rattle.smart_battery.specs.Words.{milliohms_most, said_word, unsigned_said, signed_said, kelvins, millivolts, milliamps, asked_for, word_for};

@@ -1,4 +1,6 @@
 // A whole stream played, five bytes for each record.
+#![tactic(auto)]
+
 ghost use Rattle.std.specs.Prelude.{◌≡◌};
 ghost use Rattle.stream_run.specs.Stream.{Played};
 

@@ -1,4 +1,6 @@
 // Records played on a chip, whichever stands, five bytes for each: quick, where `turn` is plain.
+#![tactic(auto)]
+
 ghost use Rattle.std.specs.Prelude.{◌≡◌, ◌+◌, ◌*◌, ◌<◌, ◌^◌, take, true, false, ◌&&◌};
 ghost use Rattle.records.specs.Record.{read_of, counts_beside};
 ghost use Rattle.records.specs.declared.Read.TheVariants.{Record};

@@ -1,4 +1,6 @@
 // A record on a chip, as one call: plain on purpose, where `stream` is quick; and how many records a stream has.
+#![tactic(auto)]
+
 ghost use Rattle.std.specs.Prelude.{◌≡◌};
 ghost use Rattle.chip.specs.Chip.{numbered};
 ghost use Rattle.turn.specs.Turn.{none, entry_of, born_of, wires, acted, turn, turn_of};

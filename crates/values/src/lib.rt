@@ -1,4 +1,6 @@
 // CHIP V1 to V8: exact conversions of what the chip counts.
+#![tactic(auto)]
+
 ghost use Rattle.std.specs.Prelude.{◌≡◌, ◌^◌, ◌+◌, ◌*◌, ◌≤◌, ◌<◌, min, nat_abs, pos};
 ghost use Rattle.values.specs.Values.{signed8, signed16, gain, offset_microvolts, cell_microvolts, microvolts_by, cell_said, cc_hundredths, ohms_said, die_said, full, threshold_said, over_said, under_said, up};
 ghost use Rattle.values.specs.Double.{IsDouble};

@@ -1,4 +1,6 @@
 // The conversions on bare numbers, for C: 0 or the number that refuses, with the value left alone then.
+#![tactic(auto)]
+
 ghost use Rattle.std.specs.Prelude.{◌≡◌};
 ghost use Rattle.values.specs.Values.{cell_said, ohms_said, die_said, over_said, under_said, cc_hundredths};
 ghost use Rattle.crc8.specs.Crc.{crc_on};

@@ -1,4 +1,6 @@
 // CHIP P17 and P18: since when and why a bit of SYS_STAT is up, since when a drive is off and what holds it, for C.
+#![tactic(auto)]
+
 ghost use Rattle.std.specs.Prelude.{◌≡◌, ◌<◌, ◌≤◌, ◌^◌, length};
 ghost use Rattle.why.specs.Rise.{is_such, rose_on, searched_on, risen, searched, Few};
 ghost use Rattle.why.specs.Why.{least_of, why_of, Explained};

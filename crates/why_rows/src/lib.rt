@@ -1,4 +1,6 @@
 // CHIP P17 and P18: the rows that say why a bit is up and since when a drive is off, in numbers.
+#![tactic(auto)]
+
 ghost use Rattle.std.specs.Prelude.{◌≡◌};
 ghost use Rattle.why_rows.specs.Row.{why_words, off_words};
 

@@ -1,4 +1,6 @@
 // CHIP P17: what a record says of a bit of SYS_STAT, and of a scan the verdict, the lowest input outside and its count.
+#![tactic(auto)]
+
 ghost use Rattle.std.specs.Prelude.{◌≡◌, cond, ◌&&◌, ◌-◌, ◌≤◌, min, eqb, ltb, take, get_or};
 ghost use Rattle.why_scan.specs.Scan.{is_outside, lowest, says_none, says_scan};
 

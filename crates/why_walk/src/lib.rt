@@ -1,4 +1,6 @@
 // CHIP P17: what each record of a stream says of a bit of SYS_STAT, and where a stream stands between two of its records.
+#![tactic(auto)]
+
 ghost use Rattle.std.specs.Prelude.{◌≡◌, cond, ◌+◌, ◌≤◌, ◌<◌, ◌^◌, length, take};
 ghost use Rattle.events.specs.Setup.{inputs};
 ghost use Rattle.why_walk.specs.Says.{scan_says, ticks_say, event_says, says_in, streak_after};

@@ -10,7 +10,6 @@ use Rattle.cell_counts.specs.Scan.{padded, cell_places}
 use Rattle.wiring.specs.Rows.{is_wired, upward, wired_inputs, bits, wired_bits}
 use Rattle.wiring.specs.Kept.{kept, picked}
 
-
 -- ── the bits of inputs keep what these inputs hold ──
 abbrev from : (ℕ → ℕ) → ℕ → ℕ → List ℕ
 from f i zero = []

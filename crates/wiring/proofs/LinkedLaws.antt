@@ -14,7 +14,6 @@ use Rattle.wiring.specs.Kept.{kept, picked}
 use Rattle.wiring.proofs.Kept.{kept-bits}
 use Rattle.wiring.specs.Linked.{above_floor}
 
-
 -- ── by whether there is a wiring record ──
 pub linked_row : (u : Setup) (xs : List ℕ) → has_row u.part u.cells ≡ true → wired_bits u ≡ linked_bits u xs
 unfolding linked_bits connected wired_bits

@@ -1,4 +1,6 @@
 // CHIP W1 to W8: which inputs the cells of a pack are wired to, and which are connected.
+#![tactic(auto)]
+
 ghost use Rattle.std.specs.Prelude.{◌≡◌, cond, ◌≤◌};
 ghost use Rattle.wiring.specs.Rows.{has_row, bits, wired_bits, wired_with, wired_inputs, pack_cells, input_of, linked_inputs, linked_bits, converts};
 ghost use Rattle.wiring.specs.Linked.{above_floor};

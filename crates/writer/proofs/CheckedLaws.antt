@@ -16,7 +16,6 @@ use Rattle.events.specs.Setup.{standing}
 use Rattle.writer.specs.Write.{value_refusal, refusal_for}
 use Rattle.writer.specs.CheckedLaws.{refusal_at}
 
-
 by_counts : (t : Bool) (m : Meant) → refusal_of (cond t m unfit) ≡ cond t (refusal_of m) 2
 by_counts true m = refl
 by_counts false m = refl

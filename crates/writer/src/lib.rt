@@ -1,4 +1,6 @@
 // Records, written: an event's record at a part, or the number it is refused with.
+#![tactic(auto)]
+
 ghost use Rattle.std.specs.Prelude.{◌≡◌, ◌+◌, ◌*◌, ◌≤◌, [], ◌∷◌, ◌++◌, length, take};
 ghost use Rattle.events.specs.declared.Event.TheVariants.{Setup as SetupEvent, OnBus, Wires};
 ghost use Rattle.bits.specs.Numbers.{bit_of, bytes16, bytes32, word_bytes};

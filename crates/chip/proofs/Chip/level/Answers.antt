@@ -1,0 +1,10 @@
+-- The outside level: by the mode, what its definition says.
+use Rattle.std.proofs.Common.{ap, ◌∙◌}
+use Rattle.registers.specs.declared.Registers.{Registers}
+use Rattle.chip.specs.Chip.{happened}
+use Rattle.chip.specs.Parts.{moved_to}
+use Rattle.chip.proofs.Chip.level.Goals as goal
+
+pub returns : goal.returns
+unfolding happened
+returns c = c.moved.ensures ∙ ap (λ (r : Registers). moved_to r c.args.self) c.leveled.ensures

@@ -1,0 +1,8 @@
+-- `write_bytes` writes a header, and the payload by its callee: the stores are the record's bytes (Stores).
+use Rattle.std.proofs.Common.{arith}
+use Rattle.writer.specs.Write.{record_of}
+use Rattle.writer.proofs.Stores.{stored}
+use Rattle.writer.proofs.write_bytes.Goals as goal
+
+pub returns : goal.returns
+returns c = stored (record_of c.args.kind c.args.payload.now) c.args.out.now (omega arith) (omega (arith, c.if-out-n.false)) c.put_bytes.ensures
