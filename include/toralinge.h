@@ -2,7 +2,7 @@
  * toralinge.h - a software stand-in for the battery monitors MS9920T, MS9930T and MS9940T.
  *
  * Link with target/libtoralinge.a, for x86-64 Linux; `./library` proves every call and writes it. A
- * program that wants less links with single ones, in any number: `rt staticlib NAME` writes
+ * program that wants less links with single ones, in any number, which `./library` leaves beside it as
  * target/staticlib/libNAME.a, where NAME is i2c_lists for toralinge_list, chip_c for toralinge_bleed,
  * toralinge_reply and the calls that read a kept chip, feed for toralinge_feed, season_stream for
  * toralinge_season, season_scans for toralinge_scans, season_c for reports that are kept, plain for

@@ -84,66 +84,67 @@ want_compiler() {
     fi
 }
 
-# want_program NAME: proves and builds the program NAME of the repository at `root` unless it is newer than every source, and sets
-# `program`.
+# want_program NAME: proves the program NAME of the repository at `root` and what it stands on, and builds it, unless it is newer than every source; sets `program`.
 want_program() {
     program=$root/target/bin/$1
-    if newest 'bin/%' "$1"; then
+    if newest "bin/$1"; then
         return
     fi
-    proved check "$1"
-    touch "$program.built"
+    proved "$1"
+    built "$1" run
+    mkdir -p "$root/target/bin"
+    cp "$root/crates/$1/out/$1" "$program"
 }
 
-# want_libraries NAME..: the same of target/staticlib/libNAME.a. What the crates stand on is proved first; then they are built side by side.
+# want_libraries NAME..: the same of target/staticlib/libNAME.a. Where there are several, every crate is proved first, side by side; then they are built one after the
+# other, since rt lets no two commands into a crate.
 want_libraries() {
-    local name old=() below
-    if newest 'staticlib/lib%.a' "$@"; then
-        return
-    fi
+    local name crate left old=()
     for name in "$@"; do
-        newest 'staticlib/lib%.a' "$name" || old+=("$name")
+        newest "staticlib/lib$name.a" || old+=("$name")
     done
-    mapfile -t below < <(for name in "${old[@]}"; do standing_on "$name" | sed "/^$name\$/d"; done | sort -u)
-    [[ ${#below[@]} -eq 0 ]] || proved check "${below[@]}"
-    to_build=${#old[@]}
-    printf '%s: rt staticlib proves and builds %d libraries; target/log/libraries has what it says\n' "$me" "$to_build" >&2
-    side_by_side "$root/target/log/libraries" built_library told_library "${old[@]}"
-    [[ ${#fell[@]} -eq 0 ]] || give_up 1 "rt staticlib ${fell[0]} does not pass: target/log/libraries/${fell[0]}.log has what it said"
+    left=${#old[@]}
+    case $left in
+    0) return ;;
+    1) proved "$(exporting "${old[0]}")" ;;
+    *) proved ;;
+    esac
+    mkdir -p "$root/target/staticlib"
     for name in "${old[@]}"; do
-        touch "$root/target/staticlib/lib$name.a.built"
+        crate=$(exporting "$name")
+        built "$crate" lib
+        cp "$root/crates/$crate/out/lib$crate.a" "$root/target/staticlib/lib$name.a"
+        left=$((left - 1))
+        printf '%s: %s is built, %d left\n' "$me" "$name" "$left" >&2
     done
 }
 
-# built_library NAME: one of them. rt notes what it finds of a crate in target/log, where two at once would meet, so each lane has a folder
-# that has all of target/ but this.
-built_library() {
-    local room=$root/target/lanes/$lane part
-    mkdir -p "$room/target/log" "$root/target/staticlib"
-    ln -sfn "$root/crates" "$room/crates"
-    ln -sfn "$root/crates.txt" "$room/crates.txt"
-    for part in rlib stamp staticlib; do
-        ln -sfn "$root/target/$part" "$room/target/$part"
-    done
-    (cd "$room" && in_memory rt staticlib "$1")
+# exporting NAME: the crate that libNAME.a is built from, the thin one above NAME where other crates stand on NAME.
+exporting() {
+    case $1 in
+    season_c | values_c) echo "${1%_c}_for_c" ;;
+    feed | i2c_lists | season_stream | stream | why) echo "$1_c" ;;
+    *) echo "$1" ;;
+    esac
 }
 
-# told_library FOLDER NAME SECONDS: it is built, or not.
-told_library() {
-    to_build=$((to_build - 1))
-    printf '%s: %s is %s (%s s), %d left\n' "$me" "$2" "$([[ " ${fell[*]-} " = *" $2 "* ]] && echo 'not built' || echo 'built')" "$3" "$to_build" >&2
+# built CRATE VERB: rt lib, or rt run, of a crate. What rt says goes to a log, what the program writes nowhere.
+built() {
+    local log=target/log/$1.log
+    mkdir -p "$root/target/log"
+    (cd "$root/crates/$1" && if [[ $2 = run ]]; then rt run >/dev/null; else rt lib; fi) </dev/null >"$root/$log" 2>&1 ||
+        give_up 1 "rt $2 in crates/$1 does not pass: $log has what it said"
 }
 
 # How many more lanes than processors there are side by side: some wait for files, a browser or a bus; and how many seconds pass between two looks at them.
 more_lanes=1
 pause=0.1
 
-# side_by_side FOLDER WORK TOLD NAME..: runs `WORK NAME` for each name, as many at once as there are processors and four at most, and `more_lanes`, each in a lane
-# with the number `lane`. What one says goes to FOLDER/NAME.log, its status and seconds to FOLDER/NAME.end. As they end, in the order of the names,
-# `TOLD FOLDER NAME SECONDS` is called. Sets `fell` to those that did not end with 0. Not to be called after `if` or before `||`, where bash
-# would pass over what goes wrong in them.
+# side_by_side FOLDER WORK TOLD NAME..: runs `WORK NAME` for each name, as many at once as there are processors and four at most, and `more_lanes`. What one says goes
+# to FOLDER/NAME.log, its status and seconds to FOLDER/NAME.end. As they end, in the order of the names, `TOLD FOLDER NAME SECONDS` is called. Sets `fell` to those
+# that did not end with 0. Not to be called after `if` or before `||`, where bash would pass over what goes wrong in them.
 side_by_side() {
-    local folder=$1 work=$2 told=$3 name status seconds lanes
+    local folder=$1 work=$2 told=$3 name status seconds lanes lane
     shift 3
     lanes=$(nproc)
     lanes=$(((lanes < 4 ? lanes : 4) + more_lanes))
@@ -179,33 +180,17 @@ in_lane() {
     done
 }
 
-# in_memory WORD..: runs a command that proves. A check of a crate high up lays some 10,000 small files down and removes them again, which takes
-# 2 s of its processor on a disk and a quarter of that in memory. So they go there where it has room, and where a program that rt writes beside
-# them can be run.
-in_memory() (
-    memory=/dev/shm
-    if [[ -z ${TMPDIR-} && -d $memory && -w $memory && ! $(findmnt -no OPTIONS --target "$memory") =~ noexec ]] &&
-        (($(df --output=avail "$memory" | sed 1d) > 6000000)); then
-        TMPDIR=$(mktemp -d "$memory/toralinge.XXXXXX")
-        export TMPDIR
-        trap 'rm -rf "$TMPDIR"' EXIT
-        chmod 711 "$TMPDIR"
-    fi
-    "$@"
-)
-
-# How many checks rt is to start together: one more than there are processors. It waits for the slowest of them before it starts the next ones, so few leave
-# processors idle; many at once take the cache from each other (six checks of `chip` on two processors took 8 percent more time each) and memory, up to 2 GB each.
+# How many checks rt is to start together: as many as there are processors, and as memory has room for at 2.5 GB each.
 at_a_time() {
     local room jobs
-    room=$(awk '/^MemAvailable:/ { print int($2 / 2200000) }' /proc/meminfo)
-    jobs=$(($(nproc) + 1))
+    room=$(awk '/^MemAvailable:/ { print int($2 / 2500000) }' /proc/meminfo)
+    jobs=$(nproc)
     ((jobs <= room)) || jobs=$room
     ((jobs >= 1)) || jobs=1
     echo "$jobs"
 }
 
-# The crates whose calls include/toralinge.h declares, those first that take longest.
+# The archives whose calls include/toralinge.h declares.
 calls=(feed why season_c plain chip_c i2c_lists season_scans stream season_stream record_c values_c)
 
 # want_calls: all of them in one library, with those of c/ that are text; sets `library`.
@@ -266,53 +251,39 @@ want_bus() {
     fi
 }
 
-# newest FILE NAME..: every FILE, a pattern with % for each of the names, or what was noted when it was made last, is newer than every source.
+# newest FILE: this file of target/ is there, and newer than every source.
 newest() {
-    local pattern=$1 name file oldest=''
-    shift
-    for name in "$@"; do
-        file=$root/target/${pattern//%/$name}
-        [[ -e $file ]] || break
-        [[ $file -nt $file.built ]] || file=$file.built
-        [[ -n $oldest && ! $file -ot $oldest ]] || oldest=$file
-    done
-    if [[ -n $oldest && -e $root/target/${pattern//%/$name} ]] &&
-        [[ -z $(find "$root/crates" "$root/crates.txt" -type f \( -name '*.rt' -o -name '*.antt' -o -name crates.txt \) -newer "$oldest" -print -quit) ]]; then
+    local file=target/$1
+    if [[ -e $root/$file && -z $(cd "$root" && find crates crates.txt -regex 'crates/[^/]*/out' -prune -o \
+        -type f \( -name '*.rt' -o -name '*.antt' -o -name crates.txt \) -newer "$file" -print -quit) ]]; then
         return
     fi
-    command -v rt >/dev/null || give_up 1 "target/${pattern//%/$1} is to be built, and there is no rt to prove and build it"
+    command -v rt >/dev/null || give_up 1 "$file is to be built, and there is no rt to prove and build it"
     return 1
 }
 
-# standing_on NAME..: the crates of the repository that these stand on, and themselves.
-standing_on() {
-    awk -v names="$*" '
-        /^[^#]*:/ { sub(/#.*/, ""); crate = $1; sub(/:.*/, "", crate); sub(/^[^:]*:/, ""); below[crate] = $0 }
-        function take(crate,    words, n, i) {
-            if (!(crate in below) || crate in taken) return
-            taken[crate] = 1
-            n = split(below[crate], words, " ")
-            for (i = 1; i <= n; i++) take(words[i])
-        }
-        END { n = split(names, top, " "); for (i = 1; i <= n; i++) take(top[i]); for (crate in taken) print crate }
+# many_crates [CRATE]: how many crates there are, or how many the crate stands on, itself among them.
+many_crates() {
+    awk -v top="${1-}" '
+        /^[^#]*:/ { sub(/#.*/, ""); crate = $1; sub(/:.*/, "", crate); sub(/^[^:]*:/, ""); below[crate] = $0; many++ }
+        END { print top == "" ? many : split(below[top], words, " ") + 1 }
     ' "$root/crates.txt"
 }
 
-# proved VERB NAME..: rt VERB NAME.., with a line for each crate that is proved anew and how many are left; all else that rt says goes to a log.
+# proved [CRATE]: rt proves the crate and all that it stands on, or every crate, side by side and where they changed, with a line for each that is proved anew and how
+# many are left; all else that rt says goes to a log.
 proved() {
-    local verb=$1 log left
-    shift
-    log=target/log/${!#}.log
+    local log=target/log/${1:-all}-below.log left
     mkdir -p "$root/target/log"
-    left=$(standing_on "$@" | wc -l)
-    printf '%s: rt %s proves %d crates where they changed; %s has what it says\n' "$me" "$verb" "$left" "$log" >&2
-    (cd "$root" && RT_JOBS=${RT_JOBS:-$(at_a_time)} in_memory rt "$verb" "$@" 2>&1) | tee "$root/$log" | awk -v me="$me" -v left="$left" '
-        /^rt: [a-z0-9_]+ proved/ {
-            left--
-            if ($0 !~ /unchanged/) { printf "%s: %s is proved %s, %d left\n", me, $2, $4 " " $5, left; fflush() }
-        }
-        /NOT PROVED/ { printf "%s: %s\n", me, $0; fflush() }
-    ' >&2 || give_up 1 "rt $verb ${!#} does not pass: $log has what it said"
+    left=$(many_crates "$@")
+    printf '%s: rt all check proves %d crates where they changed; %s has what it says\n' "$me" "$left" "$log" >&2
+    (cd "$root/${1:+crates/$1}" && rt all check --jobs "$(at_a_time)" 2>&1) </dev/null | tee "$root/$log" | awk -v me="$me" -v left="$left" '
+        /^== summary/ { ended = 1 }
+        /^== / && !ended { name = $2; left-- }
+        /^rt: waiting/ { printf "%s: %s\n", me, substr($0, 5); fflush() }
+        /^logic=proved/ && !ended { printf "%s: %s is proved, %d left\n", me, name, left; fflush() }
+        ended && /^[a-z0-9_]+: / && !/: ok$/ { printf "%s: %s\n", me, $0; fflush() }
+    ' >&2 || give_up 1 "rt all check does not pass: $log has what it said"
 }
 
 # want_input WORD..: one file at most, which can be read, or standard input that is no terminal; `usage` says what is asked for.

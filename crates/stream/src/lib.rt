@@ -9,7 +9,7 @@ use stream_run::run_from;
 use turn::frames::count;
 use turn::no_chip;
 
-mod forecast;
+pub mod forecast;
 
 // Plays a whole stream. Each record gives five bytes: number, bus flag, bus byte, SYS_STAT, pins. Answers how many records there are, or -5 with no byte
 // written where they do not all fit.
