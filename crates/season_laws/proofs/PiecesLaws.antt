@@ -228,7 +228,8 @@ grown_in_pieces {r = r} {c = c} {o = o} h q ws (more b k a old m n b' k' old' ps
 -- THE SEASON OF A STREAM IN PIECES: from zeroed buffers on, the report at the end is the stream's
 module _ {b k : List ℕ} {ps : List (List ℕ)} {end kept : List ℕ} {season : Season} (room : 309 ≤ length b)
     (z : take 309 b ≡ replicate 309 0) (q : Keeps k none false) (ws : WholePieces false none ps) (u : Grown b k ps end kept) (s : List ℕ)
-    (e : season_said (joined ps ++ s) ≡ gives season) {x : ℤ} {new : List ℕ} (f : Grows (grow_said (kept_of end) (chip_of kept) s) end x new)
+    (e : season_said (joined ps ++ s) ≡ gives season) {x : ℤ} {new : List ℕ}
+        (f : Grows (grow_said (kept_of end) (chip_of kept) s) end x new)
   where
     said : grow_said (kept_of b) (chip_of k) (joined ps ++ s) ≡ gives season
     said =
