@@ -42,8 +42,7 @@ use Rattle.season_walk.specs.PiecesLaws.{range_from, lacks_from}
 use Rattle.season_c.specs.Calls.{grown_on, grow_said, grow_answer, kept_bytes, Grows}
 use Rattle.season_c.specs.CallsLaws.{same_grown, season_grown}
 use Rattle.season_c.specs.BytesLaws.{zero_report}
-use Rattle.season_laws.specs.GrownLaws.{Gave, none_yet, of_scans, grown_by, grown_as, grown_in_two}
-use Rattle.season_laws.proofs.GrownLaws.{gave_on, refused_some}
+use Rattle.season_laws.specs.GrownLaws.{Gave, none_yet, of_scans, grown_by, grown_as, gave_on, refused_some, grown_in_two}
 
 -- ── a buffer that keeps a report, or none yet ──
 pub record Holds (b : List ℕ) (r : Reported) : Type 0 where
