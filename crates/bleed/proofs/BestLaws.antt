@@ -100,7 +100,8 @@ pub record Best (e : List ℕ) (c : Choice) : Type 0 where
 
 -- what is known of a choice that is allowed, group by group
 group : (e : List ℕ) (from b : ℕ) → may_in e from b ≡ true
-    → (excess_in e from b ≤ excess_in e from (best_in e from)) × (excess_in e from b ≡ excess_in e from (best_in e from) → best_in e from ≤ b)
+    → (excess_in e from b ≤ excess_in e from (best_in e from))
+    × (excess_in e from b ≡ excess_in e from (best_in e from) → best_in e from ≤ b)
 group e from b h = ((top e from).most b (five e from b h) h, (top e from).first b (five e from b h) h)
 
 may_each : (e : List ℕ) (c : Choice) → allowed e c ≡ true

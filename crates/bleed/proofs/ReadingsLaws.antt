@@ -48,7 +48,8 @@ module _ (cells : List ℕ) (linked : ℕ) where
   below_all zero i l h = absurd (omega arith)
   below_all (suc k) i l h = by (ltb i k) refl (λ l. below_all k i l h)
     where
-      by : (t : Bool) → ltb i k ≡ t → (i < k → lowest_below cells linked k ≤ x i) → lower_at cells linked k (lowest_below cells linked k) ≤ x i
+      by : (t : Bool) → ltb i k ≡ t → (i < k → lowest_below cells linked k ≤ x i)
+          → lower_at cells linked k (lowest_below cells linked k) ≤ x i
       by true t f = let p = one_lower k (lowest_below cells linked k) in let q = f (ltb-true i k t) in omega arith
       by false t f =
           let g : k ≤ i = ltb-false i k t in

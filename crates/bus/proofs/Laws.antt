@@ -73,7 +73,8 @@ no_store : (u : Setup) (a b : ℕ) → (addressed u a b).store ≡ Nothing
 unfolding addressed
 no_store u a b = by (eqb b (u.address * 2)) (eqb b (u.address * 2 + 1))
   where
-    by : (x y : Bool) → (cond x (goes (Pointing (byte_on 0 b)) a) (cond y (goes (Reading (byte_on 0 b) false) a) (refuses a))).store ≡ Nothing
+    by : (x y : Bool) → (cond x (goes (Pointing (byte_on 0 b)) a) (cond y (goes (Reading (byte_on 0 b) false) a) (refuses a))).store
+        ≡ Nothing
     by true y = refl
     by false true = refl
     by false false = refl

@@ -33,7 +33,8 @@ set-suc (suc k) i [] h l = absurd (omega arith)
 set-suc (suc k) zero (x ∷ xs) h l = refl
 set-suc (suc k) (suc i) (x ∷ xs) h l = ap (◌∷◌ x) (set-suc k i xs (omega arith) (omega arith))
 
-pub padded_more : (k i : ℕ) (xs : List ℕ) → i < k → i < length xs → padded k (take (i + 1) xs) ≡ set (padded k (take i xs)) i (get_or xs i 0)
+pub padded_more : (k i : ℕ) (xs : List ℕ) → i < k → i < length xs
+    → padded k (take (i + 1) xs) ≡ set (padded k (take i xs)) i (get_or xs i 0)
 padded_more k i xs h l = rw (add-one, ← set-suc k i xs h l)
 
 -- three places, each with its count

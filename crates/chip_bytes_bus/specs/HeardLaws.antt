@@ -72,7 +72,8 @@ heard_normal (Out b) c n = by (outed c.setup c.bus.line b).store n
     by (At a v) n = ap (λ (t : Bool). answered o.byte (cond t (in_ship c.setup) (accepted o.line a v c))) (sym n)
 
 -- by what was read of them
-pub hears_did : (b : List ℕ) (e : BusEvent) {h : Heard} (mid : List ℕ) {shown : Shown} {new : List ℕ} → Awake b → h ≡ heard_of e (chip_here b)
+pub hears_did : (b : List ℕ) (e : BusEvent) {h : Heard} (mid : List ℕ) {shown : Shown} {new : List ℕ} → Awake b
+    → h ≡ heard_of e (chip_here b)
     → KeptBy h.store b true mid → new ≡ bus_in h.bus mid → shown ≡ shown_at (take 96 new) → good_of b ≡ true
     → Did b (OnBus e) h.flag h.byte shown new
 hears_did b e {h = h} mid {shown = shown} {new = new} w q k m s g =

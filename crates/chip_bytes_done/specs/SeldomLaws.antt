@@ -202,7 +202,8 @@ moved_did b mid e w v m s g =
           (v.bytes (switch_at (take 96 b) FRESH) (drop 96 b) (sym (bytes_are b w g)));
     }
 
-pub warms_did : (b mid counts : List ℕ) {u : Setup} {n : ℕ} {ts : List ℕ} {shown : Shown} {new : List ℕ} → Awake b → u ≡ setup_at (take 96 b)
+pub warms_did : (b mid counts : List ℕ) {u : Setup} {n : ℕ} {ts : List ℕ} {shown : Shown} {new : List ℕ} → Awake b
+    → u ≡ setup_at (take 96 b)
     → n ≡ groups u → ts ≡ padded 3 (take n counts) → mid ≡ warmed_in (eqb (get_or b 24 0) 1) ts b → new ≡ set mid FRESH 0
     → shown ≡ shown_at (take 96 new) → good_of b ≡ true → Did b (Temp (take (groups (chip_of b).setup) counts)) false 0 shown new
 unfolding chip_at

@@ -226,7 +226,8 @@ chip_at b = chip_from b (words (drop WORDS b))
 -- ── bytes that are a chip: the layout's version, switches 0 or 1, the phase's bytes, zeros where there is no field ──
 unfoldable pub formed : List ℕ → Bool
 formed b =
-    eqb (get_or b VERSION 0) LAYOUT && within 1 (listed b SWITCHES SWITCHED) && phase_good (get_or b PHASE 0) (get_or b FIRST 0) (get_or b SECOND 0)
+    eqb (get_or b VERSION 0) LAYOUT && within 1 (listed b SWITCHES SWITCHED)
+    && phase_good (get_or b PHASE 0) (get_or b FIRST 0) (get_or b SECOND 0)
     && within 0 (listed b REST1 RESTS)
 
 -- ── a chip that could stand: a setup in range, with a row of its part or none, and not the outside level 1 with SYS_STAT 0; a wiring

@@ -320,7 +320,8 @@ module _ (margin : ℕ) (c : Chip) (words : (i : ℕ) → count_of c i ≤ 65535
   unfolding excesses_over excess_at
   in_list =
       fifteen (λ i. get_or (excesses (cells_of c) (linked_of c) margin) i 0
-      ≡ cond (may_bleed (cells_of c) (linked_of c) least margin i) (count_of c i - least) 0) refl refl refl refl refl refl refl refl refl refl
+      ≡ cond (may_bleed (cells_of c) (linked_of c) least margin i) (count_of c i - least) 0) refl refl refl refl refl refl refl refl refl
+      refl
       refl refl refl refl refl
 
   past_list : (i : ℕ) → 15 ≤ i → get_or (excesses (cells_of c) (linked_of c) margin) i 0 ≡ 0
@@ -359,7 +360,8 @@ unfolding proposal_said
 proposes margin c words x h = by (leb 1 margin) (leb margin 16383) c.normal (eqb (linked_of c) 0) refl refl h
   where
     by : (a b n k : Bool) → leb 1 margin ≡ a → eqb (linked_of c) 0 ≡ k
-        → cond (a && b) (cond n (cond k (refuses 10) (gives (proposed (cells_of c) (linked_of c) margin))) (refuses 4)) (refuses 3) ≡ gives x
+        → cond (a && b) (cond n (cond k (refuses 10) (gives (proposed (cells_of c) (linked_of c) margin))) (refuses 4)) (refuses 3)
+        ≡ gives x
         → Proposes c margin x
     by true true true false p q h =
         record {

@@ -62,7 +62,8 @@ module _ (g o : ℕ) (xs : List ℕ) (p : ℕ → Bool) where
       by true h = ap (λ (l : List ℕ). get_or xs (j - 1) 0 ∷ l) h
       by false h = h
 
-  total_more : (is : List ℕ) (i : ℕ) → p i ≡ true → total_those (is ++ (i ∷ [])) ≡ total_those is +ℤ cell_microvolts g o (get_or xs (i - 1) 0)
+  total_more : (is : List ℕ) (i : ℕ) → p i ≡ true
+      → total_those (is ++ (i ∷ [])) ≡ total_those is +ℤ cell_microvolts g o (get_or xs (i - 1) 0)
   total_more is i e =
       ap (λ (l : List ℕ). fold ◌+ℤ◌ (pos 0) (map (cell_microvolts g o) l)) (those_last is i true e)
       ∙ ap (fold ◌+ℤ◌ (pos 0)) (map_last (cell_microvolts g o) (get_or xs (i - 1) 0) (picked xs (those p is)))

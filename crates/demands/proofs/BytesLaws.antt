@@ -148,6 +148,7 @@ module _ (s : List ℕ) (u : SetupValues) (next : ℕ) (first : read_of 0 s ≡ 
       × (bit (get_or (bytes_of (entries s)) (5 * n + 4) 0) 2 ≡ (shown u (heard_to n)).chg_on)
       × (bit (get_or (bytes_of (entries s)) (5 * n + 4) 0) 1 ≡ (shown u (heard_to n)).dsg_on)
   pins_show n h =
-      subst (λ b. (bit b 4 ≡ alerted u (heard_to n)) × (bit b 2 ≡ (shown u (heard_to n)).chg_on) × (bit b 1 ≡ (shown u (heard_to n)).dsg_on))
+      subst (λ b. (bit b 4 ≡ alerted u (heard_to n)) × (bit b 2 ≡ (shown u (heard_to n)).chg_on)
+      × (bit b 1 ≡ (shown u (heard_to n)).dsg_on))
       (sym (pins_at (entries s) n h ∙ ap (λ (p : ℕ × ℕ). p.1) (entry_shows n h)))
       (pins_bit (alerted u (heard_to n)) (shown u (heard_to n)).chg_on (shown u (heard_to n)).dsg_on)

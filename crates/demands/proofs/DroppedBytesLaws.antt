@@ -56,8 +56,10 @@ pub worked : stay 1 frame_whole true (in_ship guarded) (
     bare 0x02 ∷ bare 0x10 ∷ sends 0x10 ∷ sends 0x05 ∷ sends 0x03 ∷ bare 0x11 ∷ sends 0xEB ∷ sends 0x01 ∷ (1 ∷ 0 ∷ 0x12 ∷ 0 ∷ 0 ∷ []) ∷ bare
     0x13 ∷ []
     ) ≡ true ∷ true ∷ true ∷ true ∷ false ∷ true ∷ false ∷ false ∷ false ∷ true ∷ []
-unfolding stay sort_at answer_at fresh_at spoiled_at acted meant_of counts_in counts_fit read_of payload_of later_of stepped happened fits outed taken
-    byte_given owing settings_with shown_with cellbal_with byte_on rule over under addressed fed checked after_data after_sum keeps stored_at
+unfolding stay sort_at answer_at fresh_at spoiled_at acted meant_of counts_in counts_fit read_of payload_of later_of stepped happened fits
+    outed taken
+    byte_given owing settings_with shown_with cellbal_with byte_on rule over under addressed fed checked after_data after_sum keeps
+    stored_at
 worked = refl
 
 -- ── a piece of one record ──

@@ -267,7 +267,8 @@ module _ (p : ℕ) (r : List ℕ) (rs : List (List ℕ)) (ih : Claim p rs) where
       → Alike p m w d o c (r ∷ rs)
   unfolding played_at picked stay
   front m w d o c t h f =
-      subst (λ t. Front m t (spoiled_at p (fresh_at p o c r) (answer_at p o c r).chip rs) w d (fresh_at p o c r) (answer_at p o c r)) (sym h) f
+      subst (λ t. Front m t (spoiled_at p (fresh_at p o c r) (answer_at p o c r).chip rs) w d (fresh_at p o c r) (answer_at p o c r))
+      (sym h) f
 
   -- ── nothing spoiled is open ──
   whole_kept : (t : Sort) (o : Bool) (c : Chip) → sort_at p r ≡ t → is_sends t ≡ false → Calmed c → Still o c
@@ -287,7 +288,8 @@ module _ (p : ℕ) (r : List ℕ) (rs : List (List ℕ)) (ih : Claim p rs) where
       by for_takes h = ap (◌∷◌ (seen_by (answer_at p o c r))) same
 
   -- an OUT that opens a spoiled byte is dropped, and the chip of what stays goes on writing
-  whole_out : (b : ℕ) (o : Bool) (c : Chip) → sort_at p r ≡ for_sends → ((o : Bool) (c : Chip) → answer_at p o c r ≡ stepped (OnBus (Out b)) c)
+  whole_out : (b : ℕ) (o : Bool) (c : Chip) → sort_at p r ≡ for_sends
+      → ((o : Bool) (c : Chip) → answer_at p o c r ≡ stepped (OnBus (Out b)) c)
       → Calmed c → Still o c → Alike p frame_whole o c o c (r ∷ rs)
   unfolding played_at
   whole_out b o c e is m s = front frame_whole o c o c for_sends e (by (spoiled_at p (fresh_at p o c r) (answer_at p o c r).chip rs) refl)

@@ -145,7 +145,8 @@ written_pins e a v s p =
     by_cond (λ t. ovrd_of t ≡ true → e ≡ Pin) (eqb a 0x00) (with_status (without (status_of v) s.status) s)
     (cond (eqb a 0x05) (driven v s) s)
     (λ h q. clash (ovrd_of s) p (and_left (ovrd_of s) (not (bit v 16)) q))
-    (λ h. by_cond (λ t. ovrd_of t ≡ true → e ≡ Pin) (eqb a 0x05) (driven v s) s (λ i q. clash (ovrd_of s) p q) (λ i q. clash (ovrd_of s) p q))
+    (λ h. by_cond (λ t. ovrd_of t ≡ true → e ≡ Pin) (eqb a 0x05) (driven v s) s (λ i q. clash (ovrd_of s) p q)
+        (λ i q. clash (ovrd_of s) p q))
 
 bus_pins : (b : BusEvent) (c : Chip) → Pinned (OnBus b) c (on_bus b c).chip
 bus_pins Start c p q = clash (ovrd_of c.registers.shown) p q
@@ -244,7 +245,8 @@ module _ (u : Setup) where
   -- A CLEARING WRITE: the ones lower their bits; then, the level 1 and no bit left, OVRD_ALERT is up and both drives off at the end of
   -- its own event
   pub clears_to : (b v : ℕ) (past : List Event) → wrote u (core u past) (OnBus (Out b)) ≡ At 0x00 v
-      → shown u (OnBus (Out b) ∷ past) ≡ pulled_at (outside u past) (with_status (without (status_of v) (shown u past).status) (shown u past))
+      → shown u (OnBus (Out b) ∷ past)
+      ≡ pulled_at (outside u past) (with_status (without (status_of v) (shown u past).status) (shown u past))
   unfolding chip
   clears_to b v past w = clearing_shown b v (chip u past) f.0 f.1
     where
@@ -275,7 +277,8 @@ module _ (u : Setup) where
   unfoldable pub UpAgain : List Event → List Event → Type 0
   UpAgain [] past = Unit
   UpAgain (e ∷ later) past =
-      UpAgain later past × (clears_at ovrd_alert_bit (wrote u (core u (later ++ past)) e) ≡ true → up_at u ovrd_alert_bit (e ∷ later ++ past) ≡ true)
+      UpAgain later past × (clears_at ovrd_alert_bit (wrote u (core u (later ++ past)) e) ≡ true
+      → up_at u ovrd_alert_bit (e ∷ later ++ past) ≡ true)
 
   awake_last : (later past : List Event) → StaysAwake u later past → Awake u (later ++ past)
   unfolding StaysAwake

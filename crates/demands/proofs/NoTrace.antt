@@ -25,7 +25,8 @@ use Rattle.demands.specs.Opened.{mapped, apart, bus_is, bus_still, reset_is, spo
 record Claim (es : List Event) : Type 0 where
   whole : (c : Chip) → Calmed c → played c (remains frame_whole c es) ≡ remained frame_whole c es
   opened : (v t s : ℕ) (base : Chip) → Calmed base → base.normal ≡ true → spoiled (phased (Checking v t) base) es ≡ true
-      → played (phased (Writing s) base) (remains frame_open (phased (Checking v t) base) es) ≡ remained frame_open (phased (Checking v t) base) es
+      → played (phased (Writing s) base) (remains frame_open (phased (Checking v t) base) es)
+      ≡ remained frame_open (phased (Checking v t) base) es
   lost : (s : ℕ) (base : Chip) → Calmed base → base.normal ≡ true
       → played (phased (Writing s) base) (remains frame_lost (phased Idle base) es) ≡ remained frame_lost (phased Idle base) es
 
@@ -121,7 +122,8 @@ module _ (es : List Event) (ih : Claim es) where
       (apart Idle e base h a).1
       (ap (◌∷◌ (seen e base)) (ih.lost s (next e base) (calm_next e base m) (apart Idle e base h a).1))))
   lost_step e s base m a resets =
-      subst₂ (λ x y. Stays (on frame_lost for_resets x) Por x y) (sym (reset_is (phased Idle base))) (sym (reset_is (phased (Writing s) base)))
+      subst₂ (λ x y. Stays (on frame_lost for_resets x) Por x y) (sym (reset_is (phased Idle base)))
+      (sym (reset_is (phased (Writing s) base)))
       (ap (◌∷◌ (seen_of Por (numbered 0 (in_ship base.setup)))) (ih.whole (in_ship base.setup) (ship_calm base.setup)))
   lost_step e s base m a starts =
       subst₂ (λ x y. Stays (on frame_lost for_frames x) (OnBus Start) x y) (sym (bus_still Start (phased Idle base) a m))
@@ -167,7 +169,8 @@ module _ (es : List Event) (ih : Claim es) where
       (subst (λ x. spoiled x.chip es ≡ true) (bus_still Stop (phased (Checking v t) base) a m)
       (spoiled_on (phased (Checking v t) base) (OnBus Stop) es refl h))
   open_step e v t s base m a h (sends x) =
-      subst (λ z. Goes frame_lost (phased (Writing s) base) z) (sym (denied v t x base m a (spoiled_out (phased (Checking v t) base) x es h)))
+      subst (λ z. Goes frame_lost (phased (Writing s) base) z)
+      (sym (denied v t x base m a (spoiled_out (phased (Checking v t) base) x es h)))
       (ih.lost s base m a)
   open_step e v t s base m a h (takes nack) =
       subst₂ (λ x y. Stays frame_open (OnBus (In nack)) x y) (sym (bus_still (In nack) (phased (Checking v t) base) a m))

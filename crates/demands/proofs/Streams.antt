@@ -47,7 +47,8 @@ wired_as_lem : (o t : Bool) (n m : ℕ) (u : SetupValues) (c : Chip) → (o ≡ 
     → (wired_by o t m (celled n c) ≡ celled_in (wired_by o t m (celled n c)).chip.setup.cells (wired_by o t m c))
     × (celled (wired_by o t m (celled n c)).chip.setup.cells (wired_by o t m c).chip
     ≡ celled (wired_by o t m (celled n c)).chip.setup.cells c)
-wired_as_lem true true n m u c h = (refl, ap (λ (d : Chip). celled m (in_ship (with_cells m d.setup))) (h refl) ∙ ap (celled m) (sym (h refl)))
+wired_as_lem true true n m u c h =
+    (refl, ap (λ (d : Chip). celled m (in_ship (with_cells m d.setup))) (h refl) ∙ ap (celled m) (sym (h refl)))
 wired_as_lem true false n m u c h = (refl, refl)
 wired_as_lem false t n m u c h = (refl, refl)
 

@@ -113,7 +113,8 @@ played c (e ∷ es) = seen e c ∷ played (next e c) es
 unfoldable pub remains : Mode → Chip → List Event → List Event
 remains m c [] = []
 remains m c (e ∷ es) =
-    cond (drops m (sort_of e) (spoiled (next e c) es)) (remains (then m (sort_of e) (spoiled (next e c) es) (next e c).normal) (next e c) es)
+    cond (drops m (sort_of e) (spoiled (next e c) es))
+    (remains (then m (sort_of e) (spoiled (next e c) es) (next e c).normal) (next e c) es)
     (e ∷ remains (then m (sort_of e) (spoiled (next e c) es) (next e c).normal) (next e c) es)
 
 unfoldable pub remained : Mode → Chip → List Event → List Seen

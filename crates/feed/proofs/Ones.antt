@@ -52,14 +52,16 @@ use Rattle.feed.proofs.Calls.{kept_calm, done_answer, done_feeds}
 
 -- what means an event of a chip that stands is neither SETUP nor a wiring record
 meant_befalls : (e : Event) (x : Happening) → ((u : Setup) → event_of u e [] ≡ means x) → role_of e ≡ Happens
-meant_befalls = by_role (λ (e : Event). (x : Happening) → ((u : Setup) → event_of u e [] ≡ means x) → role_of e ≡ Happens) (λ v x h. unfit_not x (h v)) (λ n x h. unfit_not x (h (standing 0))) (λ e r x h. r)
+meant_befalls = by_role (λ (e : Event). (x : Happening) → ((u : Setup) → event_of u e [] ≡ means x) → role_of e ≡ Happens)
+    (λ v x h. unfit_not x (h v)) (λ n x h. unfit_not x (h (standing 0))) (λ e r x h. r)
   where
     unfit_not : {A : Type 0} (x : Happening) → unfit ≡ means x → A
     unfit_not x h = let z : ◌≡◌ {A = ℕ} 0 1 = cc in absurd (omega arith)
 
 -- what was done in the bytes, with the payload that it was read from; a tick, ticks and the bus have no counts beside them
 module _ (b : List ℕ) (payload : Payload) (event : Event) (counts : Event → List ℕ) (w : payload ≡ Whole event) (new : List ℕ) where
-  one_of : (x : Event) (s : Stepped) (r : Done) → event ≡ x → role_of x ≡ Happens → s ≡ happened_by x (counts x) (chip_of b) → CameBy b s r new
+  one_of : (x : Event) (s : Stepped) (r : Done) → event ≡ x → role_of x ≡ Happens → s ≡ happened_by x (counts x) (chip_of b)
+      → CameBy b s r new
       → OneBy b payload counts r new
   one_of x s (Shows flag byte shown) e f q h =
       λ g. record {
@@ -86,7 +88,8 @@ module _ (b : List ℕ) (payload : Payload) (event : Event) (counts : Event → 
   soak_one v n r e h = one_of (Soak v n) (ticked n v (chip_of b)) r e refl refl h
 
 -- one that is seldom met, by what it means
-pub seldom_one : (b : List ℕ) (payload : Payload) (event : Event) (counts : Event → List ℕ) (new : List ℕ) (r : Done) → payload ≡ Whole event
+pub seldom_one : (b : List ℕ) (payload : Payload) (event : Event) (counts : Event → List ℕ) (new : List ℕ) (r : Done)
+    → payload ≡ Whole event
     → SeldomBy b event r new → OneBy b payload counts r new
 seldom_one b payload event counts new (Shows flag byte shown) w h =
     λ g. record {
@@ -100,7 +103,8 @@ seldom_one b payload event counts new (Shows flag byte shown) w h =
     }
 seldom_one b payload event counts new Not w h = h
 
-pub scan_one : (b : List ℕ) (payload : Payload) (event : Event) (p : List ℕ) (new xs : List ℕ) (r : Done) → payload ≡ Whole event → event ≡ Scan
+pub scan_one : (b : List ℕ) (payload : Payload) (event : Event) (p : List ℕ) (new xs : List ℕ) (r : Done) → payload ≡ Whole event
+    → event ≡ Scan
     → xs ≡ (counts_in Scan p).of → DidBy b (Scanned (take (inputs (chip_of b).setup) xs)) r new → CountedBy b payload p r new
 scan_one b payload event p new xs (Shows flag byte shown) w e c h =
     λ g. record {
@@ -114,7 +118,8 @@ scan_one b payload event p new xs (Shows flag byte shown) w e c h =
     }
 scan_one b payload event p new xs Not w e c h = h
 
-pub temp_one : (b : List ℕ) (payload : Payload) (event : Event) (p : List ℕ) (new xs : List ℕ) (r : Done) → payload ≡ Whole event → event ≡ Temp
+pub temp_one : (b : List ℕ) (payload : Payload) (event : Event) (p : List ℕ) (new xs : List ℕ) (r : Done) → payload ≡ Whole event
+    → event ≡ Temp
     → xs ≡ (counts_in Temp p).of → DidBy b (Warmed (take (groups (chip_of b).setup) xs)) r new → CountedBy b payload p r new
 temp_one b payload event p new xs (Shows flag byte shown) w e c h =
     λ g. record {
@@ -133,7 +138,8 @@ pub signal_is : (kind part : ℕ) (p : List ℕ) {k : ℕ} (q : Payload) → kin
 signal_is kind part p (Whole e) h m = ap (λ (k : ℕ). payload_of k part p) h ∙ sym m
 signal_is kind part p (Unfit n) h m = search rules
 
-pub one_signal : (b : List ℕ) (kind part : ℕ) (p : List ℕ) (q : Payload) (counts : Event → List ℕ) (r : Done) (new : List ℕ) → Signal kind part p q
+pub one_signal : (b : List ℕ) (kind part : ℕ) (p : List ℕ) (q : Payload) (counts : Event → List ℕ) (r : Done) (new : List ℕ)
+    → Signal kind part p q
     → OneBy b q counts r new → OneBy b (payload_of kind part p) counts r new
 one_signal b kind part p q counts (Shows flag byte shown) new s h =
     λ g. record {
@@ -148,7 +154,8 @@ one_signal b kind part p q counts (Shows flag byte shown) new s h =
 one_signal b kind part p q counts Not new s h = h
 
 -- of another payload that is the same
-pub one_as : (b : List ℕ) {p q : Payload} (counts : Event → List ℕ) (r : Done) (new : List ℕ) → p ≡ q → OneBy b p counts r new → OneBy b q counts r new
+pub one_as : (b : List ℕ) {p q : Payload} (counts : Event → List ℕ) (r : Done) (new : List ℕ) → p ≡ q → OneBy b p counts r new
+    → OneBy b q counts r new
 one_as b counts r new e h = subst (λ (p : Payload). OneBy b p counts r new) e h
 
 runs_none : (f : ℕ) (o : Bool) (c : Chip) → runs f o c [] ≡ []
@@ -164,7 +171,8 @@ stays_none zero o c = refl
 stays_none (suc f) o c = refl
 
 -- bytes that are one record
-module _ (o : Bool) (c : Chip) (x : ℕ) (s : List ℕ) (d : Stepped) (f : Bool) (t : turn_of o c (x ∷ s) ≡ turn d f (length (x ∷ s)) false) where
+module _ (o : Bool) (c : Chip) (x : ℕ) (s : List ℕ) (d : Stepped) (f : Bool) (t : turn_of o c (x ∷ s) ≡ turn d f (length (x ∷ s)) false)
+    where
   over : drop (length (x ∷ s)) (x ∷ s) ≡ []
   over = drop_of_length-le (x ∷ s) {i = length (x ∷ s)} (omega arith)
 
@@ -172,7 +180,8 @@ module _ (o : Bool) (c : Chip) (x : ℕ) (s : List ℕ) (d : Stepped) (f : Bool)
   unfolding entries_from
   one_entry =
       ap (λ (t : Turn). t.entry ∷ cond t.last [] (runs (length s) t.fresh t.chip (drop t.next (x ∷ s)))) t
-      ∙ ap (λ (l : List ℕ). entry_of d ∷ runs (length s) f d.chip l) over ∙ ap (λ (l : List Entry). entry_of d ∷ l) (runs_none (length s) f d.chip)
+      ∙ ap (λ (l : List ℕ). entry_of d ∷ runs (length s) f d.chip l) over
+      ∙ ap (λ (l : List Entry). entry_of d ∷ l) (runs_none (length s) f d.chip)
 
   one_chip : chip_from o c (x ∷ s) ≡ d.chip
   unfolding chip_from
@@ -193,14 +202,17 @@ record Single (o : Bool) (c : Chip) (s : List ℕ) (d : Stepped) : Type 0 where
 
 single_by : (o : Bool) (c : Chip) (s : List ℕ) (d : Stepped) → 4 ≤ length s → turn_of o c s ≡ turn d false (length s) false → Single o c s d
 single_by o c [] d h t = absurd (omega arith)
-single_by o c (x ∷ s) d h t = record { entry = one_entry o c x s d false t; chip = one_chip o c x s d false t; fresh = one_fresh o c x s d false t }
+single_by o c (x ∷ s) d h t =
+    record { entry = one_entry o c x s d false t; chip = one_chip o c x s d false t; fresh = one_fresh o c x s d false t }
 
 -- a record of an event that happens to a chip that stands, and done: no wiring record is taken after it
-module _ (o : Bool) (c : Chip) (s : List ℕ) (e : Event) (d : Stepped) (q : read_of c.setup.part s ≡ Record e (length s)) (f : role_of e ≡ Happens)
+module _ (o : Bool) (c : Chip) (s : List ℕ) (e : Event) (d : Stepped) (q : read_of c.setup.part s ≡ Record e (length s))
+    (f : role_of e ≡ Happens)
     (z : d.number ≡ 0) (h : d ≡ happened_by e (counts_beside s (Record e (length s))).of c) where
   stood : (t : Bool) → eqb c.setup.part 0 ≡ t → t ≡ false
   stood true p =
-      absurd (no_setup e f (first_setup s e (length s) (subst (λ (n : ℕ). read_of n s ≡ Record e (length s)) (eqb-true c.setup.part 0 p) q)))
+      absurd (no_setup e f
+          (first_setup s e (length s) (subst (λ (n : ℕ). read_of n s ≡ Record e (length s)) (eqb-true c.setup.part 0 p) q)))
   stood false p = refl
 
   closes : stays_fresh o c d ≡ false
@@ -227,7 +239,8 @@ module _ (b s old : List ℕ) {chip new : List ℕ} (g : good_of b ≡ true) (t 
   abbrev k : Kept
   k = keeps (chip_of b) (fresh_of b)
 
-  abbrev one : One b (payload_of t.kind (get_or b 1 0) (take (length s - 4) (drop 4 s))) (λ e. (counts_in e (take (length s - 4) (drop 4 s))).of) t.flag t.byte t.shown chip
+  abbrev one : One b (payload_of t.kind (get_or b 1 0) (take (length s - 4) (drop 4 s)))
+      (λ e. (counts_in e (take (length s - 4) (drop 4 s))).of) t.flag t.byte t.shown chip
   one = t.done g
 
   is : k ≡ kept_of b
@@ -285,7 +298,8 @@ fed_as {b} {b'} {s} {old} {old'} {r} {r'} {chip} {new} e y f =
 -- a record by its header, then what was done of it
 module _ (b s old : List ℕ) (kind next : ℕ) (header : header_of s ≡ Header kind next) (whole : next ≡ length s) where
   pub alone_is : {r : Done} {chip new : List ℕ} (flag : Bool) (byte : ℕ) (shown : Shown) → 96 ≤ length b → 5 ≤ length old
-      → RecordBy b (get_or b 1 0) kind (take (next - 4) (drop 4 s)) r chip → r ≡ Shows flag byte shown → new ≡ sets old 0 (done_bytes flag byte shown)
+      → RecordBy b (get_or b 1 0) kind (take (next - 4) (drop 4 s)) r chip → r ≡ Shows flag byte shown
+      → new ≡ sets old 0 (done_bytes flag byte shown)
       → Alone b s old chip new
   alone_is {r} {chip} flag byte shown room fits h e wrote =
       record {

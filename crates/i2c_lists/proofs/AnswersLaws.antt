@@ -155,7 +155,8 @@ answered_by bytes room false t e = refused 20 (omega arith)
 
 answered_for : (x : Listing) (room : ℕ) → Answered room (answer_with (number_for x room) (bytes_of x))
 answered_for none room = refused 19 (omega arith)
-answered_for (lists ms) room = answered_by (records_of (events_of ms)) room (all_near ms) (leb (length (records_of (events_of ms))) room) refl
+answered_for (lists ms) room =
+    answered_by (records_of (events_of ms)) room (all_near ms) (leb (length (records_of (events_of ms))) room) refl
 
 pub answered : (line old : List ℕ) (r : ℤ) (new : List ℕ) → Taken line old r new → Answered (length old) r
 answered line old r new t = subst (Answered (length old)) (sym t.answer) (answered_for (list_in line) (length old))

@@ -21,7 +21,8 @@ unfoldable pub after : List ℕ → ℕ → List (List ℕ)
 after l n = cond (ltb n (length l)) (cut (drop (suc n) l)) []
 
 cut_by : (c : ℕ) (l : List ℕ) (t : Bool) → cut l ≡ take (word_length l) l ∷ after l (word_length l)
-    → cond t ([] ∷ cut l) (before c (cut l)) ≡ take (cond t 0 (suc (word_length l))) (c ∷ l) ∷ after (c ∷ l) (cond t 0 (suc (word_length l)))
+    → cond t ([] ∷ cut l) (before c (cut l))
+    ≡ take (cond t 0 (suc (word_length l))) (c ∷ l) ∷ after (c ∷ l) (cond t 0 (suc (word_length l)))
 unfolding after
 cut_by c l true h = simp (lt-ltb 0 (length (c ∷ l)) (omega arith))
 cut_by c l false h = rw (h, leb-suc-suc (suc (word_length l)) (length l)) refl

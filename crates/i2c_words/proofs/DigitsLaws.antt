@@ -140,6 +140,7 @@ value_spelt [] h = absurd (omega (arith, h))
 value_spelt (x ∷ []) h = absurd (omega (arith, h))
 value_spelt (x ∷ y ∷ []) h = absurd (omega (arith, h))
 value_spelt (x ∷ y ∷ c ∷ []) h = short_by x y c (eqb x char0) (eqb y char_x) (leb 16 (hex_of c)) refl refl refl h
-value_spelt (x ∷ y ∷ c ∷ d ∷ []) h = long_by x y c d (eqb x char0) (eqb y char_x) (leb 16 (hex_of c)) (leb 16 (hex_of d)) refl refl refl refl h
+value_spelt (x ∷ y ∷ c ∷ d ∷ []) h =
+    long_by x y c d (eqb x char0) (eqb y char_x) (leb 16 (hex_of c)) (leb 16 (hex_of d)) refl refl refl refl h
 value_spelt (x ∷ y ∷ c ∷ d ∷ e ∷ l) h =
     absurd (omega (arith, h, many x y c d e l))

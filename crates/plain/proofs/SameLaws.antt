@@ -104,7 +104,8 @@ first_said s Cut q k = none_said s k (none_stands s Cut q refl)
 
 pub runs_said : (s : List ℕ) → runs_from (streaks_in s) ≡ (last_chip s).runs
 unfolding streaks_in verdicts_in
-runs_said s = sym (runs_by (last_chip s).runs (λ k. min (cap k) (streak (verdicts_after k s (read_of 0 s)))) (first_said s (read_of 0 s) refl))
+runs_said s = sym (runs_by (last_chip s).runs (λ k. min (cap k) (streak (verdicts_after k s (read_of 0 s))))
+    (first_said s (read_of 0 s) refl))
 
 -- ── one record ──
 -- what is read as such an event is read of a part
@@ -308,7 +309,8 @@ plays {s} {old} {new} {r} h p =
     let l : leb (length s) most ≡ true = le-leb (length s) most h in
     record {
       answer = p.answer ∙ ap (λ (b : Bool). cond b (count (plain_entries s)) (negsuc 23)) l ∙ ap count (plain_entries_lem s);
-      contents = p.contents ∙ ap (λ (b : Bool). cond (b && leb (5 * length (plain_entries s)) (length old)) (filled (plain_entries s)) old) l
+      contents = p.contents
+          ∙ ap (λ (b : Bool). cond (b && leb (5 * length (plain_entries s)) (length old)) (filled (plain_entries s)) old) l
           ∙ ap (λ (es : List Entry). cond (leb (5 * length es) (length old)) (filled es) old) (plain_entries_lem s);
     }
   where

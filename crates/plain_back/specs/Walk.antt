@@ -252,7 +252,8 @@ module _ (u : SetupValues) where
         s : Settings
         s = standing u past
 
-        by : (a : Bool) → cond a (scan_in c xs (streaks_of (λ k. streak (verdicts u k past)))) (streaks_of (λ k. streak (verdicts u k past)))
+        by : (a : Bool) → cond a (scan_in c xs (streaks_of (λ k. streak (verdicts u k past))))
+            (streaks_of (λ k. streak (verdicts u k past)))
             ≡ streaks_of (λ k. streak (cond a (opinion k u.floor (rule k s) (Scan xs) ++ verdicts u k past) (verdicts u k past)))
         by true =
             λ i.
@@ -279,7 +280,8 @@ module _ (u : SetupValues) where
         s : Settings
         s = standing u past
 
-        by : (a : Bool) → cond a (ticks_in c v 1 (streaks_of (λ k. streak (verdicts u k past)))) (streaks_of (λ k. streak (verdicts u k past)))
+        by : (a : Bool) → cond a (ticks_in c v 1 (streaks_of (λ k. streak (verdicts u k past))))
+            (streaks_of (λ k. streak (verdicts u k past)))
             ≡ streaks_of (λ k. streak (cond a (opinion k u.floor (rule k s) (Sense v) ++ verdicts u k past) (verdicts u k past)))
         by true =
             λ i.
@@ -354,6 +356,8 @@ module _ (u : SetupValues) where
     tracks_walked (CodedLoad l) k m = by_event (CodedLoad l) k (Load l) (λ k floor r. refl) (meant_of_lem (CodedLoad l) k m).0
     tracks_walked (CodedOnBus b) k m = by_event (CodedOnBus b) k (OnBus b) (λ k floor r. refl) (meant_of_lem (CodedOnBus b) k m).0
     tracks_walked (CodedLevel l) k m = by_event (CodedLevel l) k (Level l) (λ k floor r. refl) (meant_of_lem (CodedLevel l) k m).0
-    tracks_walked (CodedTicks v n) k m = by_ticks (CodedTicks v n) k _ v n (meant_of_lem (CodedTicks v n) k m).0 (meant_of_lem (CodedTicks v n) k m).1
-    tracks_walked (CodedSoak v n) k m = by_ticks (CodedSoak v n) k _ v n (meant_of_lem (CodedSoak v n) k m).0 (meant_of_lem (CodedSoak v n) k m).1
+    tracks_walked (CodedTicks v n) k m =
+        by_ticks (CodedTicks v n) k _ v n (meant_of_lem (CodedTicks v n) k m).0 (meant_of_lem (CodedTicks v n) k m).1
+    tracks_walked (CodedSoak v n) k m =
+        by_ticks (CodedSoak v n) k _ v n (meant_of_lem (CodedSoak v n) k m).0 (meant_of_lem (CodedSoak v n) k m).1
     tracks_walked (CodedWires n) k m = absurd (true≢false (sym (meant_of_lem (CodedWires n) k m).1))

@@ -87,7 +87,8 @@ two_back (v ∷ []) h = absurd (omega arith)
 two_back (v ∷ w ∷ []) h = refl
 two_back (v ∷ w ∷ x ∷ vs) h = absurd (omega arith)
 
-six_back : (vs : List ℤ) → length vs ≡ 6 → value_at vs 0 ∷ value_at vs 1 ∷ value_at vs 2 ∷ value_at vs 3 ∷ value_at vs 4 ∷ value_at vs 5 ∷ [] ≡ vs
+six_back : (vs : List ℤ) → length vs ≡ 6
+    → value_at vs 0 ∷ value_at vs 1 ∷ value_at vs 2 ∷ value_at vs 3 ∷ value_at vs 4 ∷ value_at vs 5 ∷ [] ≡ vs
 six_back [] h = absurd (omega arith)
 six_back (a ∷ []) h = absurd (omega arith)
 six_back (a ∷ b ∷ []) h = absurd (omega arith)
@@ -140,7 +141,8 @@ repeat_backs kind vs f most h k v =
     cond_backs kind vs (eqb (length vs) 2) _ _
     (λ l. cond_backs kind vs (ticks_fit most (value_at vs 0) (nat_at vs 1)) _ _
     (λ t.
-    let m : nat_at vs 1 ≤ most = leb-true _ most (and_right (sense_fits (value_at vs 0) && leb 1 (nat_at vs 1)) (leb (nat_at vs 1) most) t) in
+    let m : nat_at vs 1 ≤ most =
+        leb-true _ most (and_right (sense_fits (value_at vs 0) && leb 1 (nat_at vs 1)) (leb (nat_at vs 1) most) t) in
     whole_backs kind vs (f (value_at vs 0) (nat_at vs 1))
     (record {
       kind_same = k (value_at vs 0) (nat_at vs 1);
@@ -251,7 +253,8 @@ module _ (vs : List ℤ) (l : length vs ≡ 6) (o : nat_at vs 4 ≤ 255) where
 
     offset_is : pos (byte_of (nat_at vs 4)) ≡ value_at vs 4
     unfolding byte_of
-    offset_is = ap (λ (t : Bool). pos (cond t (nat_at vs 4) 255)) (le-leb (nat_at vs 4) 255 o) ∙ nat_back (value_at vs 4) 255 (omega arith) o
+    offset_is = ap (λ (t : Bool). pos (cond t (nat_at vs 4) 255)) (le-leb (nat_at vs 4) 255 o)
+        ∙ nat_back (value_at vs 4) 255 (omega arith) o
 
     floor_is : pos floor ≡ value_at vs 5
     floor_is =
@@ -419,7 +422,8 @@ module _ (kind part : ℕ) (vs : List ℤ) (rest : List ℕ) where
   by_payload : (p : Payload) → event_by kind part vs ≡ p → (bytes : List ℕ) → meant_by (part_by part) vs p ≡ gives bytes
       → named_said (stands_by kind part) (bytes ++ rest) ≡ gives (naming kind vs)
   by_payload (Whole e) w bytes g =
-      by_refusal e w (refusal_for e (counts_by e vs) (part_by part)) refl bytes (eqb (refusal_for e (counts_by e vs) (part_by part)) 0) refl g
+      by_refusal e w (refusal_for e (counts_by e vs) (part_by part)) refl bytes (eqb (refusal_for e (counts_by e vs) (part_by part)) 0) refl
+      g
   by_payload (Unfit n) w bytes g = absurd (let z : ◌≡◌ {A = ℕ} 0 1 = cc in omega arith)
 
   -- what is written is read back, whatever follows it

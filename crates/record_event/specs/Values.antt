@@ -44,7 +44,8 @@ part_by part = cond (leb part 3) part 0
 
 -- SETUP's part is its own; of another kind 1 comes first where the part is none
 unfoldable pub event_by : ℕ → ℕ → List ℤ → Payload
-event_by kind part vs = cond (eqb kind SETUP) (setup_by vs) (cond (eqb (part_by part) 0) (Unfit BAD_SETUP) (later_by kind (part_by part) vs))
+event_by kind part vs =
+    cond (eqb kind SETUP) (setup_by vs) (cond (eqb (part_by part) 0) (Unfit BAD_SETUP) (later_by kind (part_by part) vs))
 
 -- the counts beside it: 15 places, each of 16 bits
 abbrev pub count_of : ℤ → ℕ

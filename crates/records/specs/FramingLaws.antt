@@ -114,7 +114,8 @@ never e k q = absurd (true≢false (ap is_whole q))
 
 setup_unfit : (b : List ℕ) (k : ℕ) → setup_in b ≡ Unfit k → k ≡ 0 → ⊥
 unfolding setup_in
-setup_unfit b k h z = by (eqb (length b) 7) (checked_of (get_or b 0 0) (get_or b 1 0) (get_or b 2 0) (get_or b 3 0) (get_or b 4 0) (le16 b 5)) h
+setup_unfit b k h z =
+    by (eqb (length b) 7) (checked_of (get_or b 0 0) (get_or b 1 0) (get_or b 2 0) (get_or b 3 0) (get_or b 4 0) (le16 b 5)) h
   where
     by : (t : Bool) (x : Checked) → cond t (checked_in x) (Unfit 2) ≡ Unfit k → ⊥
     by true (Good v) q = never (Setup v) k q

@@ -95,11 +95,13 @@ bare_of x k b h = sized k 0 b (Whole x) (whole x k h)
 
 counted_of : (x : Event) (k n : ℕ) (b : List ℕ) → kind x ≡ k → Of k (2 * n) b (counted_in x n b)
 unfolding counted_in
-counted_of x k n b h = sized k (2 * n) b (cond (within count_most (words b)) (Whole x) (Unfit 3)) (valued (within count_most (words b)) x k h)
+counted_of x k n b h =
+    sized k (2 * n) b (cond (within count_most (words b)) (Whole x) (Unfit 3)) (valued (within count_most (words b)) x k h)
 
 sense_of_lem : (b : List ℕ) → Of 0x0006 4 b (sense_in b)
 unfolding sense_of
-sense_of_lem b = sized 0x0006 4 b (sense_of (le32 b 0)) (valued (sense_fits (signed32 (le32 b 0))) (Sense (signed32 (le32 b 0))) 0x0006 refl)
+sense_of_lem b = sized 0x0006 4 b (sense_of (le32 b 0))
+    (valued (sense_fits (signed32 (le32 b 0))) (Sense (signed32 (le32 b 0))) 0x0006 refl)
 
 ticks_of_lem : (b : List ℕ) → Of 0x0014 6 b (ticks_in b)
 unfolding repeat_of

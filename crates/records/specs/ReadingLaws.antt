@@ -34,7 +34,8 @@ placed_by part r false true et eu = simp (et, eu) tt
 placed_by part r false false et eu =
     let a : 4 ≤ length r = ltb-false _ _ et in
     let b : le16 r 0 ≤ length r - 4 = ltb-false _ _ eu in
-    simp (et, eu) (placed_as (length r) (4 + le16 r 0) (payload_of (le16 r 2) part (take (le16 r 0) (drop 4 r))) (omega arith) (omega arith))
+    simp (et, eu) (placed_as (length r) (4 + le16 r 0) (payload_of (le16 r 2) part (take (le16 r 0) (drop 4 r))) (omega arith)
+    (omega arith))
 
 pub placed : (part : ℕ) (r : List ℕ) → Placed (length r) (read_of part r)
 placed part r = placed_by part r (ltb (length r) 4) (ltb (length r - 4) (le16 r 0)) refl refl

@@ -180,4 +180,5 @@ abbrev pub taken_from : ℕ → List ℕ → Read → Taken
 taken_from at r x = record { read = place_moved at x; counts = counts_beside r x }
 
 unfoldable pub taken_at : ℕ → List ℕ → ℕ → Taken
-taken_at part s at = cond (ltb (length s) at) (record { read = Cut; counts = no_counts }) (taken_from at (drop at s) (read_of part (drop at s)))
+taken_at part s at =
+    cond (ltb (length s) at) (record { read = Cut; counts = no_counts }) (taken_from at (drop at s) (read_of part (drop at s)))

@@ -1,2 +1,1 @@
-pub mod GrownLaws
 pub mod PiecesLaws

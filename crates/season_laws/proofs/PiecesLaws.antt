@@ -42,8 +42,7 @@ use Rattle.season_walk.specs.PiecesLaws.{range_from, lacks_from}
 use Rattle.season_c.specs.Calls.{grown_on, grow_said, grow_answer, kept_bytes, Grows}
 use Rattle.season_c.specs.CallsLaws.{same_grown, season_grown}
 use Rattle.season_c.specs.BytesLaws.{zero_report}
-use Rattle.season_laws.specs.GrownLaws.{Gave, none_yet, of_scans, grown_by, grown_as, grown_in_two}
-use Rattle.season_laws.proofs.GrownLaws.{gave_on, refused_some}
+use Rattle.season_laws.specs.GrownLaws.{Gave, none_yet, of_scans, grown_by, grown_as, gave_on, refused_some, grown_in_two}
 
 -- ── a buffer that keeps a report, or none yet ──
 pub record Holds (b : List ℕ) (r : Reported) : Type 0 where
@@ -228,7 +227,8 @@ grown_in_pieces {r = r} {c = c} {o = o} h q ws (more b k a old m n b' k' old' ps
 -- THE SEASON OF A STREAM IN PIECES: from zeroed buffers on, the report at the end is the stream's
 module _ {b k : List ℕ} {ps : List (List ℕ)} {end kept : List ℕ} {season : Season} (room : 309 ≤ length b)
     (z : take 309 b ≡ replicate 309 0) (q : Keeps k none false) (ws : WholePieces false none ps) (u : Grown b k ps end kept) (s : List ℕ)
-    (e : season_said (joined ps ++ s) ≡ gives season) {x : ℤ} {new : List ℕ} (f : Grows (grow_said (kept_of end) (chip_of kept) s) end x new)
+    (e : season_said (joined ps ++ s) ≡ gives season) {x : ℤ} {new : List ℕ}
+        (f : Grows (grow_said (kept_of end) (chip_of kept) s) end x new)
   where
     said : grow_said (kept_of b) (chip_of k) (joined ps ++ s) ≡ gives season
     said =

@@ -35,7 +35,8 @@ pair_stays a v s h =
     (λ e. refl) (λ e. refl) (λ e. refl) refl
 
 -- by (0,1) and then (1,0) it ships
-pub then_ships : (v w : ℕ) (s : Settings) → s.shut_b ≡ false → is_shut_a v ≡ false → is_shut_b v ≡ true → is_shut_a w ≡ true → is_shut_b w ≡ false
+pub then_ships : (v w : ℕ) (s : Settings) → s.shut_b ≡ false → is_shut_a v ≡ false → is_shut_b v ≡ true → is_shut_a w ≡ true
+    → is_shut_b w ≡ false
     → ships 0x04 w (settings_with 0x04 v s) ≡ true
 unfolding settings_with
 then_ships v w s n a b c d = simp (n, a, b, c, d)

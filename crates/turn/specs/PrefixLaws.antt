@@ -193,7 +193,8 @@ prefix (one_more o c b p l w) f s =
     ∙ prefix w f s))
 
 -- each record takes a byte at least
-turned_past : (o : Bool) (c : Chip) (p : List ℕ) (x : Read) → Placed (length p) x → (turned o c p x).last ≡ false → 1 ≤ (turned o c p x).next
+turned_past : (o : Bool) (c : Chip) (p : List ℕ) (x : Read) → Placed (length p) x → (turned o c p x).last ≡ false
+    → 1 ≤ (turned o c p x).next
 turned_past o c p (Record e next) g l = omega (arith, g.0)
 turned_past o c p (Refused k next) g l = omega (arith, g.0)
 turned_past o c p Cut g l = let z : ◌≡◌ {A = ℕ} 0 1 = cc in absurd (omega arith)

@@ -65,7 +65,8 @@ module _ (code offset many : ℕ) (counts : List ℕ) where
   short i h k = rw length-take (omega arith)
 
   -- no cell is below the least or above the greatest
-  pub least_below : (i : ℕ) → i < many → i < length counts → least_of code offset many counts ≤ℤ cell_microvolts code offset (get_or counts i 0)
+  pub least_below : (i : ℕ) → i < many → i < length counts
+      → least_of code offset many counts ≤ℤ cell_microvolts code offset (get_or counts i 0)
   least_below i h k =
       subst (λ (n : ℕ). least_of code offset many counts ≤ℤ cell_microvolts code offset n) (get_or-take many counts i 0 h)
       (bounds lesser (λ a b. a ≤ℤ b) trans lesser_le (first_of code offset counts) (cell_microvolts code offset) (take many counts) i

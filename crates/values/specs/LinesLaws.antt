@@ -32,7 +32,8 @@ pub die_line : (n : ℕ) → die_temperature n +ℤ pos (177 * n) ≡ pos 680000
 die_line n = -ℤ-+ℤ_cancel (pos 680000) (pos (177 * n))
 
 -- ── refusals: code 32 is the first that is 1, count 16,384 the first that is 3, 9,323 the first that is 7; 1 before 3 ──
-pub cell_given : (code offset count : ℕ) → code ≤ 31 → count ≤ 16383 → cell_said code offset count ≡ gives (cell_microvolts code offset count)
+pub cell_given : (code offset count : ℕ) → code ≤ 31 → count ≤ 16383
+    → cell_said code offset count ≡ gives (cell_microvolts code offset count)
 unfolding cell_said
 cell_given code offset count c n = simp (le-ltb 31 code c, le-ltb 16383 count n)
 
@@ -41,7 +42,8 @@ pub cell_refused : (code offset count : ℕ) → (32 ≤ code → cell_said code
 unfolding cell_said
 cell_refused code offset count = (λ c. simp (lt-ltb 31 code c), λ c n. simp (le-ltb 31 code c, lt-ltb 16383 count n))
 
-pub die_said_lem : (count : ℕ) → (count ≤ 16383 → die_said count ≡ gives (die_temperature count)) × (16384 ≤ count → die_said count ≡ refuses 3)
+pub die_said_lem : (count : ℕ)
+    → (count ≤ 16383 → die_said count ≡ gives (die_temperature count)) × (16384 ≤ count → die_said count ≡ refuses 3)
 unfolding die_said
 die_said_lem count = (λ n. simp (le-ltb 16383 count n), λ n. simp (lt-ltb 16383 count n))
 

@@ -148,16 +148,19 @@ inside_next s b g h = by (read_of c.setup.part r) refl (placed c.setup.part r)
     l : length r ≡ length s - g.at
     l = length-drop g.at s
 
-    by : (x : Read) → read_of c.setup.part r ≡ x → Placed (length r) x → Inside s (past (length s) (turned g.fresh c r x) (says_read b c r x) g)
+    by : (x : Read) → read_of c.setup.part r ≡ x → Placed (length r) x
+        → Inside s (past (length s) (turned g.fresh c r x) (says_read b c r x) g)
     by (Record e next) q p =
         let m : (event_says b c e (counts_beside r (Record e next))).many ≤ more = record_many b c r e next q in
-        let k = streak_most (event_says b c e (counts_beside r (Record e next))) (turned g.fresh c r (Record e next)).chip.normal g.streak in
+        let k = streak_most (event_says b c e (counts_beside r (Record e next))) (turned g.fresh c r (Record e next)).chip.normal
+            g.streak in
         (omega (arith, h.0, p.1, l), omega (arith, h.1, p.0, m, k))
     by (Refused k next) q p =
         let n = streak_most says_none c.normal g.streak in
         refused (eqb c.setup.part 0)
       where
-        refused : (t : Bool) → (cond t (length s) (g.at + next) ≤ length s) × (streak_after says_none c.normal g.streak ≤ more * cond t (length s) (g.at + next))
+        refused : (t : Bool) → (cond t (length s) (g.at + next) ≤ length s)
+            × (streak_after says_none c.normal g.streak ≤ more * cond t (length s) (g.at + next))
         refused true = (omega arith, omega (arith, h.0, h.1, streak_most says_none c.normal g.streak))
         refused false = (omega (arith, h.0, p.1, l), omega (arith, h.1, streak_most says_none c.normal g.streak))
     by Cut q p = (omega arith, omega (arith, h.0, h.1, streak_most says_none c.normal g.streak))
@@ -201,7 +204,8 @@ none_next s g h =
       arith,
       h,
       none_read g.chip (drop g.at s) (read_of g.chip.setup.part (drop g.at s)),
-      streak_most (says_read 0 g.chip (drop g.at s) (read_of g.chip.setup.part (drop g.at s))) (turn_of g.fresh g.chip (drop g.at s)).chip.normal g.streak,
+      streak_most (says_read 0 g.chip (drop g.at s) (read_of g.chip.setup.part (drop g.at s)))
+          (turn_of g.fresh g.chip (drop g.at s)).chip.normal g.streak,
     )
 
 none_streak : (s : List ℕ) (n : ℕ) → (standing_at s 0 n).streak ≡ 0
@@ -233,7 +237,8 @@ stood_inside s b d (suc n) f =
     Good g = (g.at ≤ length s) × (g.streak < 2 ^ 63)
 
     by : (t : Bool) → ((risen s b d n).stood.at ≤ length s) × ((risen s b d n).stood.streak < 2 ^ 63)
-        → ((cond t (risen s b d n).last (risen s b d n).stood).at ≤ length s) × ((cond t (risen s b d n).last (risen s b d n).stood).streak < 2 ^ 63)
+        → ((cond t (risen s b d n).last (risen s b d n).stood).at ≤ length s)
+        × ((cond t (risen s b d n).last (risen s b d n).stood).streak < 2 ^ 63)
     by true h = subst (λ (g : Standing). (g.at ≤ length s) × (g.streak < 2 ^ 63)) (sym (last_is s b d n)) ((inside s b n).0, f n)
     by false h = h
 
@@ -246,7 +251,8 @@ rose_known s b d (suc n) f h = by (is_such b d (risen s b d n).last) (rose_known
     up : is_such b d (advanced s b (risen s b d n).last) ≡ true
     up = h
 
-    by : (t : Bool) → (t ≡ true → (risen s b d n).rose < n) → cond (is_such b d (advanced s b (risen s b d n).last) && not t) n (risen s b d n).rose < suc n
+    by : (t : Bool) → (t ≡ true → (risen s b d n).rose < n)
+        → cond (is_such b d (advanced s b (risen s b d n).last) && not t) n (risen s b d n).rose < suc n
     by true i = subst (λ (u : Bool). cond (u && false) n (risen s b d n).rose < suc n) (sym up) (omega (arith, i refl))
     by false i = subst (λ (u : Bool). cond (u && true) n (risen s b d n).rose < suc n) (sym up) (omega arith)
 

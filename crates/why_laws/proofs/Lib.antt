@@ -1,2 +1,3 @@
+pub mod FirstLaws
 pub mod RiseLaws
 pub mod WhyLaws

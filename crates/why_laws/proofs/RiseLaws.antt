@@ -119,7 +119,8 @@ module _ (s : List ℕ) (b n : ℕ) (z : b ≢ 0) (h : n < length (entries s)) (
 
   is_so : is_such b 0 (standing_at s b (suc n)) ≡ true
   is_so = such_shown s b 0 n h
-      ∙ ap (λ (t : Bool). cond t (not (bit (get_or (entries s) n no_entry).pins 0)) (bit (get_or (entries s) n no_entry).stat b)) (ne_eqb b 0 z)
+      ∙ ap (λ (t : Bool). cond t (not (bit (get_or (entries s) n no_entry).pins 0)) (bit (get_or (entries s) n no_entry).stat b))
+      (ne_eqb b 0 z)
       ∙ up
 
   by_came : Came s b 0 (suc n) found → RoseAt s b 0 n found.rose × (found.stood ≡ standing_at s b found.rose)

@@ -44,7 +44,8 @@ use Rattle.why_laws.specs.RiseLaws.{shown_in, RoseAt}
 use Rattle.why_laws.proofs.RiseLaws.{bit_rose, bit_stood}
 use Rattle.why_laws.specs.StreakLaws.{says_bare}
 use Rattle.why_laws.specs.AlongLaws.{says_in_lem, Along, along, heard_next_lem}
-use Rattle.why_laws.specs.FirstLaws.{FirstOf, first_is}
+use Rattle.why_laws.specs.FirstLaws.{FirstOf}
+use Rattle.why_laws.proofs.FirstLaws.{first_is}
 use Rattle.why_laws.specs.DueLaws.{RisesAt, RisesIn, rises_in, alike_by, meant_alike}
 use Rattle.why_laws.specs.InputLaws.{Names, single, of_member, only_scan, names_scan}
 
@@ -134,7 +135,8 @@ module _ (s : List ℕ) (u : SetupValues) (next : ℕ) (first : read_of 0 s ≡ 
         → Named n r (Record e m) past
     unfolding event_says
     named_scan n r past e m q =
-        subst (λ (e : Coded). counts_fit (counts_wanted u e) (counts_beside r (Record e m)) ≡ true → RisesIn u k (events_of r (Record e m)) past
+        subst (λ (e : Coded). counts_fit (counts_wanted u e) (counts_beside r (Record e m)) ≡ true
+            → RisesIn u k (events_of r (Record e m)) past
         → Named n r (Record e m) past) (sym q)
         (λ f g.
         let c : Counts = counts_beside r (Record Scan m) in

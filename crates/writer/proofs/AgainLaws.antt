@@ -108,7 +108,8 @@ module _ (b : List ℕ) (h : Bytes b) where
   first_same p c a g o f false e l = simp e tt
 
 -- seven bytes, as SETUP has them
-seven_forth : (b : List ℕ) → length b ≡ 7 → Bytes b → get_or b 0 0 ∷ get_or b 1 0 ∷ get_or b 2 0 ∷ get_or b 3 0 ∷ get_or b 4 0 ∷ bytes16 (le16 b 5)
+seven_forth : (b : List ℕ) → length b ≡ 7 → Bytes b
+    → get_or b 0 0 ∷ get_or b 1 0 ∷ get_or b 2 0 ∷ get_or b 3 0 ∷ get_or b 4 0 ∷ bytes16 (le16 b 5)
     ≡ b
 seven_forth [] l h = absurd (omega arith)
 seven_forth (x ∷ b) l h = ap (λ (l : List ℕ). x ∷ l) (six b (omega arith) (byte_rest x b h))
