@@ -6,7 +6,7 @@ use Rattle.std.proofs.Common.{sym, ap, ◌∙◌, arith}
 use Rattle.std.proofs.Math.Bool.{true, false}
 use Rattle.std.proofs.Math.Dec.{T, ltb}
 use borrow.Author.Tests.{ltb-true, ltb-false}
-use Rattle.bleed.specs.Choice.{excess_in, may_in, better_in, best_below, best_in, chosen, number, allowed, total}
+use Rattle.bleed.specs.Choice.{excess_in, may_in, better_in, best_below, best_in, chosen, number, allowed, total, made}
 use Rattle.bleed.specs.declared.Choice.{Choice}
 
 -- ── a group ──
@@ -136,9 +136,6 @@ chosen_best e =
     }
 
 -- each byte of an allowed choice has five bits, so that its number tells it
-abbrev pub made : ℕ → ℕ → ℕ → Choice
-made a b c = record { one = a; two = b; three = c }
-
 neither : (x y : ℕ) → (x < y → ⊥) → (y < x → ⊥) → x ≡ y
 neither x y f g = by (ltb x y) (ltb y x) refl refl
   where

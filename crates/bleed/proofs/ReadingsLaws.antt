@@ -10,8 +10,8 @@ use Rattle.std.proofs.Math.Dec.{ltb}
 use borrow.Author.Tests.{ltb-true, ltb-false, leb-true}
 use Rattle.bits.specs.Bit.{bit, weighed}
 use Rattle.bleed.specs.declared.Choice.{Choice}
-use Rattle.bleed.specs.Choice.{excess_in, may_in, chosen, number, allowed, total}
-use Rattle.bleed.proofs.BestLaws.{chosen_best, made, right_of}
+use Rattle.bleed.specs.Choice.{excess_in, may_in, chosen, number, allowed, total, no_bytes, made}
+use Rattle.bleed.proofs.BestLaws.{chosen_best, right_of}
 use Rattle.bleed.specs.Excess.{linked_at, lower_at, lowest_below, lowest, may_bleed, excess_at}
 
 -- ── the lowest connected cell ──
@@ -130,9 +130,6 @@ nothing e from b h =
     none : (t : Bool) → weighed t 0 ≡ 0
     none true = refl
     none false = refl
-
-abbrev pub no_bytes : Choice
-no_bytes = made 0 0 0
 
 zero_may : (e : List ℕ) → allowed e no_bytes ≡ true
 unfolding allowed may_in

@@ -53,3 +53,10 @@ allowed e c = may_in e 0 c.one && may_in e 5 c.two && may_in e 10 c.three
 
 unfoldable pub total : List ℕ → Choice → ℕ
 total e c = excess_in e 0 c.one + excess_in e 5 c.two + excess_in e 10 c.three
+
+-- a choice by its three bytes, and the one that bleeds nothing
+abbrev pub made : ℕ → ℕ → ℕ → Choice
+made a b c = record { one = a; two = b; three = c }
+
+abbrev pub no_bytes : Choice
+no_bytes = made 0 0 0

@@ -1,5 +1,5 @@
--- CHIP E2: the lowest connected cell, which cells may be bled, and how far each stands above the lowest.
--- Inputs are counted from 0. Assumes nothing.
+-- CHIP E2: the lowest connected cell, which cells may be bled, and how far each stands above the lowest. Inputs are counted from 0. The
+-- laws stand in proofs/Excess. Assumes nothing.
 use Rattle.std.specs.Prelude.{◌≡◌, refl, Bool, true, ◌&&◌, cond, List, [], ◌∷◌, ℕ, zero, suc, ◌+◌, ◌-◌, ◌<◌, leb, ltb, length, get_or}
 use Rattle.std.proofs.Common.{arith, ltb-true}
 use Rattle.bits.specs.Bit.{bit}

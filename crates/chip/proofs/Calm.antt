@@ -17,10 +17,7 @@ use Rattle.chip.specs.declared.Stepped.{Stepped}
 use Rattle.chip.specs.Chip.{with_bus, with_registers, with_runs, in_ship, watched, settled, normally, next}
 use Rattle.chip.specs.Parts.{raised_by}
 use Rattle.chip.proofs.MovesLaws.{next_by, asleep_by}
-
--- the level 1 and SYS_STAT 0 do not stand together
-abbrev pub Calmed : Chip → Type 0
-Calmed c = Calm c.registers
+use Rattle.chip.specs.Calm.{Calmed}
 
 pub ship_calm : (u : Setup) → Calmed (in_ship u)
 ship_calm u = reset_calm

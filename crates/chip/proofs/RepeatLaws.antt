@@ -1,6 +1,6 @@
--- CHIP R8: what ticks of one value leave, said once over their number: m and then n are m + n, they are as many SENSE,
--- and the chip after them has the runs by their number and shows what is due at the last; the outside level is looked at after each, and
--- finds nothing to raise after the first. Assumes nothing.
+-- CHIP R8: what ticks of one value leave, said once over their number: m and then n are m + n, they are as many SENSE, and the chip
+-- after them has the runs by their number and shows what is due at the last; the outside level is looked at after each, and finds
+-- nothing to raise after the first. The words stand in specs/RepeatLaws. Assumes nothing.
 use Rattle.std.specs.Prelude.{◌≡◌, refl, Bool, true, false, cond, ◌&&◌, ℕ, zero, suc, ◌+◌, leb, ℤ}
 use Rattle.std.proofs.Common.{sym, ap, ◌∙◌, true≢false, arith}
 use Rattle.events.specs.declared.Faults.{Faults}
@@ -20,7 +20,8 @@ use Rattle.chip.specs.Chip.{numbered, with_registers, with_runs, watched, settle
 use Rattle.chip.specs.Chip.{ticking, ticked, stepped_as}
 use Rattle.chip.proofs.MovesLaws.{setup-next}
 use Rattle.chip.specs.Parts.{raised_by, tick_parts}
-use Rattle.chip.proofs.Calm.{Calmed, calm_next, calm_tick}
+use Rattle.chip.specs.Calm.{Calmed}
+use Rattle.chip.proofs.Calm.{calm_next, calm_tick}
 use Rattle.chip.specs.RepeatLaws.{ticked_by}
 
 -- ── one tick, by the mode ──

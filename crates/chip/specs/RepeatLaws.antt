@@ -1,6 +1,6 @@
--- CHIP R8: what ticks of one value leave, said once over their number: m and then n are m + n, they are as many SENSE,
--- and the chip after them has the runs by their number and shows what is due at the last; the outside level is looked at after each, and
--- finds nothing to raise after the first. Assumes nothing.
+-- CHIP R8: what ticks of one value leave, said once over their number: m and then n are m + n, they are as many SENSE, and the chip
+-- after them has the runs by their number and shows what is due at the last; the outside level is looked at after each, and finds
+-- nothing to raise after the first. The laws stand in proofs/RepeatLaws. Assumes nothing.
 use Rattle.std.specs.Prelude.{◌≡◌, refl, Bool, true, false, cond, ◌&&◌, ℕ, zero, suc, ◌+◌, leb, ℤ}
 use Rattle.std.proofs.Common.{sym, ap, ◌∙◌, true≢false, arith}
 use Rattle.events.specs.declared.Faults.{Faults}

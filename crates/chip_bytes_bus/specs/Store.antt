@@ -11,7 +11,7 @@ use Rattle.registers.specs.declared.Shown.{Shown}
 use Rattle.registers.specs.Write.{five_of, written}
 use Rattle.chip.specs.declared.Chip.{Chip}
 use Rattle.chip.specs.Chip.{with_registers}
-use Rattle.chip.proofs.Calm.{Calmed}
+use Rattle.chip.specs.Calm.{Calmed}
 use Rattle.chip_bytes_layout.specs.Place.{CELLBAL1, ADC_EN, DELAY_DIS, CC_READY, CC_ONESHOT}
 use Rattle.chip_bytes_layout.specs.Layout.{status_switches, chip_bytes}
 use Rattle.chip_bytes_layout.specs.Did.{chip_here}

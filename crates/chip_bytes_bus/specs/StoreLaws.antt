@@ -17,7 +17,7 @@ use Rattle.registers.specs.State.{alert}
 use Rattle.registers.specs.Write.{status_of, without, driven, five_of, shown_with, cellbal_with, written}
 use Rattle.chip.specs.declared.Chip.{Chip}
 use Rattle.chip.specs.Chip.{with_registers}
-use Rattle.chip.proofs.Calm.{Calmed}
+use Rattle.chip.specs.Calm.{Calmed}
 use Rattle.chip_bytes_layout.specs.Layout.{plain_of, switches_of, words_of, chip_bytes, status_at, shown_at, settings_at, setup_at, chip_at}
 use Rattle.chip_bytes_layout.specs.Did.{chip_here}
 use Rattle.chip_bytes_bus.specs.Store.{stat_in, pair_in, driven_in, cellbal_in, wrote_chip, Wrote}

@@ -8,7 +8,7 @@ use Rattle.bits.specs.Numbers.{word_bytes}
 use Rattle.registers.specs.declared.Shown.{Shown}
 use Rattle.chip.specs.declared.Chip.{Chip}
 use Rattle.chip.specs.Chip.{numbered, normally}
-use Rattle.chip.proofs.Calm.{Calmed}
+use Rattle.chip.specs.Calm.{Calmed}
 use Rattle.chip_bytes_layout.specs.Place.{CELLBAL1, CC_READY, XREADY, OVRD_ALERT, CC_ONESHOT, DSG_ON, WORDS, CC, TS1}
 use Rattle.chip_bytes_layout.specs.Layout.{chip_bytes, good_of}
 use Rattle.chip_bytes_layout.specs.declared.Done.{Done}

@@ -24,7 +24,7 @@ use Rattle.registers.specs.Judging.{ts_kept, ts_of, warmed, coulombs, pulled, un
 use Rattle.registers.specs.LevelLaws.{pulled_calm, unready_calm, coulombs_calm}
 use Rattle.chip.specs.declared.Chip.{Chip}
 use Rattle.chip.specs.Chip.{numbered, with_registers, normally}
-use Rattle.chip.proofs.Calm.{Calmed}
+use Rattle.chip.specs.Calm.{Calmed}
 use Rattle.chip_bytes_layout.specs.Place.{FRESH}
 use Rattle.chip_bytes_layout.specs.Layout.{listed, plain_of, switches_of, words_of, chip_bytes}
 use Rattle.chip_bytes_layout.specs.Layout.{switch_at, setup_at, status_at, shown_at, chip_at, good_of, chip_of}

@@ -14,7 +14,7 @@ use Rattle.registers.specs.State.{with_shown, with_measured}
 use Rattle.protection.specs.declared.Runs.{Runs}
 use Rattle.chip.specs.declared.Chip.{Chip}
 use Rattle.chip.specs.Chip.{numbered, with_registers, with_runs, normally}
-use Rattle.chip.proofs.Calm.{Calmed}
+use Rattle.chip.specs.Calm.{Calmed}
 use Rattle.chip_bytes_layout.specs.Place.{FRESH, OV_LOW}
 use Rattle.chip_bytes_layout.specs.Layout.{plain_of, switches_of, words_of, chip_bytes, listed, switch_at, chip_at, good_of, chip_of}
 use Rattle.chip_bytes_layout.specs.ListedLaws.{listed_all}

@@ -15,7 +15,8 @@ use Rattle.registers.specs.State.{alert}
 use Rattle.chip.specs.declared.Chip.{Chip}
 use Rattle.chip.specs.declared.Stepped.{Stepped}
 use Rattle.chip.specs.Chip.{normally, asleep, settled, happened}
-use Rattle.chip.proofs.Calm.{Calmed, settles}
+use Rattle.chip.specs.Calm.{Calmed}
+use Rattle.chip.proofs.Calm.{settles}
 use Rattle.chip_bytes_layout.specs.Place.{PART}
 use Rattle.chip_bytes_layout.specs.Layout.{plain_of, switches_of, words_of, chip_bytes, switch_at, shown_at, chip_at, formed}
 use Rattle.chip_bytes_layout.specs.Layout.{setup_stands, level_stands, fresh_stands, could_stand}

@@ -5,8 +5,7 @@ use Rattle.bits.specs.Bit.{bit, weighed}
 use Rattle.events.specs.Setup.{inputs}
 use Rattle.wiring.specs.Rows.{connected}
 use Rattle.bleed.specs.declared.Choice.{Choice}
-use Rattle.bleed.specs.Choice.{number}
-use Rattle.bleed.proofs.ReadingsLaws.{no_bytes}
+use Rattle.bleed.specs.Choice.{number, no_bytes}
 use Rattle.chip.specs.declared.Chip.{Chip}
 use Rattle.chip_voltage.specs.Care.{cells_of}
 

@@ -7,7 +7,8 @@ use Rattle.std.proofs.Math.Seq.{take-length}
 use Rattle.events.specs.declared.Setup.{Setup}
 use Rattle.wiring.specs.Rows.{wired_inputs, pack_cells, input_of, connected}
 use Rattle.wiring.specs.Kept.{picked}
-use Rattle.wiring.proofs.LinkedLaws.{those, linked_those}
+use Rattle.wiring.specs.Linked.{those}
+use Rattle.wiring.proofs.LinkedLaws.{linked_those}
 use Rattle.constants.specs.Answer.{gives, refuses as refused_with}
 use Rattle.values.specs.Values.{cell_microvolts}
 use Rattle.values.specs.declared.Reading.{Reading as ReadingValues}

@@ -33,14 +33,14 @@ use Rattle.bits.specs.BoolLaws.{and_left, and_right}
 use Rattle.chip.specs.declared.Chip.{Chip}
 use Rattle.chip.specs.declared.Stepped.{Stepped}
 use Rattle.chip.specs.Chip.{numbered, answered, in_ship, on_bus, settled, normally, asleep, happened, stepped, next, ticking, stepped_as}
-use Rattle.chip.proofs.Calm.{Calmed, ship_calm}
+use Rattle.chip.specs.Calm.{Calmed}
+use Rattle.chip.proofs.Calm.{ship_calm}
 use Rattle.chip.proofs.RepeatLaws.{ticking_mode}
 use Rattle.turn.specs.Turn.{wired_as, acted}
 use Rattle.turn.specs.CalmLaws.{acted_calm}
 use Rattle.demands.specs.Refused.{refused_as}
 use Rattle.demands.specs.Spoiled.{Sort, for_chips, for_resets, for_frames, for_sends, for_takes, sort_of, is_sends, waiting, Mode}
-use Rattle.demands.specs.Spoiled.{frame_whole, frame_open, frame_lost}
-use Rattle.demands.specs.Spoiled.{drops, then, phased}
+use Rattle.demands.specs.Spoiled.{frame_whole, frame_open, frame_lost, drops, then, phased}
 use Rattle.demands.proofs.NoTrace.{denied}
 use Rattle.demands.specs.Opened.{mapped, apart, bus_still, reset_is, opens}
 use Rattle.demands.specs.Dropped.{bus_sort, code_sort, sort_in, answer_in, fresh_in, sort_at, answer_at, fresh_at, spoiled_at, stay}

@@ -14,7 +14,8 @@ use Rattle.protection.specs.Fault.{run_of}
 use Rattle.limits.specs.Rule.{cap, rule, opinion}
 use Rattle.chip.specs.Core.{core_of, core_next}
 use Rattle.chip.proofs.MovesLaws.{normal_is, setup-next, core_next_lem}
-use Rattle.chip.proofs.Calm.{Calmed, ship_calm, calm_next}
+use Rattle.chip.specs.Calm.{Calmed}
+use Rattle.chip.proofs.Calm.{ship_calm, calm_next}
 use Rattle.demands.specs.Demand.{judges, chip, up, core, Awake, Accepted, said, verdicts, delay}
 use Rattle.demands.specs.Told.{run_of_lem, heard, Told, next_told, accepted_judged, judging, rising}
 

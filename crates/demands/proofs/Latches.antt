@@ -1,6 +1,6 @@
 -- CHIP H5 and H6, the latch of every bit of SYS_STAT: a bit that is up stays up, keeps ALERT up and the drives that it puts off off;
--- OVRD_ALERT and XREADY put off both. A write of a one lowers a bit, but OVRD_ALERT only where the outside level is 0 (CHIP L3). Assumes
--- nothing.
+-- OVRD_ALERT and XREADY put off both. A write of a one lowers a bit, but OVRD_ALERT only where the outside level is 0 (CHIP L3). The
+-- words stand in specs/Latches. Assumes nothing.
 use Rattle.std.specs.Prelude.{◌≡◌, Bool, true, false, not, ◌&&◌, ◌||◌, cond, ℕ, eqb}
 use Rattle.std.proofs.Math.Path.{refl}
 use Rattle.std.proofs.Common.{sym, ap, subst, ◌∙◌, true≢false, eqb-true}
@@ -34,7 +34,6 @@ use Rattle.demands.proofs.Theorem.{asked_since}
 use Rattle.demands.specs.Latch.{Keeps, next_keeps, alert_up, or_left, or_right, cut, by_cond, when_true, wrote_asleep}
 use Rattle.demands.specs.Latch.{wrote_unfit}
 use Rattle.demands.specs.Latches.{StatusBit, cc_ready_bit, fault_bit, ovrd_alert_bit, xready_bit, driven_at, holds_up}
-
 
 abbrev pub bit_at : StatusBit → Status → Bool
 bit_at cc_ready_bit t = t.cc_ready

@@ -12,12 +12,12 @@ use Rattle.bus.specs.Bus.{checked, outed, taken, byte_given, owing, refuses, sto
 use Rattle.chip.specs.declared.Chip.{Chip}
 use Rattle.chip.specs.declared.Stepped.{Stepped}
 use Rattle.chip.specs.Chip.{numbered, answered, in_ship, sent, on_bus, settled, stepped, next}
-use Rattle.chip.proofs.Calm.{Calmed, ship_calm, calm_next, settles}
+use Rattle.chip.specs.Calm.{Calmed}
+use Rattle.chip.proofs.Calm.{ship_calm, calm_next, settles}
 use Rattle.demands.specs.Demand.{chip}
 use Rattle.demands.proofs.History.{calm_is}
 use Rattle.demands.specs.Spoiled.{Sort, for_chips, for_resets, for_frames, for_sends, for_takes, sort_of, waiting, spoiled, Mode}
-use Rattle.demands.specs.Spoiled.{frame_whole, frame_open, frame_lost}
-use Rattle.demands.specs.Spoiled.{then, phased, seen_of, seen, played, remains, remained}
+use Rattle.demands.specs.Spoiled.{frame_whole, frame_open, frame_lost, then, phased, seen_of, seen, played, remains, remained}
 use Rattle.demands.specs.Opened.{mapped, apart, bus_is, bus_still, reset_is, spoiled_waits, spoiled_on, spoiled_out, opens}
 
 -- ── the three ways through a stream ──

@@ -21,7 +21,7 @@ use Rattle.registers.specs.Judging.{pulled_at}
 use Rattle.protection.specs.Runs.{risen}
 use Rattle.chip.specs.declared.Chip.{Chip}
 use Rattle.chip.specs.Chip.{on_bus, normally, next}
-use Rattle.chip.proofs.Calm.{Calmed}
+use Rattle.chip.specs.Calm.{Calmed}
 use Rattle.chip.specs.Core.{core_of}
 use Rattle.chip.proofs.MovesLaws.{next_by, stored_by, asleep_by}
 use Rattle.demands.specs.Demand.{wrote, chip, core, shown, standing, outside}

@@ -15,7 +15,8 @@ use Rattle.bus.specs.Bus.{addressed, fed, checked, line_of, outed, grown, goes, 
 use Rattle.bus.proofs.Laws.{wrong_crc}
 use Rattle.chip.specs.declared.Chip.{Chip}
 use Rattle.chip.specs.Chip.{answered, line_moved, stored_at, stored, sent, watched, settled, stepped, next}
-use Rattle.chip.proofs.Calm.{Calmed, calm_watched, settles}
+use Rattle.chip.specs.Calm.{Calmed}
+use Rattle.chip.proofs.Calm.{calm_watched, settles}
 use Rattle.chip.proofs.MovesLaws.{normal_is}
 
 -- events as they come, oldest first

@@ -9,7 +9,7 @@ use Rattle.bus.specs.declared.Phase.TheVariants.{Address, Reading}
 use Rattle.bus.specs.Bus.{line_of, outed, addressed, taken, byte_given, owing, after_data, keeps, goes}
 use Rattle.chip.specs.declared.Chip.{Chip}
 use Rattle.chip.specs.Chip.{line_moved, reads, on_bus, watched, stepped, next}
-use Rattle.chip.proofs.Calm.{Calmed}
+use Rattle.chip.specs.Calm.{Calmed}
 use Rattle.chip.proofs.MovesLaws.{normal_is}
 use Rattle.demands.specs.Checked.{ran, one_start, one_goes}
 

@@ -17,7 +17,8 @@ use Rattle.chip.specs.declared.Chip.{Chip}
 use Rattle.chip.specs.declared.Stepped.{Stepped}
 use Rattle.chip.specs.Chip.{numbered, in_ship, stored, on_bus, watched, settled, normally, asleep, happened, stepped, next}
 use Rattle.chip.proofs.MovesLaws.{normal_is, stored_by}
-use Rattle.chip.proofs.Calm.{Calmed, calm_watched, settles}
+use Rattle.chip.specs.Calm.{Calmed}
+use Rattle.chip.proofs.Calm.{calm_watched, settles}
 use Rattle.demands.specs.Spoiled.{for_chips, sort_of, is_sends, checks, waiting, spoiled, phased}
 
 -- ── the phase apart, a chip event does the same ──

@@ -12,7 +12,7 @@ use mir.Val.{to_z}
 use mir.Facts.{to_z_pos}
 use borrow.Author.Tests.{ltb-true, ltb-false, lt-ltb, le-ltb, lt-leb, le-leb}
 use Rattle.chip.specs.declared.Chip.{Chip}
-use Rattle.chip.proofs.Calm.{Calmed}
+use Rattle.chip.specs.Calm.{Calmed}
 use Rattle.stream_run.specs.declared.Left.{Left}
 use Rattle.stream_run.specs.Stream.{Ran}
 use Rattle.turn.specs.Frames.{frames_from}

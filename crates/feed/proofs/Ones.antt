@@ -16,7 +16,7 @@ use Rattle.events.specs.declared.Event.TheVariants.{Scan, Temp, Sense, OnBus, Ti
 use Rattle.events.specs.declared.Setup.{Setup}
 use Rattle.events.specs.declared.Role.TheVariants.{Happens}
 use Rattle.events.specs.Role.{role_of, by_role}
-use Rattle.events.specs.Setup.{groups, inputs}
+use Rattle.events.specs.Setup.{groups, inputs, standing}
 use Rattle.events.specs.Event.{Event as Happening, Meant, means, unfit, event_of, Scan as Scanned, Temp as Warmed, Sense as Ticked}
 use Rattle.events.specs.Event.{OnBus as Signalled}
 use Rattle.records.specs.declared.Payload.{Payload}
@@ -27,13 +27,12 @@ use Rattle.records.specs.ReadingLaws.{Placed, placed}
 use Rattle.records.specs.declared.Framed.TheVariants.{Header}
 use Rattle.records.specs.Frame.{header_of}
 use Rattle.records.specs.SoundLaws.{first_setup, no_setup}
-use Rattle.events.specs.Setup.{standing}
 use Rattle.records.specs.Record.{payload_of, as_read, read_of, counts_in, counts_beside}
 use Rattle.registers.specs.declared.Shown.{Shown}
 use Rattle.chip.specs.declared.Chip.{Chip}
 use Rattle.chip.specs.declared.Stepped.{Stepped}
 use Rattle.chip.specs.Chip.{happened, ticked, happened_as, happened_by}
-use Rattle.chip.proofs.Calm.{Calmed}
+use Rattle.chip.specs.Calm.{Calmed}
 use Rattle.turn.specs.declared.Entry.{Entry}
 use Rattle.turn.specs.Turn.{Turn, acted, stays_fresh, turn, turn_of, entry_of}
 use Rattle.turn.specs.Entries.{runs, stands, stays, entries_from, chip_from, fresh_from, bytes_of}

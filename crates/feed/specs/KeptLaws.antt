@@ -21,12 +21,11 @@ use Rattle.registers.specs.State.{alert}
 use Rattle.chip.specs.declared.Chip.{Chip}
 use Rattle.chip.specs.declared.Stepped.{Stepped}
 use Rattle.chip.specs.Chip.{numbered, in_ship, stepped_as}
-use Rattle.chip.proofs.Calm.{Calmed}
+use Rattle.chip.specs.Calm.{Calmed}
 use Rattle.chip.proofs.RepeatLaws.{setup_as, calm_as}
 use Rattle.demands.specs.Refused.{refused_as}
 use Rattle.turn.specs.Turn.{none, wired_as, acted, turned, turn_of}
-use Rattle.turn.specs.Entries.{stays, chip_from, fresh_from}
-use Rattle.turn.specs.Entries.{stands as ends}
+use Rattle.turn.specs.Entries.{stays, chip_from, fresh_from, stands as ends}
 use Rattle.turn.specs.StandingLaws.{acted_is}
 use Rattle.chip_bytes_layout.specs.Layout.{setup_stands, could_stand}
 use Rattle.chip_bytes_layout.proofs.TripLaws.{Sized}

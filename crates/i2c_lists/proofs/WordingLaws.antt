@@ -1,4 +1,5 @@
--- The events of a list by its words, and which addresses and how many bytes these make. Assumes nothing.
+-- The events of a list by its words, and which addresses and how many bytes these make. The words stand in specs/WordingLaws. Assumes
+-- nothing.
 use Rattle.std.specs.Prelude.{◌≡◌, refl, ℕ, zero, suc, ◌+◌, ◌*◌, List, [], ◌∷◌, ◌++◌, map, Bool, true, ◌&&◌, eqb, length}
 use Rattle.std.proofs.Common.{ap, sym, ◌∙◌, append_assoc, arith, length-append}
 use Rattle.events.specs.declared.BusEvent.{BusEvent}

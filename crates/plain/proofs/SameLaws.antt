@@ -27,7 +27,8 @@ use Rattle.limits.specs.Rule.{cap}
 use Rattle.chip.specs.declared.Chip.{Chip}
 use Rattle.chip.specs.declared.Stepped.{Stepped}
 use Rattle.chip.specs.Chip.{numbered, happened, stepped, ticked, stepped_as, stepped_by}
-use Rattle.chip.proofs.Calm.{Calmed, ship_calm}
+use Rattle.chip.specs.Calm.{Calmed}
+use Rattle.chip.proofs.Calm.{ship_calm}
 use Rattle.turn.specs.declared.Entry.{Entry}
 use Rattle.turn.specs.Turn.{none, acted, stays_fresh, Turn, turn, turned, turn_of}
 use Rattle.turn.specs.Entries.{runs, stands, entries, last_chip, bytes_of}
@@ -38,7 +39,8 @@ use Rattle.demands.specs.Demand.{chip}
 use Rattle.demands.proofs.History.{runs_are}
 use Rattle.demands.specs.Told.{run_of_lem}
 use Rattle.demands.specs.Wired.{same_but_cells}
-use Rattle.demands.proofs.Streams.{heard, cells_in, last_chip_lem, histories, shows, to_show, entries_show}
+use Rattle.demands.specs.Streams.{heard}
+use Rattle.demands.proofs.Streams.{cells_in, last_chip_lem, histories, shows, to_show, entries_show}
 use Rattle.plain_back.specs.Said.{verdicts_after, verdicts_in, streaks_in, most}
 use Rattle.plain_back.specs.Walk.{meant_of_lem}
 use Rattle.plain.specs.Decision.{ticks_done}

@@ -28,7 +28,8 @@ use Rattle.chip.specs.declared.Chip.{Chip}
 use Rattle.chip.specs.declared.Stepped.{Stepped}
 use Rattle.chip.specs.Chip.{numbered, with_registers, watched, settled, normally, asleep, happened, ticking, ticked}
 use Rattle.chip.specs.Parts.{raised_by, tick_parts}
-use Rattle.chip.proofs.Calm.{Calmed, calm_tick}
+use Rattle.chip.specs.Calm.{Calmed}
+use Rattle.chip.proofs.Calm.{calm_tick}
 use Rattle.chip.proofs.RepeatLaws.{ticking_is}
 use Rattle.plain_due.specs.declared.Streaks.{Streaks}
 use Rattle.plain_due.specs.Streaks.{streak_of}

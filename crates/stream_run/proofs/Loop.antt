@@ -21,7 +21,8 @@ use mathlib.Core.Logic.{⊎_elim}
 use Rattle.chip.specs.declared.Chip.{Chip}
 use Rattle.chip.specs.declared.Stepped.{Stepped}
 use Rattle.chip.specs.Chip.{numbered}
-use Rattle.chip.proofs.Calm.{Calmed, ship_calm}
+use Rattle.chip.specs.Calm.{Calmed}
+use Rattle.chip.proofs.Calm.{ship_calm}
 use Rattle.turn.specs.Turn.{Turn, turn, turn_of, turned, none, entry_of}
 use Rattle.turn.specs.Entries.{runs, stands, stays, entries_from, chip_from, fresh_from, entry_bytes, bytes_of, noted, entered}
 use Rattle.turn.specs.Passed.{passed}

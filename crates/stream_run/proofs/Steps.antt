@@ -32,7 +32,8 @@ use Rattle.protection.specs.Judged.{tick_judged}
 use Rattle.chip.specs.declared.Heard.{Heard}
 use Rattle.chip.specs.Parts.{raised_by, heard_of, landed, told, tick_parts, still_tick, bus_parts}
 use Rattle.chip.proofs.Modes.{in_normal}
-use Rattle.chip.proofs.Calm.{Calmed, settles, calm_scan, calm_tick}
+use Rattle.chip.specs.Calm.{Calmed}
+use Rattle.chip.proofs.Calm.{settles, calm_scan, calm_tick}
 use Rattle.registers.specs.declared.Registers.{Registers}
 use Rattle.registers.specs.State.{with_outside_level}
 use Rattle.registers.specs.Judging.{pulled_by_level}

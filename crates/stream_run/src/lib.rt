@@ -10,7 +10,7 @@ ghost use Rattle.turn.specs.Entries.{noted};
 ghost use Rattle.registers.specs.State.{with_outside_level};
 ghost use Rattle.registers.specs.Judging.{pulled_by_level};
 ghost use Rattle.chip.specs.Chip.{numbered, with_normal, happened, happened_by};
-ghost use Rattle.chip.proofs.Calm.{Calmed};
+ghost use Rattle.chip.specs.Calm.{Calmed};
 ghost use Rattle.events.specs.Event.{Temp};
 ghost use Rattle.events.specs.Setup.{groups};
 ghost use Rattle.stream_run.specs.Often.{often, work_of, registers_moved};

@@ -14,7 +14,8 @@ use Rattle.records.specs.declared.Read.TheVariants.{Record, Refused, Cut}
 use Rattle.records.specs.Record.{read_of, counts_beside}
 use Rattle.chip.specs.declared.Chip.{Chip}
 use Rattle.chip.specs.Chip.{numbered}
-use Rattle.chip.proofs.Calm.{Calmed, ship_calm}
+use Rattle.chip.specs.Calm.{Calmed}
+use Rattle.chip.proofs.Calm.{ship_calm}
 use Rattle.chip.proofs.RepeatLaws.{calm_as}
 use Rattle.turn.specs.Turn.{wired_as, acted, turned, turn_of}
 use Rattle.turn.specs.Entries.{stands, chip_from}

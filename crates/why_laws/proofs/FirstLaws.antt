@@ -1,5 +1,5 @@
 -- CHIP P17: the record of the first of the verdicts that made a bit due: the last one, up to the rise, before which the streak was no
--- longer than what may stand before it. Assumes nothing.
+-- longer than what may stand before it. The words stand in specs/FirstLaws. Assumes nothing.
 use Rattle.std.specs.Prelude.{◌≡◌, Bool, true, false, List, leb}
 use Rattle.std.proofs.Math.Path.{refl, ap}
 use Rattle.std.proofs.Common.{sym, subst, ◌∙◌, arith, leb-true, leb-false}

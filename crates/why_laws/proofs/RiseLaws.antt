@@ -1,4 +1,5 @@
--- CHIP P17, P18: the record at which a bit rose, or a drive went off, the last time, said of the entries alone. Assumes nothing.
+-- CHIP P17, P18: the record at which a bit rose, or a drive went off, the last time, said of the entries alone. The words stand in
+-- specs/RiseLaws. Assumes nothing.
 use Rattle.std.specs.Prelude.{◌≡◌, Bool, true, false, cond, not, ◌&&◌, ◌≢◌, List, eqb, leb, length, get_or}
 use Rattle.std.proofs.Math.Path.{refl, ap}
 use Rattle.std.proofs.Common.{sym, ap₂, subst, ◌∙◌, true≢false, arith, leb-true, leb-false, ne_eqb}
@@ -14,7 +15,6 @@ use Rattle.why.specs.declared.Rose.{Rose}
 use Rattle.why.specs.Rise.{never, is_such, rose_by, rose_on, risen}
 use Rattle.why_laws.specs.StandingLaws.{shows}
 use Rattle.why_laws.specs.RiseLaws.{shown_in, RoseAt}
-
 
 -- ── the loop, by the walk: `such m` is what is asked about, before record m ──
 module _ (s : List ℕ) (b d : ℕ) where

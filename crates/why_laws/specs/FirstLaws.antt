@@ -1,5 +1,5 @@
 -- CHIP P17: the record of the first of the verdicts that made a bit due: the last one, up to the rise, before which the streak was no
--- longer than what may stand before it. Assumes nothing.
+-- longer than what may stand before it. The laws stand in proofs/FirstLaws. Assumes nothing.
 use Rattle.std.specs.Prelude.{List, ℕ, ◌<◌, ◌≤◌}
 use Rattle.why_walk.specs.Standing.{standing_at}
 

@@ -1,4 +1,5 @@
--- CHIP P17, P18: the record at which a bit rose, or a drive went off, the last time, said of the entries alone. Assumes nothing.
+-- CHIP P17, P18: the record at which a bit rose, or a drive went off, the last time, said of the entries alone. The laws stand in
+-- proofs/RiseLaws. Assumes nothing.
 use Rattle.std.specs.Prelude.{◌≡◌, Bool, true, false, cond, not, ◌&&◌, ◌≢◌, List, eqb, leb, length, get_or}
 use Rattle.std.proofs.Math.Path.{refl, ap}
 use Rattle.std.proofs.Common.{sym, ap₂, subst, ◌∙◌, true≢false, arith, leb-true, leb-false, ne_eqb}

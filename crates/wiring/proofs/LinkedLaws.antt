@@ -1,5 +1,5 @@
--- CHIP W7: connected inputs by whether there is a wiring record, a pack's cell that converts, and the bits of what is connected.
--- Assumes nothing.
+-- CHIP W7: connected inputs by whether there is a wiring record, a pack's cell that converts, and the bits of what is connected. The
+-- words stand in specs/Linked. Assumes nothing.
 use Rattle.std.specs.Prelude.{◌≡◌, refl, Bool, true, false, cond, not, List, [], ◌∷◌, ℕ, zero, suc, ◌+◌, ◌-◌, ◌*◌, ◌≤◌, leb, eqb, length}
 use Rattle.std.specs.Prelude.{get_or}
 use Rattle.std.proofs.Common.{sym, ap, ◌∙◌, true≢false, arith}
@@ -12,7 +12,7 @@ use Rattle.wiring.specs.Rows.{linked_inputs, linked_bits, converts}
 use Rattle.wiring.proofs.Numbered.{numbers, shorter, none_shorted}
 use Rattle.wiring.specs.Kept.{kept, picked}
 use Rattle.wiring.proofs.Kept.{kept-bits}
-use Rattle.wiring.specs.Linked.{above_floor}
+use Rattle.wiring.specs.Linked.{above_floor, those}
 
 -- ── by whether there is a wiring record ──
 pub linked_row : (u : Setup) (xs : List ℕ) → has_row u.part u.cells ≡ true → wired_bits u ≡ linked_bits u xs
@@ -72,9 +72,6 @@ pub few_bits : (such : ℕ → Bool) (i k : ℕ) → k ≤ 15 → bits such i k 
 few_bits such i k h = let e : 15 - k + k ≡ 15 = omega arith in omega (arith, bits-all such i k, all_more k (15 - k), ap all e, fifteen)
 
 -- ── the connected inputs are those of the pack's cells that are connected, in their order ──
-abbrev pub those : (ℕ → Bool) → List ℕ → List ℕ
-those p [] = []
-those p (x ∷ xs) = cond (p x) (x ∷ those p xs) (those p xs)
 
 those_by : (p : ℕ → Bool) (i : ℕ) (l m : List ℕ) → l ≡ those p m → (a w : Bool) → p i ≡ a → (a ≡ true → w ≡ true)
     → cond a (i ∷ l) l ≡ those p (cond w (i ∷ m) m)

@@ -9,6 +9,7 @@ use Rattle.events.specs.FewLaws.{few_inputs}
 use Rattle.wiring.specs.Rows.{Row, rows, is_row, row_in, shorted_in, has_row, shorted, is_wired, upward, wired_inputs, pack_cells}
 use Rattle.wiring.specs.Rows.{input_of, bits, wired_bits}
 use Rattle.wiring.proofs.UpwardLaws.{Stands, stands, climbs, finds}
+use Rattle.wiring.specs.Numbered.{setup_at}
 
 -- ── to know something of every row, it is enough to know it of the thirteen ──
 abbrev pub Each : (ℕ → ℕ → Type 0) → List Row → Type 0
@@ -79,10 +80,6 @@ numbers u = record { many = refl; wired = wired; upwards = upwards; named = name
     named : (i : ℕ) → HasCell u i
         → (n : ℕ) × (1 ≤ n) × (n ≤ length (upward (is_wired u) 1 (inputs u))) × (get_or (0 ∷ upward (is_wired u) 1 (inputs u)) n 0 ≡ i)
     named i s = let f = finds (is_wired u) 1 (inputs u) i s in (suc f.place, omega arith, omega (arith, f.there), f.found)
-
--- a part with a number of cells, as a setup
-abbrev pub setup_at : ℕ → ℕ → Setup
-setup_at part cells = with_cells cells (setup_of part 0 0 0 0 0)
 
 abbrev SoMany : ℕ → ℕ → Type 0
 SoMany part cells = pack_cells (setup_at part cells) ≡ cells

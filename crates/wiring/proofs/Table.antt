@@ -10,7 +10,8 @@ use borrow.Author.Tests.{eqb-true, eqb-false, leb-true, ltb-true}
 use Rattle.events.specs.declared.Setup.{Setup}
 use Rattle.events.specs.Setup.{inputs}
 use Rattle.wiring.specs.Rows.{rows, has_row, shorted, is_wired, pack_cells, bits, wired_bits}
-use Rattle.wiring.proofs.Numbered.{Each, each_row, numbering, all_cells, all_bits, setup_at}
+use Rattle.wiring.specs.Numbered.{setup_at}
+use Rattle.wiring.proofs.Numbered.{Each, each_row, numbering, all_cells, all_bits}
 
 -- ── the test of the code ──
 abbrev pub coded : ℕ → ℕ → Bool

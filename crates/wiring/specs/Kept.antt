@@ -1,4 +1,5 @@
--- Of numbers in a row those whose bit is set, and that these are what the inputs that have a cell hold. Assumes nothing.
+-- Of numbers in a row those whose bit is set, and that these are what the inputs that have a cell hold. The laws stand in proofs/Kept.
+-- Assumes nothing.
 use Rattle.std.specs.Prelude.{◌≡◌, refl, Bool, true, false, cond, List, [], ◌∷◌, ◌++◌, map, ℕ, zero, suc, ◌+◌, ◌-◌, ◌*◌, ◌/◌, ◌%◌, ◌<◌, ◌≤◌}
 use Rattle.std.specs.Prelude.{eqb, length, get_or, set, take}
 use Rattle.std.proofs.Common.{sym, ap, ap₂, ◌∙◌, arith}

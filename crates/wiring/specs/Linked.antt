@@ -1,5 +1,5 @@
--- CHIP W7: connected inputs by whether there is a wiring record, a pack's cell that converts, and the bits of what is connected.
--- Assumes nothing.
+-- CHIP W7: connected inputs by whether there is a wiring record, a pack's cell that converts, and the bits of what is connected. The
+-- laws stand in proofs/LinkedLaws. Assumes nothing.
 use Rattle.std.specs.Prelude.{◌≡◌, refl, Bool, true, false, cond, not, List, [], ◌∷◌, ℕ, zero, suc, ◌+◌, ◌-◌, ◌*◌, ◌≤◌, leb, eqb, length}
 use Rattle.std.specs.Prelude.{get_or}
 use Rattle.std.proofs.Common.{sym, ap, ◌∙◌, true≢false, arith}
@@ -10,3 +10,7 @@ use Rattle.cell_counts.specs.Scan.{some}
 
 abbrev pub above_floor : ℕ → List ℕ → ℕ → Bool
 above_floor floor xs i = leb floor (get_or xs (i - 1) 0)
+
+abbrev pub those : (ℕ → Bool) → List ℕ → List ℕ
+those p [] = []
+those p (x ∷ xs) = cond (p x) (x ∷ those p xs) (those p xs)

@@ -1,5 +1,5 @@
 -- The writer's numbers 2 and 3 are those of the checks that the chip makes: at its part, for every event but SETUP and a wiring record.
--- Assumes nothing.
+-- The words stand in specs/CheckedLaws. Assumes nothing.
 use Rattle.std.specs.Prelude.{◌≡◌, refl, ℕ, List, Bool, true, false, cond, ◌&&◌, leb, take}
 use Rattle.std.proofs.Common.{ap, sym, ◌∙◌}
 use Rattle.bits.specs.Numbers.{within}
