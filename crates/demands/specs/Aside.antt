@@ -1,4 +1,5 @@
--- CHIP J12, the word: the events that one of the code's events means, put before those of the past. The laws are in proofs/Aside. Assumes nothing.
+-- CHIP J12, the word: the events that one of the code's events means, put before those of the past. The laws stand in proofs/Aside.
+-- Assumes nothing.
 use mathlib.Core.List.{List, ◌++◌}
 use Rattle.events.specs.declared.Setup.{Setup}
 use Rattle.events.specs.Event.{Event, Meant, events_in}

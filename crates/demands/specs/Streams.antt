@@ -1,4 +1,5 @@
--- CHIP H1 to H6 of streams, the words: what follows a record, and the events that records mean. The laws are in proofs/Streams. Assumes nothing.
+-- CHIP H1 to H6 of streams, the words: what follows a record, and the events that records mean. The laws stand in proofs/Streams.
+-- Assumes nothing.
 use Rattle.std.specs.Prelude.{ℕ, zero, suc, ◌-◌, length, drop}
 use mathlib.Core.List.{List, [], ◌∷◌}
 use Rattle.events.specs.declared.Setup.{Setup as SetupValues}
