@@ -9,7 +9,7 @@ use Prim.Native.Nat.{ℕ, zero, suc}
 use Rattle.events.specs.declared.Setup.{Setup}
 use Rattle.events.specs.declared.Counts.{Counts}
 use Rattle.events.specs.declared.Event.{Event as Coded}
-use Rattle.events.specs.Event.{Event, Sense, fits, ticks_fit, Meant, means, ticks, unfit, meant_of, events_in}
+use Rattle.events.specs.Event.{Event, Sense, fits, ticks_fit, Meant, means, ticks, unfit, meant_of}
 use Rattle.events.specs.Fault.{Fault}
 use Rattle.limits.specs.Rule.{rule, opinion}
 use Rattle.chip.specs.declared.Chip.{Chip}

@@ -137,7 +137,7 @@ module _ (s : List ℕ) (u : SetupValues) (next : ℕ) (first : read_of 0 s ≡ 
     unfolding event_says
     named_scan n r past e m q =
         subst (λ (e : Coded). counts_fit (counts_wanted u e) (counts_beside r (Record e m)) ≡ true
-            → RisesIn u k (events_of r (Record e m)) past
+        → RisesIn u k (events_of r (Record e m)) past
         → Named n r (Record e m) past) (sym q)
         (λ f g.
         let c : Counts = counts_beside r (Record Scan m) in
