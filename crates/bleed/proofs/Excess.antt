@@ -1,10 +1,7 @@
 -- CHIP E2: the lowest connected cell, which cells may be bled, and how far each stands above the lowest. Inputs are counted from 0. The
 -- words stand in specs/Excess. Assumes nothing.
-use Rattle.std.specs.Prelude.{◌≡◌, refl, Bool, true, ◌&&◌, cond, List, [], ◌∷◌, ℕ, zero, suc, ◌+◌, ◌-◌, ◌<◌, leb, ltb, length, get_or}
+use Rattle.std.specs.Prelude.{◌≡◌, refl, Bool, true, ◌&&◌, List, [], ◌∷◌, ℕ, zero, suc, ◌<◌, ltb, length, get_or}
 use Rattle.std.proofs.Common.{arith, ltb-true}
-use Rattle.bits.specs.Bit.{bit}
-use Rattle.bleed.specs.declared.Choice.{Choice}
-use Rattle.bleed.specs.Choice.{chosen}
 use Rattle.bleed.proofs.BestLaws.{left_of, right_of}
 use Rattle.bleed.specs.Excess.{weights}
 

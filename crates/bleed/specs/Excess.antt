@@ -1,7 +1,6 @@
 -- CHIP E2: the lowest connected cell, which cells may be bled, and how far each stands above the lowest. Inputs are counted from 0. The
 -- laws stand in proofs/Excess. Assumes nothing.
-use Rattle.std.specs.Prelude.{◌≡◌, refl, Bool, true, ◌&&◌, cond, List, [], ◌∷◌, ℕ, zero, suc, ◌+◌, ◌-◌, ◌<◌, leb, ltb, length, get_or}
-use Rattle.std.proofs.Common.{arith, ltb-true}
+use Rattle.std.specs.Prelude.{Bool, ◌&&◌, cond, List, [], ◌∷◌, ℕ, zero, suc, ◌+◌, ◌-◌, leb, ltb, get_or}
 use Rattle.bits.specs.Bit.{bit}
 use Rattle.bleed.specs.declared.Choice.{Choice}
 use Rattle.bleed.specs.Choice.{chosen}

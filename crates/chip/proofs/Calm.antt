@@ -9,7 +9,7 @@ use Rattle.events.specs.Event.{Event, Scan}
 use Rattle.bus.specs.declared.Bus.{Bus}
 use Rattle.registers.specs.declared.Registers.{Registers}
 use Rattle.registers.specs.Judging.{scanned}
-use Rattle.registers.specs.LevelLaws.{Calm, level_calm, reset_calm, calm_level, raised_calm}
+use Rattle.registers.specs.LevelLaws.{level_calm, reset_calm, calm_level, raised_calm}
 use Rattle.protection.specs.declared.Runs.{Runs}
 use Rattle.protection.specs.Runs.{risen}
 use Rattle.chip.specs.declared.Chip.{Chip}

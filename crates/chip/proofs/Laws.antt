@@ -1,5 +1,5 @@
 -- What the chip owes, of its definitions: SHIP leaves the reset registers and the setup and nothing else. Assumes nothing.
-use Rattle.std.specs.Prelude.{◌≡◌, refl, Bool, true, false, cond, ℕ, ◌+◌, ◌-◌, ◌*◌, eqb}
+use Rattle.std.specs.Prelude.{◌≡◌, refl, Bool, true, false, cond, ℕ, ◌+◌, ◌*◌, eqb}
 use Rattle.std.proofs.Common.{ap, ◌∙◌}
 use Rattle.events.specs.declared.Setup.{Setup}
 use Rattle.events.specs.declared.BusEvent.TheVariants.{Out}

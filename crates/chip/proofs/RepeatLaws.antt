@@ -19,7 +19,7 @@ use Rattle.chip.specs.declared.Stepped.{Stepped}
 use Rattle.chip.specs.Chip.{numbered, with_registers, with_runs, watched, settled, normally, asleep, happened, stepped, next}
 use Rattle.chip.specs.Chip.{ticking, ticked, stepped_as}
 use Rattle.chip.proofs.MovesLaws.{setup-next}
-use Rattle.chip.specs.Parts.{raised_by, tick_parts}
+use Rattle.chip.specs.Parts.{tick_parts}
 use Rattle.chip.specs.Calm.{Calmed}
 use Rattle.chip.proofs.Calm.{calm_next, calm_tick}
 use Rattle.chip.specs.RepeatLaws.{ticked_by}

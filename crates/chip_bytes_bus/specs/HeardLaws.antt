@@ -17,7 +17,7 @@ use Rattle.chip.specs.Chip.{with_bus, answered, in_ship, accepted, stored_at, st
 use Rattle.chip.specs.Calm.{Calmed}
 use Rattle.chip.specs.Parts.{heard_of}
 use Rattle.chip_bytes_layout.specs.Place.{FRESH}
-use Rattle.chip_bytes_layout.specs.Layout.{plain_of, switches_of, words_of, chip_bytes, switch_at, shown_at, chip_at, good_of}
+use Rattle.chip_bytes_layout.specs.Layout.{plain_of, switches_of, words_of, chip_bytes, switch_at, shown_at, good_of}
 use Rattle.chip_bytes_layout.specs.Did.{Awake, chip_here, says, Did}
 use Rattle.chip_bytes_layout.proofs.DidLaws.{calm, bytes_are, did, shown_back}
 use Rattle.chip_bytes_bus.specs.Heard.{bus_in, KeptBy, kept_chip}

@@ -1,5 +1,5 @@
 -- A write moves the bytes of its register, in the bytes as in the chip. Assumes nothing.
-use Rattle.std.specs.Prelude.{◌≡◌, Bool, cond, ◌&&◌, ℕ, zero, suc, ◌+◌, ◌-◌, ◌%◌, ◌≤◌, leb, take}
+use Rattle.std.specs.Prelude.{◌≡◌, Bool, ◌&&◌, ℕ, zero, suc, ◌+◌, ◌-◌, ◌≤◌, leb, take}
 use Rattle.std.proofs.Math.Path.{refl, sym, ap, subst}
 use Rattle.std.proofs.Common.{◌∙◌, true≢false, arith, get_or-take, ne_eqb}
 use Rattle.std.proofs.Math.Bool.{true, false, not}
@@ -8,13 +8,12 @@ use Rattle.std.proofs.Math.Dec.{eqb}
 use Rattle.std.proofs.Math.ListN.{get_or, set}
 use Rattle.events.specs.declared.Setup.{Setup}
 use Rattle.events.specs.Setup.{groups}
-use Rattle.settings.specs.declared.Settings.{Settings}
 use Rattle.settings.specs.Write.{is_shut_a, is_shut_b, keeps_pair, protect1_of, protect2_of, protect3_of, cc_cfg_of, settings_with}
 use Rattle.registers.specs.declared.Status.{Status}
 use Rattle.registers.specs.declared.Shown.{Shown}
 use Rattle.registers.specs.declared.Registers.{Registers}
 use Rattle.registers.specs.State.{alert}
-use Rattle.registers.specs.Write.{status_of, without, driven, five_of, shown_with, cellbal_with, written}
+use Rattle.registers.specs.Write.{status_of, without, driven, shown_with, cellbal_with, written}
 use Rattle.chip.specs.declared.Chip.{Chip}
 use Rattle.chip.specs.Chip.{with_registers}
 use Rattle.chip.specs.Calm.{Calmed}

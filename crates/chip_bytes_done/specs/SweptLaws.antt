@@ -9,16 +9,15 @@ use Rattle.registers.specs.LevelLaws.{raised_calm}
 use Rattle.registers.specs.Judging.{bat_of, cells_kept, scan_kept, scanned}
 use Rattle.protection.specs.Runs.{risen}
 use Rattle.registers.specs.declared.Shown.{Shown}
-use Rattle.registers.specs.declared.Measured.{Measured}
 use Rattle.registers.specs.State.{with_shown, with_measured}
 use Rattle.protection.specs.declared.Runs.{Runs}
 use Rattle.chip.specs.declared.Chip.{Chip}
-use Rattle.chip.specs.Chip.{numbered, with_registers, with_runs, normally}
+use Rattle.chip.specs.Chip.{numbered, with_registers, with_runs}
 use Rattle.chip.specs.Calm.{Calmed}
 use Rattle.chip_bytes_layout.specs.Place.{FRESH, OV_LOW}
-use Rattle.chip_bytes_layout.specs.Layout.{plain_of, switches_of, words_of, chip_bytes, listed, switch_at, chip_at, good_of, chip_of}
+use Rattle.chip_bytes_layout.specs.Layout.{plain_of, switches_of, words_of, chip_bytes, listed, switch_at, good_of, chip_of}
 use Rattle.chip_bytes_layout.specs.ListedLaws.{listed_all}
-use Rattle.chip_bytes_layout.specs.Did.{Awake, chip_here, says, Did}
+use Rattle.chip_bytes_layout.specs.Did.{Awake, chip_here, Did}
 use Rattle.chip_bytes_layout.proofs.DidLaws.{calm, bytes_are, chip_is, did}
 use Rattle.chip_bytes_done.specs.declared.scan.Swept.{Swept}
 use Rattle.chip_bytes_done.specs.Swept.{measured_in, shown_in, swept_in, swept_chip, SweptBy}

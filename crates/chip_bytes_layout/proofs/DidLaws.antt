@@ -87,7 +87,7 @@ module _ (b : List ℕ) (w : Awake b) (g : good_of b ≡ true) where
       calm_by (alert (chip_here b).registers.shown.status) (chip_here b).registers.outside_level
       (and_right (setup_stands (chip_here b).setup) (level_stands (chip_here b))
       (and_left (setup_stands (chip_here b).setup && level_stands (chip_here b)) (fresh_stands (chip_here b) (switch_at (take 96 b) 23))
-          stands))
+      stands))
 
   -- the bytes are those of the chip
   pub bytes_are : chip_bytes (chip_here b) (switch_at (take 96 b) 23) ++ drop 96 b ≡ b

@@ -69,7 +69,7 @@ module _ (b : List ℕ) (l : length b ≡ 96) (h : Bytes b) (f : formed b ≡ tr
   phase =
       phase_forth _ _ _
       (and_right (eqb (get_or b 0 0) 1 && within 1 (listed b 21 20)) (phase_good (get_or b 9 0) (get_or b 10 0) (get_or b 11 0))
-          (and_left _ _ f))
+      (and_left _ _ f))
 
   zeros : within 0 (listed b 41 5) ≡ true
   unfolding formed

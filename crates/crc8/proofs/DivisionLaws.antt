@@ -71,7 +71,7 @@ reduced_xor n m hn hm false e =
     let h : 256 ≤ n = ltb-false n 256 e in
     let s : n ≡ 1 * 2 ^ 8 + (n - 256) = omega arith in
     let b : bit_xor n m ≡ 1 * 2 ^ 8 + bit_xor (n - 256) m =
-        ap₂ bit_xor s (sym (zero-add m)) ∙ xor_block 8 1 0 (n - 256) m (omega arith) hm in
+    ap₂ bit_xor s (sym (zero-add m)) ∙ xor_block 8 1 0 (n - 256) m (omega arith) hm in
     simp (e, le-ltb (bit_xor n m) 256 (omega arith)) (xor_swap n m 263)
 
 -- one coefficient more

@@ -20,7 +20,6 @@ use Rattle.chip.proofs.RepeatLaws.{senses, record_senses}
 use Rattle.demands.specs.Demand.{chip, core, verdicts}
 use Rattle.demands.specs.Refused.{normal_done, refused}
 use Rattle.demands.proofs.History.{setup_is, core_is, awake_is, asleep_none}
-use Rattle.demands.specs.Aside.{with_meant}
 
 module _ (u : Setup) where
   abbrev pub is_done : List Event → Event → Bool
@@ -88,6 +87,10 @@ module _ (u : Setup) where
   unfoldable pub chip_by : List CodeEvent → Chip
   chip_by [] = in_ship u
   chip_by (g ∷ past) = (stepped_by g.0 g.1 (chip_by past)).chip
+
+  -- of ticks each tick is one
+  abbrev pub with_meant : Meant → List Event → List Event
+  with_meant m past = events_in m ++ past
 
   ticks_heard : (n : ℕ) (v : ℤ) (past : List Event) → senses n v (chip u past) ≡ chip u (replicate n (Sense v) ++ past)
   unfolding chip

@@ -21,7 +21,7 @@ use Rattle.registers.specs.declared.Shown.{Shown}
 use Rattle.registers.specs.State.{dark, alert, with_status}
 use Rattle.registers.specs.Write.{status_of, without, holds_chg, holds_dsg, driven, shown_with}
 use Rattle.registers.specs.Judging.{pulled_at}
-use Rattle.registers.specs.Fault.{bit_of, drive_of, raised, overridden, readied, counting}
+use Rattle.registers.specs.Fault.{bit_of, raised, overridden, readied, counting}
 use Rattle.protection.specs.Runs.{risen}
 use Rattle.chip.specs.declared.Chip.{Chip}
 use Rattle.chip.specs.Chip.{stored, on_bus, normally, next}

@@ -146,7 +146,7 @@ written_pins e a v s p =
     (cond (eqb a 0x05) (driven v s) s)
     (λ h q. clash (ovrd_of s) p (and_left (ovrd_of s) (not (bit v 16)) q))
     (λ h. by_cond (λ t. ovrd_of t ≡ true → e ≡ Pin) (eqb a 0x05) (driven v s) s (λ i q. clash (ovrd_of s) p q)
-        (λ i q. clash (ovrd_of s) p q))
+    (λ i q. clash (ovrd_of s) p q))
 
 bus_pins : (b : BusEvent) (c : Chip) → Pinned (OnBus b) c (on_bus b c).chip
 bus_pins Start c p q = clash (ovrd_of c.registers.shown) p q

@@ -29,10 +29,9 @@ use Rattle.turn.specs.StandingLaws.{acted_is, good_part, first_stands, first_ent
 use Rattle.demands.specs.Demand.{chip}
 use Rattle.demands.proofs.History.{setup_is}
 use Rattle.demands.specs.Refused.{refused_as}
-use Rattle.demands.specs.Aside.{with_meant}
-use Rattle.demands.proofs.Aside.{heard_as}
+use Rattle.demands.proofs.Aside.{with_meant, heard_as}
 use Rattle.demands.specs.Wired.{celled, celled_in, as_cells, same_but_cells, meant_cells}
-use Rattle.demands.specs.Streams.{rest_after, heard_next, heard_by, heard}
+use Rattle.demands.specs.Streams.{rest_after}
 
 both_true : (a b : Bool) → (a && not b) ≡ true → (a ≡ true) × (b ≡ false)
 both_true true true h = absurd (true≢false (sym h))
@@ -53,6 +52,20 @@ wired_as_lem true false n m u c h = (refl, refl)
 wired_as_lem false t n m u c h = (refl, refl)
 
 module _ (u : SetupValues) where
+  -- ── the events that records mean, newest first, once SETUP was read as u; a refused record means none, and one that is cut short ends
+  -- them ──
+  -- after what was read at the start of r
+  abbrev pub heard_next : List ℕ → Read → List Event → List Event
+  heard_next r (Record e next) past = with_meant u (meant_of u e (counts_beside r (Record e next))) past
+  heard_next r (Refused k next) past = past
+  heard_next r Cut past = past
+
+  abbrev pub heard_by : ℕ → List ℕ → List Event → List Event
+  heard_by zero r past = past
+  heard_by (suc f) [] past = past
+  heard_by (suc f) (b ∷ r) past =
+      heard_by f (rest_after (b ∷ r) (read_of u.part (b ∷ r))) (heard_next (b ∷ r) (read_of u.part (b ∷ r)) past)
+
   -- the events heard after each record, the first record first
   abbrev pub histories_by : ℕ → List ℕ → List Event → List (List Event)
   histories_by zero r past = []
@@ -247,6 +260,10 @@ module _ (u : SetupValues) (p : u.part ≢ 0) where
       (took u p o n (b ∷ r) past h (read_of u.part (b ∷ r)) refl)
 
 -- ── a stream whose first record is a SETUP, read with success as u, up to the place next ──
+-- the events that the records after it mean
+abbrev pub heard : SetupValues → ℕ → List ℕ → List Event
+heard u next s = heard_by u (length s - 1) (drop next s) []
+
 -- the number of cells of its wiring record, 0 where it has none
 abbrev pub cells_in : SetupValues → ℕ → List ℕ → ℕ
 cells_in u next s = cells_by u (length s - 1) true u.cells (drop next s) []

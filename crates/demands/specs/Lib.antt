@@ -20,4 +20,3 @@ pub mod Table
 pub mod RefusalLaws
 pub mod CellLaws
 pub mod WriteLaws
-pub mod Aside

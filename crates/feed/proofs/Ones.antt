@@ -34,7 +34,7 @@ use Rattle.chip.specs.declared.Stepped.{Stepped}
 use Rattle.chip.specs.Chip.{happened, ticked, happened_as, happened_by}
 use Rattle.chip.specs.Calm.{Calmed}
 use Rattle.turn.specs.declared.Entry.{Entry}
-use Rattle.turn.specs.Turn.{Turn, acted, stays_fresh, turn, turn_of, entry_of}
+use Rattle.turn.specs.Turn.{Turn, stays_fresh, turn, turn_of, entry_of}
 use Rattle.turn.specs.Entries.{runs, stands, stays, entries_from, chip_from, fresh_from, bytes_of}
 use Rattle.stream_run.proofs.Steps.{other_is, done_turn}
 use Rattle.chip_bytes_layout.specs.declared.Kept.{Kept}
@@ -171,28 +171,28 @@ stays_none (suc f) o c = refl
 
 -- bytes that are one record
 module _ (o : Bool) (c : Chip) (x : ℕ) (s : List ℕ) (d : Stepped) (f : Bool) (t : turn_of o c (x ∷ s) ≡ turn d f (length (x ∷ s)) false)
-    where
-  over : drop (length (x ∷ s)) (x ∷ s) ≡ []
-  over = drop_of_length-le (x ∷ s) {i = length (x ∷ s)} (omega arith)
+  where
+    over : drop (length (x ∷ s)) (x ∷ s) ≡ []
+    over = drop_of_length-le (x ∷ s) {i = length (x ∷ s)} (omega arith)
 
-  one_entry : entries_from o c (x ∷ s) ≡ entry_of d ∷ []
-  unfolding entries_from
-  one_entry =
-      ap (λ (t : Turn). t.entry ∷ cond t.last [] (runs (length s) t.fresh t.chip (drop t.next (x ∷ s)))) t
-      ∙ ap (λ (l : List ℕ). entry_of d ∷ runs (length s) f d.chip l) over
-      ∙ ap (λ (l : List Entry). entry_of d ∷ l) (runs_none (length s) f d.chip)
+    one_entry : entries_from o c (x ∷ s) ≡ entry_of d ∷ []
+    unfolding entries_from
+    one_entry =
+        ap (λ (t : Turn). t.entry ∷ cond t.last [] (runs (length s) t.fresh t.chip (drop t.next (x ∷ s)))) t
+        ∙ ap (λ (l : List ℕ). entry_of d ∷ runs (length s) f d.chip l) over
+        ∙ ap (λ (l : List Entry). entry_of d ∷ l) (runs_none (length s) f d.chip)
 
-  one_chip : chip_from o c (x ∷ s) ≡ d.chip
-  unfolding chip_from
-  one_chip =
-      ap (λ (t : Turn). cond t.last t.chip (stands (length s) t.fresh t.chip (drop t.next (x ∷ s)))) t
-      ∙ ap (stands (length s) f d.chip) over ∙ stands_none (length s) f d.chip
+    one_chip : chip_from o c (x ∷ s) ≡ d.chip
+    unfolding chip_from
+    one_chip =
+        ap (λ (t : Turn). cond t.last t.chip (stands (length s) t.fresh t.chip (drop t.next (x ∷ s)))) t
+        ∙ ap (stands (length s) f d.chip) over ∙ stands_none (length s) f d.chip
 
-  one_fresh : fresh_from o c (x ∷ s) ≡ f
-  unfolding fresh_from
-  one_fresh =
-      ap (λ (t : Turn). cond t.last t.fresh (stays (length s) t.fresh t.chip (drop t.next (x ∷ s)))) t
-      ∙ ap (stays (length s) f d.chip) over ∙ stays_none (length s) f d.chip
+    one_fresh : fresh_from o c (x ∷ s) ≡ f
+    unfolding fresh_from
+    one_fresh =
+        ap (λ (t : Turn). cond t.last t.fresh (stays (length s) t.fresh t.chip (drop t.next (x ∷ s)))) t
+        ∙ ap (stays (length s) f d.chip) over ∙ stays_none (length s) f d.chip
 
 record Single (o : Bool) (c : Chip) (s : List ℕ) (d : Stepped) : Type 0 where
   pub entry : entries_from o c s ≡ entry_of d ∷ []
@@ -211,7 +211,7 @@ module _ (o : Bool) (c : Chip) (s : List ℕ) (e : Event) (d : Stepped) (q : rea
   stood : (t : Bool) → eqb c.setup.part 0 ≡ t → t ≡ false
   stood true p =
       absurd (no_setup e f
-          (first_setup s e (length s) (subst (λ (n : ℕ). read_of n s ≡ Record e (length s)) (eqb-true c.setup.part 0 p) q)))
+      (first_setup s e (length s) (subst (λ (n : ℕ). read_of n s ≡ Record e (length s)) (eqb-true c.setup.part 0 p) q)))
   stood false p = refl
 
   closes : stays_fresh o c d ≡ false

@@ -1,8 +1,8 @@
 -- THE LAW OF FEEDING: fed in any pieces of whole records, the entries that the calls write are those of the whole stream; playing a
 -- stream is feeding no chip yet; and a record cut short gives number 9 and leaves the chip. Assumes nothing.
-use Rattle.std.specs.Prelude.{◌≡◌, refl, Bool, true, false, cond, not, ◌&&◌, List, [], ◌∷◌, ◌++◌, ℕ, zero, suc, ◌+◌, ◌*◌, ◌≤◌, leb, ltb, ℤ}
+use Rattle.std.specs.Prelude.{◌≡◌, refl, Bool, true, false, cond, not, ◌&&◌, List, [], ◌∷◌, ◌++◌, ℕ, ◌+◌, ◌*◌, ◌≤◌, leb, ltb, ℤ}
 use Rattle.std.specs.Prelude.{pos, negsuc, length, take, drop}
-use Rattle.std.proofs.Common.{sym, ap, ap₂, ◌∙◌, subst, append-nil, append_assoc, arith, length-append, length-drop, take_at, le-ltb}
+use Rattle.std.proofs.Common.{sym, ap, ap₂, ◌∙◌, append-nil, append_assoc, arith, length-append, take_at, le-ltb}
 use Rattle.records.specs.declared.Read.{Read}
 use Rattle.records.specs.declared.Read.TheVariants.{Cut}
 use Rattle.records.specs.Record.{read_of}
@@ -13,11 +13,11 @@ use Rattle.turn.specs.Turn.{none, entry_of, turned, turn_of}
 use Rattle.turn.specs.Entries.{runs, stands, stays, entries_from, chip_from, fresh_from, entries}
 use Rattle.turn.specs.Entries.{entry_bytes, bytes_of}
 use Rattle.stream_run.specs.Stream.{Played}
-use Rattle.turn.specs.Pieces.{joined, fed_entries, fed_chip, fed_fresh, WholePieces, fed_in_pieces, played_in_pieces}
+use Rattle.turn.specs.Pieces.{joined, fed_entries, fed_chip, fed_fresh, WholePieces, played_in_pieces}
 use Rattle.chip_bytes_layout.specs.declared.Kept.{Kept}
-use Rattle.chip_bytes_layout.specs.Layout.{keeps, no_chip, kept_at, kept_of, kept_bytes, kept_in}
+use Rattle.chip_bytes_layout.specs.Layout.{keeps, no_chip, kept_at, kept_of, kept_bytes}
 use Rattle.chip_bytes_layout.proofs.OneLaws.{Stood, not_yet, trip, kept_length}
-use Rattle.feed.specs.Fed.{entries_of, all_fit, feed_answer, feeds, chip_after, entries_after, Fed}
+use Rattle.feed.specs.Fed.{entries_of, all_fit, feeds, chip_after, entries_after, Fed}
 use Rattle.feed.specs.KeptLaws.{from_stands}
 
 -- ── a buffer that keeps a chip ──

@@ -120,7 +120,7 @@ listed_by xs room true e =
     let l : length (records_of (events_of (heard xs).messages)) ≡ size_all xs + 4 =
     list_size (heard xs).messages ∙ ap (λ (ys : List Word). size_all ys + 4) w in
     let f : leb (room + 1 - size_all xs) 4 ≡ not (leb (size_all xs + 4) room) =
-        fits_by (size_all xs) room (leb (size_all xs + 4) room) refl in
+    fits_by (size_all xs) room (leb (size_all xs + 4) room) refl in
     ap (λ (t : Bool). cond (not (near_words xs)) 21 (cond t 5 0)) f
     ∙ pick_by (near_words xs) (leb (size_all xs + 4) room)
     ∙ sym (ap₂ (λ (t : Bool) (k : ℕ). cond t (cond (leb k room) 0 5) 21) n l)

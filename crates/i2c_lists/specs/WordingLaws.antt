@@ -1,12 +1,8 @@
 -- The events of a list by its words, and which addresses and how many bytes these make. The laws stand in proofs/WordingLaws. Assumes
 -- nothing.
-use Rattle.std.specs.Prelude.{◌≡◌, refl, ℕ, zero, suc, ◌+◌, ◌*◌, List, [], ◌∷◌, ◌++◌, map, Bool, true, ◌&&◌, eqb, length}
-use Rattle.std.proofs.Common.{ap, sym, ◌∙◌, append_assoc, arith, length-append}
+use Rattle.std.specs.Prelude.{◌+◌, List, [], ◌∷◌, ◌++◌, Bool, true}
 use Rattle.events.specs.declared.BusEvent.{BusEvent}
-use Rattle.events.specs.declared.BusEvent.TheVariants.{Start, Out, In, Stop}
-use Rattle.events.specs.declared.Event.TheVariants.{OnBus}
-use Rattle.records.specs.Record.{no_counts}
-use Rattle.writer.specs.Write.{record_for}
+use Rattle.events.specs.declared.BusEvent.TheVariants.{Start, Out}
 use Rattle.i2c_words.specs.declared.Word.{Word}
 use Rattle.i2c_words.specs.declared.Word.TheVariants.{Write, Read, Byte, Unknown}
 use Rattle.i2c_lists.specs.Records.{to_write, to_read, taken, near}

@@ -101,7 +101,7 @@ message_by : (l c d e : ℕ) (a : List ℕ) (t u : Bool) → eqb d char_at ≡ t
 message_by l c d e a true u et eu =
     subst (λ (x : ℕ). Spelt (l ∷ c ∷ x ∷ e ∷ a) (message_for l (one_of c) (value_of (e ∷ a)))) (sym (eqb-true d char_at et))
     (spelt_made l (c ∷ []) (e ∷ a) (one_of c) (message_for l (one_of c) (value_of (e ∷ a))) (one_count c)
-        (made l (one_of c) (value_of (e ∷ a))))
+    (made l (one_of c) (value_of (e ∷ a))))
 message_by l c d e a false true et eu =
     subst (λ (x : ℕ). Spelt (l ∷ c ∷ d ∷ x ∷ a) (message_for l (two_of c d) (value_of a))) (sym (eqb-true e char_at eu))
     (spelt_made l (c ∷ d ∷ []) a (two_of c d) (message_for l (two_of c d) (value_of a)) (two_count c d) (made l (two_of c d) (value_of a)))

@@ -142,7 +142,7 @@ repeat_backs kind vs f most h k v =
     (λ l. cond_backs kind vs (ticks_fit most (value_at vs 0) (nat_at vs 1)) _ _
     (λ t.
     let m : nat_at vs 1 ≤ most =
-        leb-true _ most (and_right (sense_fits (value_at vs 0) && leb 1 (nat_at vs 1)) (leb (nat_at vs 1) most) t) in
+    leb-true _ most (and_right (sense_fits (value_at vs 0) && leb 1 (nat_at vs 1)) (leb (nat_at vs 1) most) t) in
     whole_backs kind vs (f (value_at vs 0) (nat_at vs 1))
     (record {
       kind_same = k (value_at vs 0) (nat_at vs 1);

@@ -3,7 +3,7 @@
 use Rattle.std.specs.Prelude.{◌≡◌, refl, Bool, true, false, not, ◌&&◌, ◌||◌, ◌≢◌, ℕ, zero, suc, ◌+◌, ◌≤◌, eqb, leb, ltb, ℤ, pos, negsuc}
 use Rattle.std.specs.Prelude.{neg_ℤ, take, replicate}
 use Rattle.std.proofs.Math.Path.{sym, ap}
-use Rattle.std.proofs.Common.{ap₂, subst, ◌∙◌, true≢false, arith, drop_at, le-ltb, eq-eqb, eqb-true}
+use Rattle.std.proofs.Common.{ap₂, ◌∙◌, true≢false, arith, drop_at, le-ltb}
 use Rattle.std.proofs.Math.Bool.{cond}
 use mathlib.Core.List.{List, [], ◌∷◌, ◌++◌, append_assoc}
 use Rattle.std.proofs.Math.ListN.{length, drop, length-append}
@@ -21,7 +21,7 @@ use Rattle.chip.specs.declared.Chip.{Chip}
 use Rattle.turn.specs.Turn.{none}
 use Rattle.turn.specs.Entries.{chip_from, fresh_from}
 use Rattle.turn.specs.PrefixLaws.{WholeRecords}
-use Rattle.turn.specs.Pieces.{joined, WholePieces, no_piece, a_piece}
+use Rattle.turn.specs.Pieces.{joined, WholePieces, a_piece}
 use Rattle.chip_bytes_layout.specs.declared.Kept.{Kept}
 use Rattle.chip_bytes_layout.specs.Layout.{setup_stands, keeps, kept_of as chip_of}
 use Rattle.chip_bytes_layout.specs.Layout.{could_stand as chip_stands}
@@ -35,14 +35,13 @@ use Rattle.season_columns.specs.Stood.{Stood}
 use Rattle.season_columns.specs.AgreesLaws.{stood_of}
 use Rattle.season_bytes_layout.specs.Layout.{report_bytes, blank, kept_at, kept_of, kept_in}
 use Rattle.season_bytes_layout.proofs.TripLaws.{trip, report_length}
-use Rattle.season_rows.specs.Rows.{said_report}
 use Rattle.season_walk.specs.Scans.{scans_from}
 use Rattle.season_stream.specs.Scans.{season_said}
 use Rattle.season_walk.specs.PiecesLaws.{range_from, lacks_from}
-use Rattle.season_c.specs.Calls.{grown_on, grow_said, grow_answer, kept_bytes, Grows}
+use Rattle.season_c.specs.Calls.{grow_said, grow_answer, kept_bytes, Grows}
 use Rattle.season_c.specs.CallsLaws.{same_grown, season_grown}
 use Rattle.season_c.specs.BytesLaws.{zero_report}
-use Rattle.season_laws.specs.GrownLaws.{Gave, none_yet, of_scans, grown_by, grown_as, gave_on, refused_some, grown_in_two}
+use Rattle.season_laws.specs.GrownLaws.{Gave, none_yet, of_scans, grown_as, gave_on, refused_some, grown_in_two}
 
 -- ── a buffer that keeps a report, or none yet ──
 pub record Holds (b : List ℕ) (r : Reported) : Type 0 where
@@ -228,7 +227,7 @@ grown_in_pieces {r = r} {c = c} {o = o} h q ws (more b k a old m n b' k' old' ps
 module _ {b k : List ℕ} {ps : List (List ℕ)} {end kept : List ℕ} {season : Season} (room : 309 ≤ length b)
     (z : take 309 b ≡ replicate 309 0) (q : Keeps k none false) (ws : WholePieces false none ps) (u : Grown b k ps end kept) (s : List ℕ)
     (e : season_said (joined ps ++ s) ≡ gives season) {x : ℤ} {new : List ℕ}
-        (f : Grows (grow_said (kept_of end) (chip_of kept) s) end x new)
+    (f : Grows (grow_said (kept_of end) (chip_of kept) s) end x new)
   where
     said : grow_said (kept_of b) (chip_of k) (joined ps ++ s) ≡ gives season
     said =

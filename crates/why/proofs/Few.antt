@@ -153,7 +153,7 @@ inside_next s b g h = by (read_of c.setup.part r) refl (placed c.setup.part r)
     by (Record e next) q p =
         let m : (event_says b c e (counts_beside r (Record e next))).many ≤ more = record_many b c r e next q in
         let k = streak_most (event_says b c e (counts_beside r (Record e next))) (turned g.fresh c r (Record e next)).chip.normal
-            g.streak in
+        g.streak in
         (omega (arith, h.0, p.1, l), omega (arith, h.1, p.0, m, k))
     by (Refused k next) q p =
         let n = streak_most says_none c.normal g.streak in

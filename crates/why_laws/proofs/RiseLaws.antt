@@ -6,7 +6,6 @@ use Rattle.std.proofs.Common.{sym, ap₂, subst, ◌∙◌, true≢false, arith,
 use Prim.Native.Nat.{ℕ, zero, suc, ◌%◌, ◌<◌, ◌≤◌}
 use Rattle.std.proofs.Math.Nat.{zero-div}
 use Rattle.bits.specs.Bit.{bit}
-use Rattle.turn.specs.declared.Entry.{Entry}
 use Rattle.turn.specs.Entries.{entries}
 use Rattle.demands.proofs.BytesLaws.{no_entry}
 use Rattle.why_walk.specs.declared.Standing.{Standing}

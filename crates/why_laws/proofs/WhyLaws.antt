@@ -29,8 +29,7 @@ use Rattle.turn.specs.Entries.{entries}
 use Rattle.demands.specs.Demand.{of_cells, chip, up, standing, verdicts, delay}
 use Rattle.demands.proofs.History.{setup_is, core_is}
 use Rattle.demands.specs.Wired.{celled}
-use Rattle.demands.specs.Streams.{heard_next}
-use Rattle.demands.proofs.Streams.{a_part}
+use Rattle.demands.proofs.Streams.{heard_next, a_part}
 use Rattle.demands.proofs.BytesLaws.{no_entry, place, status_bit, heard_to, entry_shows}
 use Rattle.why_scan.specs.declared.Says.{Says}
 use Rattle.why_walk.specs.declared.Standing.{Standing}
@@ -137,7 +136,7 @@ module _ (s : List ℕ) (u : SetupValues) (next : ℕ) (first : read_of 0 s ≡ 
     unfolding event_says
     named_scan n r past e m q =
         subst (λ (e : Coded). counts_fit (counts_wanted u e) (counts_beside r (Record e m)) ≡ true
-            → RisesIn u k (events_of r (Record e m)) past
+        → RisesIn u k (events_of r (Record e m)) past
         → Named n r (Record e m) past) (sym q)
         (λ f g.
         let c : Counts = counts_beside r (Record Scan m) in

@@ -1,18 +1,11 @@
 -- CHIP P17, P18: the record at which a bit rose, or a drive went off, the last time, said of the entries alone. The laws stand in
 -- proofs/RiseLaws. Assumes nothing.
-use Rattle.std.specs.Prelude.{◌≡◌, Bool, true, false, cond, not, ◌&&◌, ◌≢◌, List, eqb, leb, length, get_or}
-use Rattle.std.proofs.Math.Path.{refl, ap}
-use Rattle.std.proofs.Common.{sym, ap₂, subst, ◌∙◌, true≢false, arith, leb-true, leb-false, ne_eqb}
-use Prim.Native.Nat.{ℕ, zero, suc, ◌%◌, ◌<◌, ◌≤◌}
-use Rattle.std.proofs.Math.Nat.{zero-div}
+use Rattle.std.specs.Prelude.{◌≡◌, Bool, true, false, cond, not, List, eqb, get_or}
+use Prim.Native.Nat.{ℕ, suc, ◌≤◌}
 use Rattle.bits.specs.Bit.{bit}
 use Rattle.turn.specs.declared.Entry.{Entry}
 use Rattle.turn.specs.Entries.{entries}
 use Rattle.demands.proofs.BytesLaws.{no_entry}
-use Rattle.why_walk.specs.declared.Standing.{Standing}
-use Rattle.why_walk.specs.Standing.{advanced, standing_at}
-use Rattle.why.specs.declared.Rose.{Rose}
-use Rattle.why.specs.Rise.{never, is_such, rose_by, rose_on, risen}
 
 -- ── the same of the entries ──
 -- whether the bit b is up in an entry; where b is 0, whether the drive d is off in it

@@ -1,13 +1,12 @@
 -- Of numbers in a row those whose bit is set, and that these are what the inputs that have a cell hold. The words stand in specs/Kept.
 -- Assumes nothing.
 use Rattle.std.specs.Prelude.{◌≡◌, refl, Bool, true, false, cond, List, [], ◌∷◌, ◌++◌, map, ℕ, zero, suc, ◌+◌, ◌-◌, ◌*◌, ◌/◌, ◌%◌, ◌<◌, ◌≤◌}
-use Rattle.std.specs.Prelude.{eqb, length, get_or, set, take}
+use Rattle.std.specs.Prelude.{length, get_or, set, take}
 use Rattle.std.proofs.Common.{sym, ap, ap₂, ◌∙◌, arith}
 use Rattle.events.specs.declared.Setup.{Setup}
-use Rattle.events.specs.declared.Counts.{Counts}
 use Rattle.events.specs.Setup.{inputs}
 use Rattle.events.specs.FewLaws.{few_inputs}
-use Rattle.cell_counts.specs.Scan.{padded, cell_places}
+use Rattle.cell_counts.specs.Scan.{padded}
 use Rattle.wiring.specs.Rows.{is_wired, upward, wired_inputs, bits, wired_bits}
 use Rattle.wiring.specs.Kept.{kept, picked}
 

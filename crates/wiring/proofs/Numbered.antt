@@ -4,7 +4,7 @@ use Rattle.std.specs.Prelude.{◌≡◌, refl, Bool, true, false, not, ◌&&◌,
 use Rattle.std.proofs.Common.{sym, ap, subst, ◌∙◌, true≢false, arith, eqb-true}
 use Rattle.cell_counts.specs.Scan.{some}
 use Rattle.events.specs.declared.Setup.{Setup}
-use Rattle.events.specs.Setup.{inputs, setup_of, with_cells}
+use Rattle.events.specs.Setup.{inputs}
 use Rattle.events.specs.FewLaws.{few_inputs}
 use Rattle.wiring.specs.Rows.{Row, rows, is_row, row_in, shorted_in, has_row, shorted, is_wired, upward, wired_inputs, pack_cells}
 use Rattle.wiring.specs.Rows.{input_of, bits, wired_bits}

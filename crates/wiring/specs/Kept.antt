@@ -1,12 +1,8 @@
 -- Of numbers in a row those whose bit is set, and that these are what the inputs that have a cell hold. The laws stand in proofs/Kept.
 -- Assumes nothing.
-use Rattle.std.specs.Prelude.{◌≡◌, refl, Bool, true, false, cond, List, [], ◌∷◌, ◌++◌, map, ℕ, zero, suc, ◌+◌, ◌-◌, ◌*◌, ◌/◌, ◌%◌, ◌<◌, ◌≤◌}
-use Rattle.std.specs.Prelude.{eqb, length, get_or, set, take}
-use Rattle.std.proofs.Common.{sym, ap, ap₂, ◌∙◌, arith}
-use Rattle.events.specs.declared.Setup.{Setup}
+use Rattle.std.specs.Prelude.{cond, List, [], ◌∷◌, map, ℕ, ◌-◌, ◌/◌, ◌%◌}
+use Rattle.std.specs.Prelude.{eqb, length, get_or}
 use Rattle.events.specs.declared.Counts.{Counts}
-use Rattle.events.specs.Setup.{inputs}
-use Rattle.events.specs.FewLaws.{few_inputs}
 use Rattle.cell_counts.specs.Scan.{padded, cell_places}
 
 -- the lowest bit is the first number's

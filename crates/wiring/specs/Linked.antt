@@ -1,12 +1,7 @@
 -- CHIP W7: connected inputs by whether there is a wiring record, a pack's cell that converts, and the bits of what is connected. The
 -- laws stand in proofs/LinkedLaws. Assumes nothing.
-use Rattle.std.specs.Prelude.{◌≡◌, refl, Bool, true, false, cond, not, List, [], ◌∷◌, ℕ, zero, suc, ◌+◌, ◌-◌, ◌*◌, ◌≤◌, leb, eqb, length}
+use Rattle.std.specs.Prelude.{Bool, cond, List, [], ◌∷◌, ℕ, ◌-◌, leb}
 use Rattle.std.specs.Prelude.{get_or}
-use Rattle.std.proofs.Common.{sym, ap, ◌∙◌, true≢false, arith}
-use Rattle.events.specs.declared.Setup.{Setup}
-use Rattle.events.specs.Setup.{inputs}
-use Rattle.events.specs.FewLaws.{few_inputs}
-use Rattle.cell_counts.specs.Scan.{some}
 
 abbrev pub above_floor : ℕ → List ℕ → ℕ → Bool
 above_floor floor xs i = leb floor (get_or xs (i - 1) 0)

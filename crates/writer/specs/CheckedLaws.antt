@@ -1,17 +1,10 @@
 -- The writer's numbers 2 and 3 are those of the checks that the chip makes: at its part, for every event but SETUP and a wiring record.
 -- The laws stand in proofs/CheckedLaws. Assumes nothing.
-use Rattle.std.specs.Prelude.{◌≡◌, refl, ℕ, List, Bool, true, false, cond, ◌&&◌, leb, take}
-use Rattle.std.proofs.Common.{ap, sym, ◌∙◌}
-use Rattle.bits.specs.Numbers.{within}
-use Rattle.events.specs.Event.{count_most, fits, counts_wanted, counts_fit, Meant, unfit, event_of, meant_of}
+use Rattle.std.specs.Prelude.{ℕ, cond, ◌&&◌, leb}
+use Rattle.events.specs.Event.{meant_of}
 use Rattle.events.specs.declared.Counts.{Counts}
-use Rattle.events.specs.Role.{role_of}
-use Rattle.events.specs.declared.Role.TheVariants.{Happens}
 use Rattle.events.specs.declared.Event.{Event}
-use Rattle.events.specs.declared.Event.TheVariants.{Setup, Por, Boot, Scan, Temp, Count, Sense, Pin, Load, Xready, OnBus, Level, Ticks}
-use Rattle.events.specs.declared.Event.TheVariants.{Soak, Wires}
 use Rattle.ranges.specs.Refusal.{refusal_of}
-use Rattle.ranges.specs.CountedLaws.{fit_is}
 use Rattle.events.specs.Setup.{standing}
 
 -- 1 for a part that is not 1 to 3, and what the event is refused with where that part stands

@@ -1,5 +1,4 @@
 -- `bumped_by` meets its contract, by whether there are verdicts, whether they are over, and whether the run reaches its longest delay (Alike).
-use borrow.Author.Tests.{not-false}
 use Rattle.protection.proofs.Alike.{alike_less, alike_most}
 use Rattle.protection.proofs.bumped_by.Goals as goal
 

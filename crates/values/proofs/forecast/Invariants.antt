@@ -1,6 +1,5 @@
 -- `values::forecast` meets its contract: the loop has found the least, the greatest and the total of the first i voltages (`Found`). Assumes nothing.
 use Rattle.std.proofs.Common.{◌-◌}
-use Rattle.values.proofs.Within.{signed}
 use Rattle.values.proofs.Found.{Found}
 use Rattle.values.proofs.forecast.Given as goal
 

@@ -1,6 +1,5 @@
 -- By the numbers that refuse, or the row.
 use Rattle.std.proofs.Common.{false, le-ltb, length, lt-ltb, refl, sym, true, ◌∙◌}
-use borrow.Author.Tests.{not-true, not-false}
 use Rattle.why.proofs.Few.{few_none}
 use Rattle.why.proofs.Cases.{held_by_lem, off_as, counted, uncounted, off_is, off_row_is}
 use Rattle.why.proofs.toralinge_off.Goals as goal

@@ -1,6 +1,5 @@
 -- By the numbers that refuse, or the row.
 use Rattle.std.proofs.Common.{arith, false, le-ltb, length, lt-ltb, refl, rules, true, ◌∙◌, ◌≤◌}
-use borrow.Author.Tests.{not-true, not-false}
 use Rattle.why.proofs.Few.{few_short}
 use Rattle.why.proofs.Cases.{explained_by, why_as, counted, uncounted, up_is, why_good, row_is}
 use Rattle.why.proofs.toralinge_why.Goals as goal

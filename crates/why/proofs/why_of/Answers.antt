@@ -1,5 +1,4 @@
 -- By whether the bit is judged.
-use borrow.Author.Tests.{not-true, not-false}
 use Rattle.why.proofs.Cases.{why_unjudged, why_judged}
 use Rattle.why.proofs.why_of.Goals as goal
 

@@ -1,6 +1,5 @@
 -- By the mode after the record, and by what it says.
 use Rattle.std.proofs.Common.{eq-eqb, false, ne_eqb, refl, true}
-use borrow.Author.Tests.{not-true, not-false}
 use Rattle.why_walk.proofs.Cases.{streak_is}
 use Rattle.why_walk.proofs.streak_after.Goals as goal
 

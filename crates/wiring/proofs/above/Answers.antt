@@ -1,6 +1,5 @@
 -- `above` looks at the inputs from the last down (Downward), and its bits are few (Linked).
 use Rattle.std.proofs.Common.{arith, ◌+◌, ◌-◌, ◌≤◌}
-use Rattle.wiring.specs.Rows.{bits}
 use Rattle.wiring.specs.Linked.{above_floor}
 use Rattle.wiring.proofs.LinkedLaws.{few_bits}
 use Rattle.wiring.proofs.above.Goals as goal

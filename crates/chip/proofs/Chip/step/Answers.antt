@@ -1,6 +1,5 @@
 -- An event made by hand: 2 where its counts do not fit, or it is stepped as what it means.
 use Rattle.std.proofs.Common.{ap, sym, ℕ, ◌∙◌}
-use borrow.Author.Tests.{not-true, not-false}
 use Rattle.events.specs.Event.{counts_fit}
 use Rattle.chip.proofs.Steps.{step_unfit, step_fit}
 use Rattle.chip.proofs.Chip.step.Goals as goal
