@@ -18,9 +18,8 @@ use Rattle.turn.specs.Entries.{runs, entries}
 use Rattle.turn.specs.StandingLaws.{first_entries}
 use Rattle.demands.specs.Demand.{chip}
 use Rattle.demands.specs.Wired.{celled}
-use Rattle.demands.specs.Streams.{rest_after}
-use Rattle.demands.proofs.Streams.{heard_next, answer_to, fresh_next, cells_next, Untouched, Took, took, turn_is, goes_on}
-use Rattle.demands.proofs.Streams.{a_part}
+use Rattle.demands.specs.Streams.{rest_after, heard_next}
+use Rattle.demands.proofs.Streams.{answer_to, fresh_next, cells_next, Untouched, Took, took, turn_is, goes_on, a_part}
 
 module _ (u : SetupValues) where
   -- the answers to the records of r, the first record first; `o` says that a wiring record is taken

@@ -9,7 +9,7 @@ use Prim.Native.Nat.{ℕ, zero, suc}
 use Rattle.events.specs.declared.Setup.{Setup}
 use Rattle.events.specs.declared.Counts.{Counts}
 use Rattle.events.specs.declared.Event.{Event as Coded}
-use Rattle.events.specs.Event.{Event, Sense, fits, ticks_fit, Meant, means, ticks, unfit, meant_of, events_in}
+use Rattle.events.specs.Event.{Event, Sense, fits, ticks_fit, Meant, means, ticks, unfit, meant_of}
 use Rattle.events.specs.Fault.{Fault}
 use Rattle.limits.specs.Rule.{rule, opinion}
 use Rattle.chip.specs.declared.Chip.{Chip}
@@ -20,6 +20,7 @@ use Rattle.chip.proofs.RepeatLaws.{senses, record_senses}
 use Rattle.demands.specs.Demand.{chip, core, verdicts}
 use Rattle.demands.specs.Refused.{normal_done, refused}
 use Rattle.demands.proofs.History.{setup_is, core_is, awake_is, asleep_none}
+use Rattle.demands.specs.Aside.{with_meant}
 
 module _ (u : Setup) where
   abbrev pub is_done : List Event → Event → Bool
@@ -88,16 +89,12 @@ module _ (u : Setup) where
   chip_by [] = in_ship u
   chip_by (g ∷ past) = (stepped_by g.0 g.1 (chip_by past)).chip
 
-  -- of ticks each tick is one
-  abbrev pub with_meant : Meant → List Event → List Event
-  with_meant m past = events_in m ++ past
-
   ticks_heard : (n : ℕ) (v : ℤ) (past : List Event) → senses n v (chip u past) ≡ chip u (replicate n (Sense v) ++ past)
   unfolding chip
   ticks_heard zero v past = refl
   ticks_heard (suc n) v past = ap (next (Sense v)) (ticks_heard n v past)
 
-  pub heard_as : (m : Meant) (past : List Event) → (stepped_as m (chip u past)).chip ≡ chip u (with_meant m past)
+  pub heard_as : (m : Meant) (past : List Event) → (stepped_as m (chip u past)).chip ≡ chip u (with_meant u m past)
   unfolding chip
   heard_as (means e) past = refl
   heard_as (ticks most v n) past = by (ticks_fit most v n) refl
@@ -111,7 +108,7 @@ module _ (u : Setup) where
   -- what they mean, those that do not fit the part left out
   unfoldable pub meant : List CodeEvent → List Event
   meant [] = []
-  meant (g ∷ past) = with_meant (meant_of u g.0 g.1) (meant past)
+  meant (g ∷ past) = with_meant u (meant_of u g.0 g.1) (meant past)
 
   -- so every claim over the events of the definitions is one over the events of the code
   pub coded : (past : List CodeEvent) → chip_by past ≡ chip u (meant past)

@@ -29,9 +29,10 @@ use Rattle.turn.specs.StandingLaws.{acted_is, good_part, first_stands, first_ent
 use Rattle.demands.specs.Demand.{chip}
 use Rattle.demands.proofs.History.{setup_is}
 use Rattle.demands.specs.Refused.{refused_as}
-use Rattle.demands.proofs.Aside.{with_meant, heard_as}
+use Rattle.demands.specs.Aside.{with_meant}
+use Rattle.demands.proofs.Aside.{heard_as}
 use Rattle.demands.specs.Wired.{celled, celled_in, as_cells, same_but_cells, meant_cells}
-use Rattle.demands.specs.Streams.{rest_after}
+use Rattle.demands.specs.Streams.{rest_after, heard_next, heard_by, heard}
 
 both_true : (a b : Bool) → (a && not b) ≡ true → (a ≡ true) × (b ≡ false)
 both_true true true h = absurd (true≢false (sym h))
@@ -52,27 +53,13 @@ wired_as_lem true false n m u c h = (refl, refl)
 wired_as_lem false t n m u c h = (refl, refl)
 
 module _ (u : SetupValues) where
-  -- ── the events that records mean, newest first, once SETUP was read as u; a refused record means none, and one that is cut short ends
-  -- them ──
-  -- after what was read at the start of r
-  abbrev pub heard_next : List ℕ → Read → List Event → List Event
-  heard_next r (Record e next) past = with_meant u (meant_of u e (counts_beside r (Record e next))) past
-  heard_next r (Refused k next) past = past
-  heard_next r Cut past = past
-
-  abbrev pub heard_by : ℕ → List ℕ → List Event → List Event
-  heard_by zero r past = past
-  heard_by (suc f) [] past = past
-  heard_by (suc f) (b ∷ r) past =
-      heard_by f (rest_after (b ∷ r) (read_of u.part (b ∷ r))) (heard_next (b ∷ r) (read_of u.part (b ∷ r)) past)
-
   -- the events heard after each record, the first record first
   abbrev pub histories_by : ℕ → List ℕ → List Event → List (List Event)
   histories_by zero r past = []
   histories_by (suc f) [] past = []
   histories_by (suc f) (b ∷ r) past =
-      heard_next (b ∷ r) (read_of u.part (b ∷ r)) past ∷ histories_by f (rest_after (b ∷ r) (read_of u.part (b ∷ r)))
-      (heard_next (b ∷ r) (read_of u.part (b ∷ r)) past)
+      heard_next u (b ∷ r) (read_of u.part (b ∷ r)) past ∷ histories_by f (rest_after (b ∷ r) (read_of u.part (b ∷ r)))
+      (heard_next u (b ∷ r) (read_of u.part (b ∷ r)) past)
 
   -- ── what each is answered; `o` says that since SETUP only refused records came, so that a wiring record is taken (CHIP W1) ──
   abbrev pub answered : Bool → Coded → Counts → List Event → Stepped
@@ -102,7 +89,7 @@ module _ (u : SetupValues) where
   cells_by (suc f) o n [] past = n
   cells_by (suc f) o n (b ∷ r) past =
       cells_by f (fresh_next o (b ∷ r) (read_of u.part (b ∷ r)) past) (cells_next o (b ∷ r) (read_of u.part (b ∷ r)) past n)
-      (rest_after (b ∷ r) (read_of u.part (b ∷ r))) (heard_next (b ∷ r) (read_of u.part (b ∷ r)) past)
+      (rest_after (b ∷ r) (read_of u.part (b ∷ r))) (heard_next u (b ∷ r) (read_of u.part (b ∷ r)) past)
 
   -- ── one record ──
   -- while a wiring record is taken, nothing has happened
@@ -110,10 +97,10 @@ module _ (u : SetupValues) where
   Untouched o past = o ≡ true → chip u past ≡ in_ship u
 
   pub record Took (o : Bool) (n : ℕ) (r : List ℕ) (past : List Event) (x : Read) : Type 0 where
-    pub chip_is : (turned o (celled n (chip u past)) r x).chip ≡ celled (cells_next o r x past n) (chip u (heard_next r x past))
+    pub chip_is : (turned o (celled n (chip u past)) r x).chip ≡ celled (cells_next o r x past n) (chip u (heard_next u r x past))
     pub fresh_is : (turned o (celled n (chip u past)) r x).fresh ≡ fresh_next o r x past
     pub entry_is : (turned o (celled n (chip u past)) r x).entry ≡ entry_of (answer_to o r x past)
-    pub untouched : Untouched (fresh_next o r x past) (heard_next r x past)
+    pub untouched : Untouched (fresh_next o r x past) (heard_next u r x past)
 
   module _ (p : u.part ≢ 0) where
     pub goes_on : (n : ℕ) (past : List Event) → eqb (celled n (chip u past)).setup.part 0 ≡ false
@@ -122,7 +109,7 @@ module _ (u : SetupValues) where
     -- by what the record does: it leaves m cells, and otherwise the chip of the events heard after it
     took_by : (o : Bool) (n m : ℕ) (r : List ℕ) (past after : List Event) (e : Coded) (next : ℕ) (s : Stepped)
         → acted o e (counts_beside r (Record e next)) (celled n (chip u past)) ≡ celled_in m s → celled m s.chip ≡ celled m (chip u after)
-        → answer_to o r (Record e next) past ≡ s → cells_next o r (Record e next) past n ≡ m → heard_next r (Record e next) past ≡ after
+        → answer_to o r (Record e next) past ≡ s → cells_next o r (Record e next) past n ≡ m → heard_next u r (Record e next) past ≡ after
         → (o ≡ true → (s.number ≡ 0 → ⊥) → chip u after ≡ in_ship u) → Took o n r past (Record e next)
     took_by o n m r past after e next s is left said cells heard still =
         record {
@@ -182,7 +169,7 @@ module _ (u : SetupValues) where
     unfolding turn_of
     turn_is o n r past = ap (λ (v : SetupValues). turned o (celled n (chip u past)) r (read_of v.part r)) (setup_is u past)
 
-    none_heard : (f : ℕ) (past : List Event) → heard_by f [] past ≡ past
+    none_heard : (f : ℕ) (past : List Event) → heard_by u f [] past ≡ past
     none_heard zero past = refl
     none_heard (suc f) past = refl
 
@@ -197,17 +184,18 @@ module _ (u : SetupValues) where
     -- ── the chip at the end ──
     abbrev StandsAre : ℕ → Type 0
     StandsAre f = (o : Bool) (n : ℕ) (r : List ℕ) (past : List Event) → Untouched o past
-        → stands f o (celled n (chip u past)) r ≡ celled (cells_by f o n r past) (chip u (heard_by f r past))
+        → stands f o (celled n (chip u past)) r ≡ celled (cells_by f o n r past) (chip u (heard_by u f r past))
 
     stands-turned : (f : ℕ) → StandsAre f → (o : Bool) (n : ℕ) (r : List ℕ) (past : List Event) (x : Read) → Took o n r past x
         → cond (turned o (celled n (chip u past)) r x).last (turned o (celled n (chip u past)) r x).chip
         (stands f (turned o (celled n (chip u past)) r x).fresh (turned o (celled n (chip u past)) r x).chip
         (drop (turned o (celled n (chip u past)) r x).next r))
-        ≡ celled (cells_by f (fresh_next o r x past) (cells_next o r x past n) (rest_after r x) (heard_next r x past))
-        (chip u (heard_by f (rest_after r x) (heard_next r x past)))
+        ≡ celled (cells_by f (fresh_next o r x past) (cells_next o r x past n) (rest_after r x) (heard_next u r x past))
+        (chip u (heard_by u f (rest_after r x) (heard_next u r x past)))
     stands-turned f ih o n r past (Record e next) t =
         ap₂ (λ (b : Bool) (c : Chip). stands f b c (drop next r)) t.fresh_is t.chip_is
-        ∙ ih (fresh_next o r (Record e next) past) (cells_next o r (Record e next) past n) (drop next r) (heard_next r (Record e next) past)
+        ∙ ih (fresh_next o r (Record e next) past) (cells_next o r (Record e next) past n)
+        (drop next r) (heard_next u r (Record e next) past)
         t.untouched
     stands-turned f ih o n r past (Refused k next) t = simp (goes_on n past) (ih o n (drop next r) past t.untouched)
     stands-turned f ih o n r past Cut t = sym (ap₂ celled (none_wired f o n past) (ap (chip u) (none_heard f past)))
@@ -260,10 +248,6 @@ module _ (u : SetupValues) (p : u.part ≢ 0) where
       (took u p o n (b ∷ r) past h (read_of u.part (b ∷ r)) refl)
 
 -- ── a stream whose first record is a SETUP, read with success as u, up to the place next ──
--- the events that the records after it mean
-abbrev pub heard : SetupValues → ℕ → List ℕ → List Event
-heard u next s = heard_by u (length s - 1) (drop next s) []
-
 -- the number of cells of its wiring record, 0 where it has none
 abbrev pub cells_in : SetupValues → ℕ → List ℕ → ℕ
 cells_in u next s = cells_by u (length s - 1) true u.cells (drop next s) []

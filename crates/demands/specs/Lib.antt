@@ -20,3 +20,4 @@ pub mod Table
 pub mod RefusalLaws
 pub mod CellLaws
 pub mod WriteLaws
+pub mod Aside

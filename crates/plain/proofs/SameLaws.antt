@@ -39,7 +39,8 @@ use Rattle.demands.specs.Demand.{chip}
 use Rattle.demands.proofs.History.{runs_are}
 use Rattle.demands.specs.Told.{run_of_lem}
 use Rattle.demands.specs.Wired.{same_but_cells}
-use Rattle.demands.proofs.Streams.{heard, cells_in, last_chip_lem, histories, shows, to_show, entries_show}
+use Rattle.demands.specs.Streams.{heard}
+use Rattle.demands.proofs.Streams.{cells_in, last_chip_lem, histories, shows, to_show, entries_show}
 use Rattle.plain_back.specs.Said.{verdicts_after, verdicts_in, streaks_in, most}
 use Rattle.plain_back.specs.Walk.{meant_of_lem}
 use Rattle.plain.specs.Decision.{ticks_done}

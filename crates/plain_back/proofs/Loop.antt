@@ -34,9 +34,9 @@ use Rattle.protection.specs.Streak.{streak}
 use Rattle.limits.specs.Rule.{rule, over, under, beyond}
 use Rattle.turn.proofs.Runs.{rest_is}
 use Rattle.demands.specs.Demand.{verdicts}
-use Rattle.demands.proofs.Aside.{with_meant}
-use Rattle.demands.specs.Streams.{rest_after}
-use Rattle.demands.proofs.Streams.{heard_next, heard_by, heard, a_part}
+use Rattle.demands.specs.Aside.{with_meant}
+use Rattle.demands.specs.Streams.{rest_after, heard_next, heard_by, heard}
+use Rattle.demands.proofs.Streams.{a_part}
 use Rattle.plain_due.specs.declared.Streaks.{Streaks}
 use Rattle.plain_back.specs.declared.Walk.{Walk}
 use Rattle.plain_back.specs.declared.Passed.{Passed}

@@ -15,7 +15,7 @@ use Rattle.records.specs.Record.{read_of}
 use Rattle.constants.specs.Answer.{Said, gives, refuses}
 use Rattle.protection.specs.Streak.{streak}
 use Rattle.demands.specs.Demand.{verdicts}
-use Rattle.demands.proofs.Streams.{heard}
+use Rattle.demands.specs.Streams.{heard}
 use Rattle.plain_due.specs.declared.Streaks.{Streaks}
 use Rattle.plain_due.specs.Streaks.{streaks_of}
 use Rattle.plain_back.specs.declared.Back.{Back}

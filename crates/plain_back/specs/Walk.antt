@@ -36,7 +36,7 @@ use Rattle.chip.specs.Core.{Core, core_of, bare, core_next}
 use Rattle.chip.proofs.MovesLaws.{setup-next}
 use Rattle.demands.specs.Demand.{core, standing, verdicts}
 use Rattle.demands.proofs.History.{asleep_none}
-use Rattle.demands.proofs.Aside.{with_meant}
+use Rattle.demands.specs.Aside.{with_meant}
 use Rattle.plain_due.specs.declared.Streaks.{Streaks}
 use Rattle.plain_back.specs.declared.Walk.{Walk}
 use Rattle.plain_back.specs.Moved.{moved_to, moved_by}

@@ -29,7 +29,8 @@ use Rattle.turn.specs.Entries.{entries}
 use Rattle.demands.specs.Demand.{of_cells, chip, up, standing, verdicts, delay}
 use Rattle.demands.proofs.History.{setup_is, core_is}
 use Rattle.demands.specs.Wired.{celled}
-use Rattle.demands.proofs.Streams.{heard_next, a_part}
+use Rattle.demands.specs.Streams.{heard_next}
+use Rattle.demands.proofs.Streams.{a_part}
 use Rattle.demands.proofs.BytesLaws.{no_entry, place, status_bit, heard_to, entry_shows}
 use Rattle.why_scan.specs.declared.Says.{Says}
 use Rattle.why_walk.specs.declared.Standing.{Standing}

@@ -27,11 +27,11 @@ use Rattle.turn.specs.Turn.{Turn, none, acted, turned, turn_of}
 use Rattle.turn.specs.Entries.{entries}
 use Rattle.demands.specs.Demand.{chip, core, verdicts}
 use Rattle.demands.proofs.History.{setup_is, core_is, awake_is, asleep_none}
-use Rattle.demands.proofs.Aside.{with_meant}
+use Rattle.demands.specs.Aside.{with_meant}
 use Rattle.demands.specs.Wired.{celled}
 use Rattle.demands.proofs.BytesLaws.{place, heard_to}
-use Rattle.demands.specs.Streams.{rest_after}
-use Rattle.demands.proofs.Streams.{heard_next, cells_next, histories_by, histories, Untouched, Took}
+use Rattle.demands.specs.Streams.{rest_after, heard_next}
+use Rattle.demands.proofs.Streams.{cells_next, histories_by, histories, Untouched, Took}
 use Rattle.demands.proofs.Streams.{took, turn_is, goes_on, a_part, shows, to_show, entries_show}
 use Rattle.plain_due.specs.Streaks.{streak_of, streaks_of}
 use Rattle.plain_back.specs.declared.Walk.{Walk}
