@@ -271,19 +271,28 @@ many_crates() {
 }
 
 # proved [CRATE]: rt proves the crate and all that it stands on, or every crate, side by side and where they changed, with a line for each that is proved anew and how
-# many are left; all else that rt says goes to a log.
+# many are left; all else that rt says goes to a log. A crate that fails is named; whether it is needed, the build that comes after this tells.
 proved() {
     local log=target/log/${1:-all}-below.log left
     mkdir -p "$root/target/log"
     left=$(many_crates "$@")
     printf '%s: rt all check proves %d crates where they changed; %s has what it says\n' "$me" "$left" "$log" >&2
-    (cd "$root/${1:+crates/$1}" && rt all check --jobs "$(at_a_time)" 2>&1) </dev/null | tee "$root/$log" | awk -v me="$me" -v left="$left" '
-        /^== summary/ { ended = 1 }
-        /^== / && !ended { name = $2; left-- }
-        /^rt: waiting/ { printf "%s: %s\n", me, substr($0, 5); fflush() }
-        /^logic=proved/ && !ended { printf "%s: %s is proved, %d left\n", me, name, left; fflush() }
-        ended && /^[a-z0-9_]+: / && !/: ok$/ { printf "%s: %s\n", me, $0; fflush() }
-    ' >&2 || give_up 1 "rt all check does not pass: $log has what it said"
+    (cd "$root/${1:+crates/$1}" && rt all check --jobs "$(at_a_time)" 2>&1) </dev/null | tee "$root/$log" | told_of_crates "$left" >&2 || true
+}
+
+# told_of_crates LEFT: what is to be seen of what rt all check says. First it reads the code of the crates that nothing stands on, which takes some seconds each.
+told_of_crates() {
+    local line crate='' left=$1 heads=0 ended=''
+    while IFS= read -r line; do
+        case $ended$line in
+        'rt: waiting '*) printf '%s: %s\n' "$me" "${line#rt: }" ;;
+        only=*) heads=$((heads + 1)) && printf '%s: before it proves, rt has read %d of the highest crates\n' "$me" "$heads" ;;
+        '== summary') ended='in the summary ' ;;
+        '== '*) crate=${line#== } left=$((left - 1)) ;;
+        logic=proved*) printf '%s: %s is proved, %d left\n' "$me" "$crate" "$left" ;;
+        'in the summary '*': failed '* | 'in the summary '*': not run, '*) printf '%s: %s\n' "$me" "$line" ;;
+        esac
+    done
 }
 
 # want_input WORD..: one file at most, which can be read, or standard input that is no terminal; `usage` says what is asked for.
