@@ -4,4 +4,7 @@ pub mod Number
 pub mod Range
 pub mod Size
 pub mod Answer
+pub mod Refusal
+pub mod RefusalLaws
+pub mod Kind
 pub mod ApartLaws

@@ -7,5 +7,6 @@ pub mod kind;
 pub mod number;
 pub mod part;
 pub mod range;
+pub mod refusal;
 pub mod size;
 pub mod weight;
