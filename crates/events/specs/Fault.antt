@@ -1,16 +1,25 @@
--- The four faults that wait for a delay. Assumes nothing.
+-- The four faults that wait for a delay, and one of a kind for each. Assumes nothing.
 use Rattle.std.specs.Prelude.{Bool}
-use Rattle.events.specs.declared.Faults.{Faults}
+use Rattle.events.specs.declared.PerFault.{PerFault}
+pub use Rattle.events.specs.declared.Fault.{Fault}
+pub use Rattle.events.specs.declared.Fault.TheVariants.{Ov, Uv, Scd, Ocd}
 
-pub data Fault : Type 0 where
-  Ov Uv Scd Ocd : Fault
+-- what is held for one fault, and what is held for all
+abbrev pub of_fault : {T : Type 0} → Fault → PerFault T → T
+of_fault Ov p = p.ov
+of_fault Uv p = p.uv
+of_fault Scd p = p.scd
+of_fault Ocd p = p.ocd
+
+abbrev pub per_fault : {T : Type 0} → (Fault → T) → PerFault T
+per_fault f = record { ov = f Ov; uv = f Uv; scd = f Scd; ocd = f Ocd }
 
 -- the answer for one fault, and the answers for all
+abbrev pub Faults : Type 0
+Faults = PerFault Bool
+
 abbrev pub among : Faults → Fault → Bool
-among f Ov = f.ov
-among f Uv = f.uv
-among f Scd = f.scd
-among f Ocd = f.ocd
+among f k = of_fault k f
 
 abbrev pub faults_of : (Fault → Bool) → Faults
-faults_of r = record { ov = r Ov; uv = r Uv; scd = r Scd; ocd = r Ocd }
+faults_of r = per_fault r

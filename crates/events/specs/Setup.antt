@@ -1,10 +1,11 @@
 -- CHIP S1, S4 and S5: the setup, and number 1. Assumes nothing.
-use Rattle.std.specs.Prelude.{Bool, false, ◌&&◌, cond, ℕ, ◌*◌, eqb, leb, ltb}
+use Rattle.std.specs.Prelude.{Bool, false, ◌&&◌, cond, ℕ, ◌*◌, eqb, leb, ltb, Result, Ok, Err}
 use Rattle.constants.specs.Range.{PART_MOST, ADDRESS_LEAST, ADDRESS_MOST, GAIN_CODE_MOST, FLOOR_MOST}
-use Rattle.constants.specs.Number.{DONE, BAD_SETUP}
+use Rattle.constants.specs.Number.{DONE}
+use Rattle.constants.specs.Refusal.{number_of}
+use Rattle.constants.specs.declared.refusal.Refusal.{Refusal}
+use Rattle.constants.specs.declared.refusal.Refusal.TheVariants.{BadSetup}
 use Rattle.events.specs.declared.Setup.{Setup}
-use Rattle.events.specs.declared.Checked.{Checked}
-use Rattle.events.specs.declared.Checked.TheVariants.{Good, Bad}
 
 -- a number from the least to the most
 abbrev pub between : ℕ → ℕ → ℕ → Bool
@@ -20,14 +21,14 @@ abbrev pub setup_of : ℕ → ℕ → ℕ → ℕ → ℕ → ℕ → Setup
 setup_of part crc address gain offset floor =
     record { part = part; crc = eqb crc 1; address = address; gain_code = gain; offset = offset; floor = floor; cells = 0 }
 
-unfoldable pub checked_of : ℕ → ℕ → ℕ → ℕ → ℕ → ℕ → Checked
+unfoldable pub checked_of : ℕ → ℕ → ℕ → ℕ → ℕ → ℕ → Result Setup Refusal
 checked_of part crc address gain offset floor =
-    cond (setup_fits part crc address gain floor) (Good (setup_of part crc address gain offset floor)) Bad
+    cond (setup_fits part crc address gain floor) (Ok (setup_of part crc address gain offset floor)) (Err BadSetup)
 
 -- the number of each answer (CHIP O4)
-abbrev pub setup_number : Checked → ℕ
-setup_number (Good v) = DONE
-setup_number Bad = BAD_SETUP
+abbrev pub setup_number : Result Setup Refusal → ℕ
+setup_number (Ok v) = DONE
+setup_number (Err why) = number_of why
 
 -- five inputs for part 1, ten for part 2, fifteen for part 3: that many groups of five
 unfoldable pub groups : Setup → ℕ

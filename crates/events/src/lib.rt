@@ -8,8 +8,9 @@ ghost use Rattle.events.specs.Role.{role_of};
 ghost use Rattle.events.specs.Setup.{between, checked_of, inputs, groups};
 
 use constants::range;
+use constants::refusal::Refusal;
 
-#[derive(Clone, Copy)]
+#[derive(Clone, Copy, Debug, PartialEq, Eq)]
 pub struct Setup {
     pub part: u8,
     pub crc: bool,
@@ -22,7 +23,7 @@ pub struct Setup {
 }
 
 // What the host does on the bus. IN holds whether the host does not acknowledge.
-#[derive(Clone, Copy)]
+#[derive(Clone, Copy, Debug, PartialEq, Eq)]
 pub enum BusEvent {
     Start,
     Out(u8),
@@ -31,7 +32,7 @@ pub enum BusEvent {
 }
 
 // What happens to the chip. The counts of a SCAN or TEMP stand beside it.
-#[derive(Clone, Copy)]
+#[derive(Clone, Copy, Debug, PartialEq, Eq)]
 pub enum Event {
     Setup(Setup),
     Por,
@@ -55,14 +56,14 @@ pub enum Event {
 }
 
 // How many counts there are, and the counts: input 1 first, 0 from the first place that is not used.
-#[derive(Clone, Copy)]
+#[derive(Clone, Copy, Debug, PartialEq, Eq)]
 pub struct Counts {
     pub many: u8,
     pub of: [u16; 15],
 }
 
 // Which counts stand beside an event: one for each input, one for each group of five, or none.
-#[derive(Clone, Copy)]
+#[derive(Clone, Copy, Debug, PartialEq, Eq)]
 pub enum Beside {
     Inputs,
     Groups,
@@ -70,64 +71,77 @@ pub enum Beside {
 }
 
 // What an event's record does: SETUP makes a chip, a wiring record makes it anew with that many cells, every other event happens to it.
-#[derive(Clone, Copy)]
+#[derive(Clone, Copy, Debug, PartialEq, Eq)]
 pub enum Role {
     Makes(Setup),
     Rewires(u8),
     Happens,
 }
 
-// One answer for each of the four faults that wait for a delay.
-#[derive(Clone, Copy)]
-pub struct Faults {
-    pub ov: bool,
-    pub uv: bool,
-    pub scd: bool,
-    pub ocd: bool,
+// The four faults that wait for a delay.
+#[derive(Clone, Copy, Debug, PartialEq, Eq)]
+pub enum Fault {
+    Ov,
+    Uv,
+    Scd,
+    Ocd,
 }
 
-#[derive(Clone, Copy)]
-pub enum Checked {
-    Good(Setup),
-    // Number 1.
-    Bad,
+// One of a kind for each of the four.
+#[derive(Clone, Copy, Debug, Default, PartialEq, Eq)]
+pub struct PerFault<T> {
+    pub ov: T,
+    pub uv: T,
+    pub scd: T,
+    pub ocd: T,
 }
+
+// An answer for each.
+pub type Faults = PerFault<bool>;
 
 // Whether there is such a part.
 fn part_fits(part: u8) -> bool
     ensures { result ≡ between 1 PART_MOST part }
 {
-    (1 <= part) & (part <= range::PART_MOST)
+    (1..=range::PART_MOST).contains(&part)
 }
 
 // Whether a chip may have this address.
 fn address_fits(address: u8) -> bool
     ensures { result ≡ between ADDRESS_LEAST ADDRESS_MOST address }
 {
-    (range::ADDRESS_LEAST <= address) & (address <= range::ADDRESS_MOST)
+    (range::ADDRESS_LEAST..=range::ADDRESS_MOST).contains(&address)
 }
 
 // Six numbers as a setup, where each is in its range.
-pub fn setup_of(part: u8, crc: u8, address: u8, gain: u8, offset: u8, floor: u16) -> Checked
+#[tactic(auto, unfolding(crate::specs::Setup::checked_of))]
+pub fn setup_of(
+    part: u8,
+    crc: u8,
+    address: u8,
+    gain: u8,
+    offset: u8,
+    floor: u16,
+) -> Result<Setup, Refusal>
     ensures { result ≡ checked_of part crc address gain offset floor }
 {
     let good = part_fits(part)
-        & (crc <= 1)
-        & address_fits(address)
-        & (gain <= range::GAIN_CODE_MOST)
-        & (floor <= range::FLOOR_MOST);
-    if good {
-        return Checked::Good(Setup {
-            part,
-            crc: crc == 1,
-            address,
-            gain_code: gain,
-            offset,
-            floor,
-            cells: 0,
-        });
+        && crc <= 1
+        && address_fits(address)
+        && gain <= range::GAIN_CODE_MOST
+        && floor <= range::FLOOR_MOST;
+    if !good {
+        return Err(Refusal::BadSetup);
     }
-    Checked::Bad
+    Ok(Setup {
+        part,
+        crc: crc == 1,
+        address,
+        gain_code: gain,
+        offset,
+        floor,
+        cells: 0,
+    })
 }
 
 // Which counts stand beside an event.
@@ -137,19 +151,7 @@ pub fn beside_of(event: Event) -> Beside
     match event {
         Event::Scan => Beside::Inputs,
         Event::Temp => Beside::Groups,
-        Event::Setup(_)
-        | Event::Por
-        | Event::Boot
-        | Event::Count(_)
-        | Event::Sense(_)
-        | Event::Pin
-        | Event::Load(_)
-        | Event::Xready
-        | Event::OnBus(_)
-        | Event::Level(_)
-        | Event::Ticks(_, _)
-        | Event::Soak(_, _)
-        | Event::Wires(_) => Beside::Nothing,
+        _ => Beside::Nothing,
     }
 }
 
@@ -160,42 +162,24 @@ pub fn role_of(event: Event) -> Role
     match event {
         Event::Setup(setup) => Role::Makes(setup),
         Event::Wires(cells) => Role::Rewires(cells),
-        Event::Por
-        | Event::Boot
-        | Event::Scan
-        | Event::Temp
-        | Event::Count(_)
-        | Event::Sense(_)
-        | Event::Pin
-        | Event::Load(_)
-        | Event::Xready
-        | Event::OnBus(_)
-        | Event::Level(_)
-        | Event::Ticks(_, _)
-        | Event::Soak(_, _) => Role::Happens,
+        _ => Role::Happens,
     }
 }
 
 impl Setup {
     // How many groups of five inputs the part has: at most three.
+    #[tactic(auto, unfolding(crate::specs::Setup::groups))]
     pub fn groups(self) -> u8
         ensures { result ≡ groups self }
     {
-        if self.part < range::PART_MOST {
-            self.part
-        } else {
-            range::PART_MOST
-        }
+        self.part.min(range::PART_MOST)
     }
 
     // How many cell inputs the part has.
+    #[tactic(auto, unfolding(crate::specs::Setup::groups, crate::specs::Setup::inputs))]
     pub fn inputs(self) -> u8
         ensures { result ≡ inputs self }
     {
-        if self.part < range::PART_MOST {
-            range::GROUP_INPUTS * self.part
-        } else {
-            range::INPUTS_MOST
-        }
+        range::GROUP_INPUTS * self.groups()
     }
 }
