@@ -5,6 +5,5 @@ pub mod Range
 pub mod Size
 pub mod Answer
 pub mod Refusal
-pub mod RefusalLaws
 pub mod Kind
 pub mod ApartLaws
