@@ -5,7 +5,7 @@ use mathlib.Core.Bool.{Bool, true, false, cond}
 use Prim.Native.Nat.{ℕ, ◌+◌, ◌*◌, ◌<◌, ◌≤◌, min}
 use native.Mathlib.Numerals.{add-one}
 use native.Mathlib.Omega.{arith}
-use lib.ListN.{length, get_or, take}
+use lib.ListN.{length, length-take, get_or, take}
 use lib.Seq.{take-suc, take_all}
 use lib.IntN.{ℤ, pos, nat_abs, ◌+ℤ◌}
 use lib.Signed.{lt_z}
@@ -41,23 +41,22 @@ pub cond_size : (t : Bool) (a b : ℤ) {k : ℕ} → nat_abs a ≤ k → nat_abs
 cond_size true a b p q = p
 cond_size false a b p q = q
 
--- what a loop over the first n counts has found of the first i, and the sizes
-pub record Found (g b n : ℕ) (counts : List ℕ) (least greatest total : ℤ) (i : ℕ) : Type 0 where
-  pub within : i ≤ n
-  pub low : least ≡ fold lesser (first_of g b counts) (voltages g b (take i counts))
-  pub high : greatest ≡ fold greater (first_of g b counts) (voltages g b (take i counts))
-  pub sum : total ≡ fold ◌+ℤ◌ (pos 0) (voltages g b (take i counts))
+-- what a loop has found of the counts that it has seen, and the sizes
+pub record Found (g b : ℕ) (first : ℤ) (seen : List ℕ) (least greatest total : ℤ) : Type 0 where
+  pub low : least ≡ fold lesser first (voltages g b seen)
+  pub high : greatest ≡ fold greater first (voltages g b seen)
+  pub sum : total ≡ fold ◌+ℤ◌ (pos 0) (voltages g b seen)
   pub low_size : nat_abs least ≤ most
   pub high_size : nat_abs greatest ≤ most
-  pub sum_size : nat_abs total ≤ most * i
+  pub sum_size : nat_abs total ≤ most * length seen
 
-module _ {g b : ℕ} (n : ℕ) {counts : List ℕ} (fg : Fits w8 g) (fb : Fits w8 b) where
-  pub none : Fits w16 (get_or counts 0 0) → {x : ℤ} → x ≡ first_of g b counts → Found g b n counts x x (pos 0) 0
+module _ {g b : ℕ} (fg : Fits w8 g) (fb : Fits w8 b) where
+  pub none : (counts : List ℕ) → Fits w16 (get_or counts 0 0) → {x : ℤ} → x ≡ first_of g b counts
+      → Found g b (first_of g b counts) [] x x (pos 0)
   unfolding fold
-  none fn e =
+  none counts fn e =
       let size : nat_abs (first_of g b counts) ≤ most = cell_size g b (get_or counts 0 0) fg fb fn in
       record {
-        within = omega arith;
         low = e;
         high = e;
         sum = refl;
@@ -66,25 +65,25 @@ module _ {g b : ℕ} (n : ℕ) {counts : List ℕ} (fg : Fits w8 g) (fb : Fits w
         sum_size = omega arith;
       }
 
-  module _ {i : ℕ} (h : i < n) (h' : i < length counts) (fn : Fits w16 (get_or counts i 0)) {least greatest total : ℤ} (found : Found g b n counts least greatest total i) where
+  module _ (s : List ℕ) (i : ℕ) (h : i < length s) (fn : Fits w16 (get_or s i 0)) {first least greatest total : ℤ}
+      (found : Found g b first (take i s) least greatest total) where
     abbrev v : ℤ
-    v = cell_microvolts g b (get_or counts i 0)
+    v = cell_microvolts g b (get_or s i 0)
 
-    pub more : {x y z : ℤ} → x ≡ lesser least v → y ≡ greater greatest v → z ≡ total +ℤ v → Found g b n counts x y z (i + 1)
+    pub more : {x y z : ℤ} → x ≡ lesser least v → y ≡ greater greatest v → z ≡ total +ℤ v → Found g b first (take (i + 1) s) x y z
     more ex ey ez =
-        let size : nat_abs v ≤ most = cell_size g b (get_or counts i 0) fg fb fn in
+        let size : nat_abs v ≤ most = cell_size g b (get_or s i 0) fg fb fn in
         record {
-          within = omega arith;
-          low = ex ∙ ap (λ (s : ℤ). lesser s v) found.low ∙ sym (fold_more lesser _ (cell_microvolts g b) counts i h');
-          high = ey ∙ ap (λ (s : ℤ). greater s v) found.high ∙ sym (fold_more greater _ (cell_microvolts g b) counts i h');
-          sum = ez ∙ ap (λ (s : ℤ). s +ℤ v) found.sum ∙ sym (fold_more ◌+ℤ◌ _ (cell_microvolts g b) counts i h');
+          low = ex ∙ ap (λ (s : ℤ). lesser s v) found.low ∙ sym (fold_more lesser _ (cell_microvolts g b) s i h);
+          high = ey ∙ ap (λ (s : ℤ). greater s v) found.high ∙ sym (fold_more greater _ (cell_microvolts g b) s i h);
+          sum = ez ∙ ap (λ (s : ℤ). s +ℤ v) found.sum ∙ sym (fold_more ◌+ℤ◌ _ (cell_microvolts g b) s i h);
           low_size = rw ex (cond_size (lt_z v least) v least size found.low_size);
-          high_size = rw ey (cond_size (lt_z greatest v) v greatest size found.high_size);
-          sum_size = rw ez (omega (arith, abs_add total v, size, found.sum_size));
+          high_size = rw ey (cond_size (lt_z v greatest) greatest v found.high_size size);
+          sum_size = rw ez (omega (arith, abs_add total v, size, found.sum_size, length-take {A = ℕ}));
         }
 
 -- the places that a clamped number takes are those that the number takes
-pub take_min : (many : ℕ) (counts : List ℕ) → length counts ≡ 15 → take (min many 15) counts ≡ take many counts
+take_min : (many : ℕ) (counts : List ℕ) → length counts ≡ 15 → take (min many 15) counts ≡ take many counts
 take_min many counts e = go (ltb many 15) refl
   where
     go : (t : Bool) → ltb many 15 ≡ t → take (min many 15) counts ≡ take many counts
@@ -92,11 +91,11 @@ take_min many counts e = go (ltb many 15) refl
     go false q = take_all (min many 15) counts (omega (arith, ltb-false many 15 q)) ∙ sym (take_all many counts (omega (arith, ltb-false many 15 q)))
 
 -- at the end, the reading
-pub done : {g b n i many : ℕ} {counts : List ℕ} {least greatest total : ℤ} {word : ℕ} {r : Reading} → Found g b n counts least greatest total i → n ≤ i → n ≡ min many 15 → length counts ≡ 15
+pub done : {g b n i many : ℕ} {counts : List ℕ} {least greatest total : ℤ} {word : ℕ} {r : Reading}
+    → Found g b (first_of g b counts) (take i (take n counts)) least greatest total → length (take n counts) ≤ i → n ≡ min many 15 → length counts ≡ 15
     → IsDouble r.least least → IsDouble r.greatest greatest → IsDouble r.total total → IsDouble r.cc (cc_hundredths word) → IsReading g b many counts word r
 done {g} {b} {n} {i} {many} {counts} found h m e l u t w =
-    let end : i ≡ min many 15 = omega arith in
-    let all : take i counts ≡ take many counts = ap (λ (n : ℕ). take n counts) end ∙ take_min many counts e in
+    let all : take i (take n counts) ≡ take many counts = take_all i (take n counts) h ∙ ap (λ (n : ℕ). take n counts) m ∙ take_min many counts e in
     record {
       least = moved l (found.low ∙ ap (λ (s : List ℕ). fold lesser (first_of g b counts) (voltages g b s)) all);
       greatest = moved u (found.high ∙ ap (λ (s : List ℕ). fold greater (first_of g b counts) (voltages g b s)) all);

@@ -1,15 +1,15 @@
 -- CHIP V10, the reading: least, greatest and total cell µV, and CC. Assumes nothing.
-use Rattle.std.specs.Prelude.{ℕ, cond, List, [], ◌∷◌, map, ℤ, pos, ◌+ℤ◌, get_or, take}
-use Rattle.std.specs.Int.Signed.{lt_z}
+use Rattle.std.specs.Prelude.{ℕ, List, [], ◌∷◌, map, ℤ, pos, ◌+ℤ◌, get_or, take}
+use Rattle.std.specs.Int.{int_min, int_max}
 use Rattle.values.specs.Values.{cell_microvolts, cc_hundredths}
 use Rattle.values.specs.Double.{IsDouble}
 use Rattle.values.specs.declared.Reading.{Reading}
 
 abbrev pub lesser : ℤ → ℤ → ℤ
-lesser a b = cond (lt_z b a) b a
+lesser a b = int_min a b
 
 abbrev pub greater : ℤ → ℤ → ℤ
-greater a b = cond (lt_z a b) b a
+greater a b = int_max a b
 
 unfoldable pub fold : (ℤ → ℤ → ℤ) → ℤ → List ℤ → ℤ
 fold f z [] = z

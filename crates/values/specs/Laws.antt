@@ -29,7 +29,7 @@ lesser_le : (a b : ℤ) → (lesser a b ≤ℤ a) × (lesser a b ≤ℤ b)
 lesser_le a b = pick (lt_z b a) (λ z. (z ≤ℤ a) × (z ≤ℤ b)) b a (λ t. (weaken b a t, ≤ℤ_refl b)) (λ t. (≤ℤ_refl a, lt_z_no t))
 
 greater_ge : (a b : ℤ) → (a ≤ℤ greater a b) × (b ≤ℤ greater a b)
-greater_ge a b = pick (lt_z a b) (λ z. (a ≤ℤ z) × (b ≤ℤ z)) b a (λ t. (weaken a b t, ≤ℤ_refl b)) (λ t. (≤ℤ_refl a, lt_z_no t))
+greater_ge a b = pick (lt_z b a) (λ z. (a ≤ℤ z) × (b ≤ℤ z)) a b (λ t. (≤ℤ_refl a, weaken b a t)) (λ t. (lt_z_no t, ≤ℤ_refl b))
 
 -- ---- a fold that picks: what it gives bounds every element, in its order R
 
@@ -96,7 +96,7 @@ module _ (code offset many : ℕ) (counts : List ℕ) where
     least_is = one_of lesser (λ P a b p q. pick (lt_z b a) P b a (λ t. q) (λ t. p))
 
     pub greatest_is : IsCell code offset many counts (greatest_of code offset many counts)
-    greatest_is = one_of greater (λ P a b p q. pick (lt_z a b) P b a (λ t. q) (λ t. p))
+    greatest_is = one_of greater (λ P a b p q. pick (lt_z b a) P a b (λ t. p) (λ t. q))
 
 -- ---- the total
 

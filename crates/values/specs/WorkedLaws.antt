@@ -1,7 +1,7 @@
 -- CHIP X1 to X5: worked numbers, one list with a single claim. Assumes nothing.
 use Rattle.std.specs.Prelude.{ℕ, ◌≡◌, refl, List, [], ◌∷◌, map, ℤ, pos, neg_ℤ}
 use Rattle.constants.specs.Answer.{Said, gives, refuses}
-use Rattle.values.specs.Values.{cell_said, cc_hundredths, ohms_said, over_said, under_said, threshold_said}
+use Rattle.values.specs.Values.{cell_said, cc_hundredths, ohms_said, over_said, under_said}
 use Rattle.crc8.specs.Crc.{crc}
 
 -- what is asked. A gain is given by its code: 354 is 344 + 10
@@ -18,7 +18,7 @@ whole (gives n) = gives (pos n)
 whole (refuses n) = refuses n
 
 unfoldable pub answer : Ask → Said ℤ
-unfolding cell_said ohms_said threshold_said crc
+unfolding crc
 answer (cell code offset count) = cell_said code offset count
 answer (cc reading) = gives (cc_hundredths reading)
 answer (thermistor count) = whole (ohms_said count)

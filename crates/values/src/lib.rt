@@ -1,13 +1,14 @@
 // CHIP V1 to V8: exact conversions of what the chip counts.
 #![tactic(auto)]
 
-ghost use Rattle.std.specs.Prelude.{◌≡◌, ◌^◌, ◌+◌, ◌*◌, ◌≤◌, ◌<◌, min, nat_abs, pos};
-ghost use Rattle.values.specs.Values.{signed8, signed16, gain, offset_microvolts, cell_microvolts, microvolts_by, cell_said, cc_hundredths, ohms_said, die_said, full, threshold_said, over_said, under_said, up};
+ghost use Rattle.std.specs.Prelude.{◌≡◌, ◌^◌, ◌+◌, ◌*◌, ◌≤◌, ◌<◌, nat_abs, pos};
+ghost use Rattle.values.specs.Values.{gain, offset_microvolts, cell_microvolts, microvolts_by, cell_said, cc_hundredths, ohms_said, die_said, full, threshold_said, over_said, under_said, up};
 ghost use Rattle.values.specs.Double.{IsDouble};
-ghost use Rattle.values.specs.Forecast.{lesser, greater, IsReading};
-ghost use Rattle.values.specs.Said.{number_of, said_voltage, said_ohms, said_die, said_code};
+ghost use Rattle.values.specs.Forecast.{IsReading};
+ghost use Rattle.values.specs.Said.{gain_fits, count_fits, said, said_voltage};
 
-use constants::{number, range};
+use constants::range;
+use constants::refusal::Refusal;
 
 // In microvolts: the gain of code 0, a step of the offset; in hundredths of a microvolt a step of the coulomb counter.
 const GAIN_LEAST: u64 = 344;
@@ -47,83 +48,51 @@ const WANTED_LEAST: i64 = 1000000;
 const WANTED_MOST: i64 = 5000000;
 
 // Two units: what the chip counts, and what the formula makes of a count.
-#[derive(Clone, Copy)]
+#[derive(Clone, Copy, Debug, PartialEq, Eq)]
 pub struct RawCount(pub u16);
 
-#[derive(Clone, Copy)]
+#[derive(Clone, Copy, Debug, PartialEq, Eq)]
 pub struct Microvolts(pub i64);
 
-// Why a conversion refuses.
-#[derive(Clone, Copy)]
-pub enum Refusal {
-    GainCode,
-    Count,
-    Thermistor,
-    Window,
-}
-
-#[derive(Clone, Copy)]
-pub enum CellVoltage {
-    Is(Microvolts),
-    No(Refusal),
-}
-
-#[derive(Clone, Copy)]
-pub enum Resistance {
-    Is(u64),
-    No(Refusal),
-}
-
-#[derive(Clone, Copy)]
-pub enum DieTemperature {
-    Is(i64),
-    No(Refusal),
-}
-
-#[derive(Clone, Copy)]
-pub enum ThresholdCode {
-    Is(u8),
-    No(Refusal),
-}
-
-// The number of a refusal (CHIP O4).
-pub fn number_of(why: Refusal) -> u8
-    ensures { result ≡ number_of why }
+// A gain code that is too large refuses.
+fn gain_fits(code: u8) -> Result<(), Refusal>
+    ensures { result ≡ gain_fits code }
 {
-    match why {
-        Refusal::GainCode => number::BAD_SETUP,
-        Refusal::Count => number::BAD_VALUE,
-        Refusal::Thermistor => number::OPEN_SENSOR,
-        Refusal::Window => number::NO_CODE,
+    if code > range::GAIN_CODE_MOST {
+        return Err(Refusal::BadSetup);
     }
+    Ok(())
 }
 
-// A byte read as signed.
-fn signed_byte(b: u8) -> i64
-    ensures { result ≡ signed8 b }
+// A count, if it is one.
+fn count_fits(count: RawCount) -> Result<u16, Refusal>
+    ensures { result ≡ count_fits count.0 }
 {
-    if b < 128 { b as i64 } else { b as i64 - 256 }
+    if count.0 > range::COUNT_MOST {
+        return Err(Refusal::BadValue);
+    }
+    Ok(count.0)
 }
 
 // What so many counts are worth at a gain code.
 fn counted(code: u8, counts: u32) -> i64
     ensures { result ≡ pos (gain code * counts) }
 {
-    ((GAIN_LEAST + code as u64) * counts as u64) as i64
+    ((GAIN_LEAST + u64::from(code)) * u64::from(counts)).cast_signed()
 }
 
 // What the offset adds.
 fn offset_microvolts(offset: u8) -> i64
     ensures { result ≡ offset_microvolts offset }
 {
-    OFFSET_STEP * signed_byte(offset)
+    OFFSET_STEP * i64::from(offset.cast_signed())
 }
 
 // The formula with nothing refused: no gain code and no count takes an i64 near its ends.
 fn cell(code: u8, offset: u8, count: u16) -> i64
     ensures { result ≡ cell_microvolts code offset count }
 {
-    counted(code, count as u32) + offset_microvolts(offset)
+    counted(code, u32::from(count)) + offset_microvolts(offset)
 }
 
 // The same in its unit, for a chip whose setup and counts were judged before.
@@ -137,67 +106,47 @@ pub fn cell_microvolts(code: u8, offset: u8, count: RawCount) -> Microvolts
 pub fn microvolts_by(gain_code: u8, offset: u8, scans: u32, sum: u32) -> Microvolts
     ensures { result.0 ≡ microvolts_by gain_code offset scans sum }
 {
-    Microvolts(counted(gain_code, sum) + scans as i64 * offset_microvolts(offset))
+    Microvolts(counted(gain_code, sum) + i64::from(scans) * offset_microvolts(offset))
 }
 
 // A cell's voltage on bare numbers, which are judged.
-pub fn cell_voltage(code: u8, offset: u8, count: RawCount) -> CellVoltage
+pub fn cell_voltage(code: u8, offset: u8, count: RawCount) -> Result<Microvolts, Refusal>
     ensures { said_voltage result ≡ cell_said code offset count.0 }
 {
-    if code > range::GAIN_CODE_MOST {
-        return CellVoltage::No(Refusal::GainCode);
-    }
-    let n = count.0;
-    if n > range::COUNT_MOST {
-        return CellVoltage::No(Refusal::Count);
-    }
-    CellVoltage::Is(Microvolts(cell(code, offset, n)))
-}
-
-// A 16-bit reading read as signed.
-fn signed_word(x: u16) -> i64
-    ensures { result ≡ signed16 x }
-{
-    if x < 32768 {
-        x as i64
-    } else {
-        x as i64 - 65536
-    }
+    gain_fits(code)?;
+    let n = count_fits(count)?;
+    Ok(Microvolts(cell(code, offset, n)))
 }
 
 // The coulomb counter's reading in hundredths of a microvolt.
 pub fn cc_hundredths(reading: u16) -> i64
     ensures { result ≡ cc_hundredths reading }
 {
-    signed_word(reading) * CC_STEP
+    i64::from(reading.cast_signed()) * CC_STEP
 }
 
 // A thermistor's resistance, rounded down: from 9,323 counts up there is none.
-pub fn thermistor_ohms(count: RawCount) -> Resistance
-    ensures { said_ohms result ≡ ohms_said count.0 }
+pub fn thermistor_ohms(count: RawCount) -> Result<u64, Refusal>
+    ensures { said result ≡ ohms_said count.0 }
 {
-    let n = count.0;
-    if n >= THERMISTOR_END {
-        return Resistance::No(Refusal::Thermistor);
+    if count.0 >= THERMISTOR_END {
+        return Err(Refusal::OpenSensor);
     }
-    let v = THERMISTOR_GAIN * n as u64;
-    Resistance::Is(PULL_UP_OHMS * v / (PULL_UP_MICROVOLTS - v))
+    let v = THERMISTOR_GAIN * u64::from(count.0);
+    Ok(PULL_UP_OHMS * v / (PULL_UP_MICROVOLTS - v))
 }
 
 // The die's temperature in half thousandths of a degree C.
-pub fn die_temperature(count: RawCount) -> DieTemperature
-    ensures { said_die result ≡ die_said count.0 }
+pub fn die_temperature(count: RawCount) -> Result<i64, Refusal>
+    ensures { said result ≡ die_said count.0 }
 {
-    let n = count.0;
-    if n > range::COUNT_MOST {
-        return DieTemperature::No(Refusal::Count);
-    }
-    DieTemperature::Is(DIE_ZERO - DIE_STEP * n as i64)
+    let n = count_fits(count)?;
+    Ok(DIE_ZERO - DIE_STEP * i64::from(n))
 }
 
 // What forecasting gets: each double is the whole number.
 #[repr(C)]
-#[derive(Clone, Copy)]
+#[derive(Clone, Copy, Debug, PartialEq)]
 pub struct Reading {
     pub least: f64,
     pub greatest: f64,
@@ -213,40 +162,18 @@ fn doubled(v: i64) -> f64
     v as f64
 }
 
-fn lesser_of(a: i64, b: i64) -> i64
-    ensures { result ≡ lesser a b }
-{
-    if b < a { b } else { a }
-}
-
-fn greater_of(a: i64, b: i64) -> i64
-    ensures { result ≡ greater a b }
-{
-    if a < b { b } else { a }
-}
-
-// How many of the fifteen places are cells.
-fn places(many: u8) -> usize
-    ensures { result ≡ min many 15 }
-{
-    if many < 15 { many as usize } else { 15 }
-}
-
 // The reading of the first `many` cells.
 pub fn forecast(code: u8, offset: u8, many: u8, counts: [u16; 15], cc: u16) -> Reading
     ensures { IsReading code offset many counts cc result }
 {
-    let n = places(many);
     let mut least = cell(code, offset, counts[0]);
     let mut greatest = least;
     let mut total: i64 = 0;
-    let mut i = 0;
-    while i < n {
-        let v = cell(code, offset, counts[i]);
-        least = lesser_of(least, v);
-        greatest = greater_of(greatest, v);
-        total = total + v;
-        i += 1;
+    for count in &counts[..usize::from(many).min(15)] {
+        let v = cell(code, offset, *count);
+        least = least.min(v);
+        greatest = greatest.max(v);
+        total += v;
     }
     Reading {
         least: doubled(least),
@@ -262,38 +189,36 @@ fn full_count(code: u8, offset: u8, wanted: i64) -> u64
     requires bound { (1000000 ≤ up wanted) × (up wanted ≤ 5000000) }
     ensures { pos result ≡ full code offset wanted }
 {
-    (wanted - offset_microvolts(offset)) as u64 / (GAIN_LEAST + code as u64)
+    (wanted - offset_microvolts(offset)) as u64 / (GAIN_LEAST + u64::from(code))
 }
 
 // The threshold's code for a wanted voltage, in the window from start to last. No gain and offset take a voltage below 1,000,000 or above 5,000,000 to either window.
-fn threshold(start: u64, last: u64, code: u8, offset: u8, wanted: i64) -> ThresholdCode
+fn threshold(start: u64, last: u64, code: u8, offset: u8, wanted: i64) -> Result<u8, Refusal>
     requires le_start { (4096 ≤ start) × (start ≤ 8192) }
     requires last_bound { (last ≤ start + 4095) × (last ≤ 12287) }
-    ensures { said_code result ≡ threshold_said start last code offset wanted }
+    ensures { said result ≡ threshold_said start last code offset wanted }
 {
-    if code > range::GAIN_CODE_MOST {
-        return ThresholdCode::No(Refusal::GainCode);
-    }
-    if (wanted < WANTED_LEAST) | (wanted > WANTED_MOST) {
-        return ThresholdCode::No(Refusal::Window);
+    gain_fits(code)?;
+    if !(WANTED_LEAST..=WANTED_MOST).contains(&wanted) {
+        return Err(Refusal::NoCode);
     }
     let full = full_count(code, offset, wanted);
-    if (full < start) | (full > last) {
-        return ThresholdCode::No(Refusal::Window);
+    if !(start..=last).contains(&full) {
+        return Err(Refusal::NoCode);
     }
-    ThresholdCode::Is(((full - start) / TRIP_STEP) as u8)
+    Ok(((full - start) / TRIP_STEP) as u8)
 }
 
 // The OV_TRIP code for a wanted over-voltage.
-pub fn over_voltage_code(code: u8, offset: u8, wanted: Microvolts) -> ThresholdCode
-    ensures { said_code result ≡ over_said code offset wanted.0 }
+pub fn over_voltage_code(code: u8, offset: u8, wanted: Microvolts) -> Result<u8, Refusal>
+    ensures { said result ≡ over_said code offset wanted.0 }
 {
     threshold(OV_WINDOW, OV_WINDOW_LAST, code, offset, wanted.0)
 }
 
 // The UV_TRIP code for a wanted under-voltage.
-pub fn under_voltage_code(code: u8, offset: u8, wanted: Microvolts) -> ThresholdCode
-    ensures { said_code result ≡ under_said code offset wanted.0 }
+pub fn under_voltage_code(code: u8, offset: u8, wanted: Microvolts) -> Result<u8, Refusal>
+    ensures { said result ≡ under_said code offset wanted.0 }
 {
     threshold(UV_WINDOW, UV_WINDOW_LAST, code, offset, wanted.0)
 }

@@ -1,11 +1,8 @@
--- `values::forecast` meets its contract: the loop has found the least, the greatest and the total of the first i voltages (`Found`). Assumes nothing.
-use Rattle.std.proofs.Common.{◌-◌}
+-- `values::forecast` meets its contract: the loop has found the least, the greatest and the total of the voltages so far (`Found`). Assumes nothing.
+use Rattle.std.proofs.Common.{take}
 use Rattle.values.proofs.Found.{Found}
+use Rattle.values.specs.Forecast.{first_of}
 use Rattle.values.proofs.forecast.Given as goal
 
--- a signed local of a loop is its bits there
-abbrev pub invariant-loop-i : goal.invariant-loop-i
-invariant-loop-i l = Found l.code l.offset l.n l.counts l.least l.greatest l.total l.i
-
-abbrev pub decreases-loop-i : goal.decreases-loop-i
-decreases-loop-i l = l.n - l.i
+abbrev pub invariant-loop-count : goal.invariant-loop-count
+invariant-loop-count l = Found l.code l.offset (first_of l.code l.offset l.fn.counts) (take l.count-index l.count-items) l.least l.greatest l.total
