@@ -1,8 +1,8 @@
 -- The four faults that wait for a delay, and one of a kind for each. Assumes nothing.
 use Rattle.std.specs.Prelude.{Bool}
 use Rattle.events.specs.declared.PerFault.{PerFault}
-pub use Rattle.events.specs.declared.Fault.{Fault}
-pub use Rattle.events.specs.declared.Fault.TheVariants.{Ov, Uv, Scd, Ocd}
+use Rattle.events.specs.declared.Fault.{Fault}
+use Rattle.events.specs.declared.Fault.TheVariants.{Ov, Uv, Scd, Ocd}
 
 -- what is held for one fault, and what is held for all
 abbrev pub of_fault : {T : Type 0} → Fault → PerFault T → T

@@ -56,7 +56,7 @@ pub enum Event {
 }
 
 // How many counts there are, and the counts: input 1 first, 0 from the first place that is not used.
-#[derive(Clone, Copy, Debug, PartialEq, Eq)]
+#[derive(Clone, Copy, Debug, Default, PartialEq, Eq)]
 pub struct Counts {
     pub many: u8,
     pub of: [u16; 15],

@@ -2,8 +2,10 @@
 use Rattle.std.specs.Prelude.{Bool, true, false, ◌&&◌, cond, List, [], ◌∷◌, ℕ, zero, suc, ◌+◌, ◌*◌, ◌/◌, ◌%◌, max, get_or, ℤ, pos, neg_ℤ}
 use Rattle.std.specs.Int.Signed.{lt_z}
 use Rattle.events.specs.Event.{Event, Por, Boot, Pin, Xready, Scan, Temp, Count, Sense, Load, OnBus, Level}
-use Rattle.events.specs.Fault.{Fault, Ov, Uv, Scd, Ocd}
+use Rattle.events.specs.declared.Fault.{Fault}
+use Rattle.events.specs.declared.Fault.TheVariants.{Ov, Uv, Scd, Ocd}
 use Rattle.settings.specs.declared.Settings.{Settings}
+use Rattle.limits.specs.declared.Rule.{Rule}
 use Rattle.bits.specs.Bit.{bit}
 use Rattle.cell_counts.specs.Scan.{some_above, some_between}
 
@@ -59,10 +61,9 @@ limit_of Scd s = get_or (scd_limit (bit s.protect1 128)) (s.protect1 % 8) 0
 limit_of Ocd s = get_or (ocd_limit (bit s.protect1 128)) (s.protect2 % 16) 0
 
 -- ── the rule: whether it is measured (ADC_EN is the cells' alone), its limit in counts or µV, and the scans or ticks that it takes ──
-pub record Rule : Type 0 where
-  pub on : Bool
-  pub limit : ℕ
-  pub need : ℕ
+-- the delay of its code
+abbrev pub delay_of : Fault → Settings → ℕ
+delay_of k s = get_or (delay_table k) (delay_code k s) 0
 
 abbrev pub measured_by : Fault → Settings → Bool
 measured_by Ov s = s.adc_en
@@ -71,7 +72,7 @@ measured_by Scd s = true
 measured_by Ocd s = true
 
 unfoldable pub rule : Fault → Settings → Rule
-rule k s = record { on = measured_by k s; limit = limit_of k s; need = cond (short k s) 1 (get_or (delay_table k) (delay_code k s) 0) }
+rule k s = record { on = measured_by k s; limit = limit_of k s; need = cond (short k s) 1 (delay_of k s) }
 
 -- ── verdicts ──
 -- over (CHIP J2)

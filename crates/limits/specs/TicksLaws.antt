@@ -2,7 +2,7 @@
 use Rattle.std.specs.Prelude.{◌≡◌, refl, Bool, true, false, ◌&&◌, ℕ, zero, suc, ◌*◌, ◌%◌, ◌^◌, ◌<◌, eqb, ltb, get_or}
 use Rattle.std.proofs.Common.{arith, eqb-true, ltb-true, ltb-false}
 use Rattle.bits.specs.BoolLaws.{and_left, and_right}
-use Rattle.events.specs.Fault.{Ocd}
+use Rattle.events.specs.declared.Fault.TheVariants.{Ocd}
 use Rattle.limits.specs.Rule.{ocd_ticks, delay_table}
 
 -- a test that holds below n holds at each k below n

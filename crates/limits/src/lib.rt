@@ -1,13 +1,13 @@
 // Limits and delays by register code, and the verdict of a tick.
 #![tactic(auto)]
 
-ghost use Rattle.std.specs.Prelude.{◌≡◌, ◌%◌, ◌<◌, get_or};
-ghost use Rattle.events.specs.Fault.{Ov, Uv, Scd, Ocd};
-ghost use Rattle.bits.specs.Bit.{bit};
-ghost use Rattle.limits.specs.Rule.{ocd_ticks, scd_limit, ocd_limit, rule, beyond};
+ghost use Rattle.std.specs.Prelude.{◌≡◌, ◌<◌};
+ghost use Rattle.events.specs.declared.Fault.TheVariants.{Ov, Uv, Scd, Ocd};
+ghost use Rattle.limits.specs.Rule.{limit_of, delay_of, measured_by, ocd_ticks, rule, beyond};
 ghost use Rattle.limits.specs.Sag.{sag};
 
 use constants::weight;
+use events::Fault;
 use settings::Settings;
 
 // In µV: RSNS 0 then 1, code 0 first.
@@ -47,71 +47,48 @@ const UV_SCANS: [u16; 4] = [4, 16, 32, 64];
 
 const SCD_TICKS: [u16; 4] = [3, 4, 7, 13];
 
-// A count above this is over.
+// The rule of a fault as the settings have it: whether it is measured, its limit in counts or µV, and the scans or ticks that it takes.
+#[derive(Clone, Copy, Debug, PartialEq, Eq)]
+pub struct Rule {
+    pub on: bool,
+    pub limit: u32,
+    pub need: u16,
+}
+
+// A count above this is over. As wide as a count: the scan's loop compares the two.
 pub fn over_line(s: Settings) -> u16
-    ensures { result ≡ (rule Ov s).limit }
+    ensures { result ≡ limit_of Ov s }
 {
-    OV_START + TRIP_STEP * s.ov_trip as u16
+    OV_START + TRIP_STEP * u16::from(s.ov_trip)
 }
 
 // A count below this, and not below the floor, is under.
 pub fn under_line(s: Settings) -> u16
-    ensures { result ≡ (rule Uv s).limit }
+    ensures { result ≡ limit_of Uv s }
 {
-    UV_START + TRIP_STEP * s.uv_trip as u16
+    UV_START + TRIP_STEP * u16::from(s.uv_trip)
 }
 
-pub fn scd_limit(protect1: u8) -> u32
-    ensures { result ≡ get_or (scd_limit (bit protect1 128)) (protect1 % 8) 0 }
+fn scd_limit(s: Settings) -> u32
+    ensures { result ≡ limit_of Scd s }
 {
-    let code = (protect1 % 8) as usize;
-    let low = SCD_LOW[code];
-    let high = SCD_HIGH[code];
-    if bits::bit(protect1, weight::RSNS) {
-        high
+    let code = usize::from(s.protect1 % 8);
+    if bits::bit(s.protect1, weight::RSNS) {
+        SCD_HIGH[code]
     } else {
-        low
+        SCD_LOW[code]
     }
 }
 
-pub fn ocd_limit(protect1: u8, protect2: u8) -> u32
-    ensures { result ≡ get_or (ocd_limit (bit protect1 128)) (protect2 % 16) 0 }
+fn ocd_limit(s: Settings) -> u32
+    ensures { result ≡ limit_of Ocd s }
 {
-    let code = (protect2 % 16) as usize;
-    let low = OCD_LOW[code];
-    let high = OCD_HIGH[code];
-    if bits::bit(protect1, weight::RSNS) {
-        high
+    let code = usize::from(s.protect2 % 16);
+    if bits::bit(s.protect1, weight::RSNS) {
+        OCD_HIGH[code]
     } else {
-        low
+        OCD_LOW[code]
     }
-}
-
-pub fn ov_scans(s: Settings) -> u16
-    ensures { result ≡ (rule Ov s).need }
-{
-    if s.delay_dis {
-        return NO_DELAY;
-    }
-    OV_SCANS[(s.protect3 / 16 % 4) as usize]
-}
-
-pub fn uv_scans(s: Settings) -> u16
-    ensures { result ≡ (rule Uv s).need }
-{
-    if s.delay_dis {
-        return NO_DELAY;
-    }
-    UV_SCANS[(s.protect3 / 64 % 4) as usize]
-}
-
-pub fn scd_ticks(s: Settings) -> u16
-    ensures { result ≡ (rule Scd s).need }
-{
-    if s.delay_dis {
-        return NO_DELAY;
-    }
-    SCD_TICKS[(s.protect1 / 8 % 4) as usize]
 }
 
 // The over-current ticks of a code: 256, then 640 doubled with each code more. No table: the pack tester has no room for one.
@@ -125,34 +102,65 @@ fn ticks_at(code: u8) -> u16
     OCD_TICKS_SECOND << (code - 1)
 }
 
-pub fn ocd_ticks(s: Settings) -> u16
-    ensures { result ≡ (rule Ocd s).need }
+fn limit_of(s: Settings, fault: Fault) -> u32
+    ensures { result ≡ limit_of fault s }
 {
-    if s.delay_dis {
-        return NO_DELAY;
+    match fault {
+        Fault::Ov => u32::from(over_line(s)),
+        Fault::Uv => u32::from(under_line(s)),
+        Fault::Scd => scd_limit(s),
+        Fault::Ocd => ocd_limit(s),
     }
-    ticks_at(s.protect2 / 16 % 8)
+}
+
+fn delay_of(s: Settings, fault: Fault) -> u16
+    ensures { result ≡ delay_of fault s }
+{
+    match fault {
+        Fault::Ov => OV_SCANS[usize::from(s.protect3 / 16 % 4)],
+        Fault::Uv => UV_SCANS[usize::from(s.protect3 / 64 % 4)],
+        Fault::Scd => SCD_TICKS[usize::from(s.protect1 / 8 % 4)],
+        Fault::Ocd => ticks_at(s.protect2 / 16 % 8),
+    }
+}
+
+fn measured(s: Settings, fault: Fault) -> bool
+    ensures { result ≡ measured_by fault s }
+{
+    match fault {
+        Fault::Ov | Fault::Uv => s.adc_en,
+        _ => true,
+    }
+}
+
+#[tactic(auto, unfolding(crate::specs::Rule::rule))]
+pub fn rule_of(s: Settings, fault: Fault) -> Rule
+    ensures { result ≡ rule fault s }
+{
+    Rule {
+        on: measured(s, fault),
+        limit: limit_of(s, fault),
+        need: if s.delay_dis {
+            NO_DELAY
+        } else {
+            delay_of(s, fault)
+        },
+    }
 }
 
 // How far a tick's value lies below 0; the least i32 too.
 fn sag_of(value: i32) -> u32
     ensures { result ≡ sag value }
 {
-    if value < 0 {
-        (0 - value as i64) as u32
-    } else {
-        0
+    if value < 0 { value.unsigned_abs() } else { 0 }
+}
+
+impl Rule {
+    // Whether a tick's value is beyond the limit.
+    #[tactic(auto, using(crate::specs::Sag::exceeds), unfolding(crate::specs::Rule::beyond))]
+    pub fn beyond(self, value: i32) -> bool
+        ensures { result ≡ beyond self value }
+    {
+        self.on && self.limit < sag_of(value)
     }
-}
-
-pub fn beyond_scd(s: Settings, value: i32) -> bool
-    ensures { result ≡ beyond (rule Scd s) value }
-{
-    scd_limit(s.protect1) < sag_of(value)
-}
-
-pub fn beyond_ocd(s: Settings, value: i32) -> bool
-    ensures { result ≡ beyond (rule Ocd s) value }
-{
-    ocd_limit(s.protect1, s.protect2) < sag_of(value)
 }

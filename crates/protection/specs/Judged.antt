@@ -2,10 +2,12 @@
 -- or one tick's value, is enough for it. Assumes nothing.
 use Rattle.std.specs.Prelude.{◌≡◌, refl, Bool, false, ◌&&◌, List, ℕ, leb, ℤ}
 use Rattle.events.specs.Event.{Event, Scan, Sense}
-use Rattle.events.specs.Fault.{Fault, Ov, Uv, Scd, Ocd, faults_of}
+use Rattle.events.specs.declared.Fault.{Fault}
+use Rattle.events.specs.declared.Fault.TheVariants.{Ov, Uv, Scd, Ocd}
+use Rattle.events.specs.Fault.{faults_of}
 use Rattle.settings.specs.declared.Settings.{Settings}
 use Rattle.cell_counts.specs.Scan.{some_above, some_between}
-use Rattle.protection.specs.declared.Runs.{Runs}
+use Rattle.protection.specs.Fault.{Runs}
 use Rattle.protection.specs.declared.Judged.{Judged}
 use Rattle.protection.specs.Streak.{bump}
 use Rattle.limits.specs.Rule.{cap, rule, over, under, beyond}

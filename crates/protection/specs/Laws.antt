@@ -1,8 +1,9 @@
 -- CHIP J4 and J9: laws of the runs, for every value of them. Assumes nothing.
 use Rattle.std.specs.Prelude.{◌≡◌, Bool, false}
-use Rattle.events.specs.Fault.{Ov, Uv, faults_of}
+use Rattle.events.specs.declared.Fault.TheVariants.{Ov, Uv}
+use Rattle.events.specs.Fault.{faults_of}
 use Rattle.settings.specs.declared.Settings.{Settings}
-use Rattle.protection.specs.declared.Runs.{Runs}
+use Rattle.protection.specs.Fault.{Runs}
 use Rattle.protection.specs.Judged.{scan_judged}
 use Rattle.protection.specs.TablesLaws.{ended_waits}
 

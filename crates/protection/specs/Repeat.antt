@@ -1,10 +1,12 @@
 -- CHIP R8: ticks of one value, one after the other, and what they come to without counting them one by one: the runs by
 -- their number, and what is due at the last of them, since what was due at one stays due at the next. Assumes nothing.
-use Rattle.std.specs.Prelude.{◌≡◌, refl, Bool, true, false, ◌&&◌, ℕ, zero, suc, ◌+◌, ◌≤◌, min, ltb, ℤ, replicate}
+use Rattle.std.specs.Prelude.{◌≡◌, ◌≢◌, refl, Bool, true, false, ◌&&◌, cond, ℕ, zero, suc, ◌+◌, ◌≤◌, min, ltb, ℤ, replicate}
 use Rattle.std.proofs.Common.{ap, sym, ◌∙◌, true≢false, arith, le-leb, leb-true, lt-ltb}
-use Rattle.events.specs.Fault.{Fault, Scd, Ocd, faults_of}
+use Rattle.events.specs.declared.Fault.{Fault}
+use Rattle.events.specs.declared.Fault.TheVariants.{Scd, Ocd}
+use Rattle.events.specs.Fault.{faults_of}
 use Rattle.settings.specs.declared.Settings.{Settings}
-use Rattle.protection.specs.declared.Runs.{Runs}
+use Rattle.protection.specs.Fault.{Runs}
 use Rattle.protection.specs.declared.Judged.{Judged}
 use Rattle.protection.specs.Streak.{bumps}
 use Rattle.limits.specs.Rule.{cap, rule, beyond}
@@ -26,6 +28,12 @@ alike_over cap (suc n) run = let h : alike cap true (suc n) run ≡ min cap (run
 
 pub alike_not : (cap n run : ℕ) → alike cap false (suc n) run ≡ 0
 alike_not cap n run = refl
+
+-- so by their number
+pub alike_more : (most n run : ℕ) (b : Bool) → n ≢ 0 → alike most b n run ≡ cond b (min most (run + n)) 0
+alike_more most zero run b h = absurd (h refl)
+alike_more most (suc n) run true h = alike_over most n run
+alike_more most (suc n) run false h = refl
 
 -- what is due at one of them is due at the next
 pub due_stays : (k : Fault) (s : Settings) (b : Bool) (n run : ℕ) → lasts k s (alike (cap k) b (suc n) run) ≡ true

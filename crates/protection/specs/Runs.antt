@@ -1,11 +1,11 @@
 -- CHIP J9: the runs after an event, and what rises. Assumes nothing.
 use Rattle.std.specs.Prelude.{Bool, true, false, ◌&&◌, List, [], ◌∷◌, ℕ, leb}
 use Rattle.events.specs.Event.{Event}
-use Rattle.events.specs.Fault.{Fault}
+use Rattle.events.specs.declared.Fault.{Fault}
 use Rattle.settings.specs.declared.Settings.{Settings}
 use Rattle.limits.specs.Rule.{cap, rule, opinion}
 use Rattle.protection.specs.Streak.{bumps}
-use Rattle.protection.specs.declared.Runs.{Runs}
+use Rattle.protection.specs.Fault.{Runs}
 use Rattle.protection.specs.Fault.{run_of, runs_of}
 
 abbrev pub some_opinion : List Bool → Bool

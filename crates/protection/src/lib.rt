@@ -3,41 +3,22 @@
 
 ghost use Rattle.std.specs.Prelude.{◌≡◌, replicate};
 ghost use Rattle.protection.specs.Streak.{bump, bumps};
-ghost use Rattle.protection.specs.Fault.{no_runs};
 ghost use Rattle.protection.specs.Judged.{scan_judged, tick_judged};
 ghost use Rattle.protection.specs.Repeat.{ticks_judged};
 
 use constants::range;
-use events::Faults;
-use limits::{beyond_ocd, beyond_scd, ocd_ticks, ov_scans, scd_ticks, uv_scans};
+use events::{Fault, Faults, PerFault};
+use limits::rule_of;
 use settings::Settings;
 
 // How many scans or ticks in a row were over or under; each stops at its longest delay.
-#[derive(Clone, Copy)]
-pub struct Runs {
-    pub ov: u16,
-    pub uv: u16,
-    pub scd: u16,
-    pub ocd: u16,
-}
+pub type Runs = PerFault<u16>;
 
 // The next runs, and the faults that rise.
-#[derive(Clone, Copy)]
+#[derive(Clone, Copy, Debug, PartialEq, Eq)]
 pub struct Judged {
     pub runs: Runs,
     pub risen: Faults,
-}
-
-// The runs on entering SHIP.
-pub fn no_runs() -> Runs
-    ensures { result ≡ no_runs }
-{
-    Runs {
-        ov: 0,
-        uv: 0,
-        scd: 0,
-        ocd: 0,
-    }
 }
 
 // A run after one more verdict: one longer, up to the longest delay, or ended.
@@ -45,13 +26,14 @@ fn bumped(longest: u16, verdict: bool, run: u16) -> u16
     ensures { result ≡ bump longest verdict run }
 {
     if verdict {
-        if run < longest { run + 1 } else { longest }
+        run.saturating_add(1).min(longest)
     } else {
         0
     }
 }
 
 // A run after more verdicts that are all alike.
+#[tactic(auto, using(crate::specs::Repeat::alike_more))]
 fn bumped_by(longest: u16, verdict: bool, run: u16, more: u32) -> u16
     ensures { result ≡ bumps longest (replicate more verdict) run }
 {
@@ -61,63 +43,63 @@ fn bumped_by(longest: u16, verdict: bool, run: u16, more: u32) -> u16
     if !verdict {
         return 0;
     }
-    let sum = run as u64 + more as u64;
-    if sum < longest as u64 {
-        sum as u16
-    } else {
-        longest
+    (u64::from(run) + u64::from(more)).min(u64::from(longest)) as u16
+}
+
+// SCAN: whether some count was above the line, and some between the floor and its line.
+#[tactic(auto, unfolding(crate::specs::Judged::scan_judged, limits::specs::Rule::rule))]
+pub fn scanned(runs: Runs, s: Settings, above: bool, between: bool) -> Judged
+    ensures { result ≡ scan_judged s above between runs }
+{
+    let over = rule_of(s, Fault::Ov);
+    let under = rule_of(s, Fault::Uv);
+    let ov = bumped(range::OV_LONGEST, over.on && above, runs.ov);
+    let uv = bumped(range::UV_LONGEST, under.on && between, runs.uv);
+    Judged {
+        runs: Runs { ov, uv, ..runs },
+        risen: Faults {
+            ov: over.need <= ov,
+            uv: under.need <= uv,
+            ..Faults::default()
+        },
     }
 }
 
-impl Runs {
-    // SCAN: whether some count was above the line, and some between the floor and its line.
-    pub fn scanned(mut self, s: Settings, above: bool, between: bool) -> Judged
-        ensures { result ≡ scan_judged s above between self }
-    {
-        let ov = bumped(range::OV_LONGEST, s.adc_en & above, self.ov);
-        let uv = bumped(range::UV_LONGEST, s.adc_en & between, self.uv);
-        let risen = Faults {
-            ov: ov_scans(s) <= ov,
-            uv: uv_scans(s) <= uv,
-            scd: false,
-            ocd: false,
-        };
-        self.ov = ov;
-        self.uv = uv;
-        Judged { runs: self, risen }
+// SENSE: one tick of any value.
+#[tactic(auto, unfolding(crate::specs::Judged::tick_judged))]
+pub fn sensed(runs: Runs, s: Settings, value: i32) -> Judged
+    ensures { result ≡ tick_judged s value runs }
+{
+    let short = rule_of(s, Fault::Scd);
+    let over = rule_of(s, Fault::Ocd);
+    let scd = bumped(range::SCD_LONGEST, short.beyond(value), runs.scd);
+    let ocd = bumped(range::OCD_LONGEST, over.beyond(value), runs.ocd);
+    Judged {
+        runs: Runs { scd, ocd, ..runs },
+        risen: Faults {
+            scd: short.need <= scd,
+            ocd: over.need <= ocd,
+            ..Faults::default()
+        },
     }
+}
 
-    // SENSE: one tick of any value.
-    pub fn sensed(mut self, s: Settings, value: i32) -> Judged
-        ensures { result ≡ tick_judged s value self }
-    {
-        let scd = bumped(range::SCD_LONGEST, beyond_scd(s, value), self.scd);
-        let ocd = bumped(range::OCD_LONGEST, beyond_ocd(s, value), self.ocd);
-        let risen = Faults {
-            ov: false,
-            uv: false,
-            scd: scd_ticks(s) <= scd,
-            ocd: ocd_ticks(s) <= ocd,
-        };
-        self.scd = scd;
-        self.ocd = ocd;
-        Judged { runs: self, risen }
-    }
-    // Ticks of any value, one after the other: their number is enough, none is counted by itself.
-    pub fn ticked(mut self, s: Settings, value: i32, repeat: u32) -> Judged
-        ensures { result ≡ ticks_judged repeat s value self }
-    {
-        let scd = bumped_by(range::SCD_LONGEST, beyond_scd(s, value), self.scd, repeat);
-        let ocd = bumped_by(range::OCD_LONGEST, beyond_ocd(s, value), self.ocd, repeat);
-        let some = 0 < repeat;
-        let risen = Faults {
-            ov: false,
-            uv: false,
-            scd: some & (scd_ticks(s) <= scd),
-            ocd: some & (ocd_ticks(s) <= ocd),
-        };
-        self.scd = scd;
-        self.ocd = ocd;
-        Judged { runs: self, risen }
+// Ticks of any value, one after the other: their number is enough, none is counted by itself.
+#[tactic(auto, using(crate::specs::Repeat::ticks_alike_lem))]
+pub fn ticked(runs: Runs, s: Settings, value: i32, repeat: u32) -> Judged
+    ensures { result ≡ ticks_judged repeat s value runs }
+{
+    let short = rule_of(s, Fault::Scd);
+    let over = rule_of(s, Fault::Ocd);
+    let scd = bumped_by(range::SCD_LONGEST, short.beyond(value), runs.scd, repeat);
+    let ocd = bumped_by(range::OCD_LONGEST, over.beyond(value), runs.ocd, repeat);
+    let some = 0 < repeat;
+    Judged {
+        runs: Runs { scd, ocd, ..runs },
+        risen: Faults {
+            scd: some && short.need <= scd,
+            ocd: some && over.need <= ocd,
+            ..Faults::default()
+        },
     }
 }
