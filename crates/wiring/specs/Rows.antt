@@ -1,11 +1,13 @@
 -- CHIP W2 to W7: the shorted inputs of a pack, the numbering of its cells, and what is connected. Assumes nothing.
 use Rattle.std.specs.Prelude.{Bool, true, false, not, ◌&&◌, cond, List, [], ◌∷◌, ℕ, zero, suc, ◌+◌, ◌-◌, ◌*◌, eqb, leb, length, get_or}
-use Rattle.constants.specs.Number.{DONE, NO_ROW}
+use Rattle.std.specs.Prelude.{Result, Ok, Err}
+use Rattle.constants.specs.Number.{DONE}
+use Rattle.constants.specs.Refusal.{number_of}
+use Rattle.constants.specs.declared.refusal.Refusal.{Refusal}
+use Rattle.constants.specs.declared.refusal.Refusal.TheVariants.{NoRow}
 use Rattle.cell_counts.specs.Scan.{some}
 use Rattle.events.specs.declared.Setup.{Setup}
 use Rattle.events.specs.Setup.{inputs, with_cells}
-use Rattle.wiring.specs.declared.Wiring.{Wiring}
-use Rattle.wiring.specs.declared.Wiring.TheVariants.{With, NoRow}
 
 -- a part with a number of cells, and the inputs that it shorts
 pub record Row : Type 0 where
@@ -98,10 +100,10 @@ unfoldable pub converts : Setup → ℕ → Bool
 converts u count = cond (has_row u.part u.cells) true (leb u.floor count)
 
 -- ── a wiring record: 13 for a number without a row (CHIP N13) ──
-unfoldable pub wired_with : Setup → ℕ → Wiring
-wired_with u n = cond (has_row u.part n) (With (with_cells n u)) NoRow
+unfoldable pub wired_with : Setup → ℕ → Result Setup Refusal
+wired_with u n = cond (has_row u.part n) (Ok (with_cells n u)) (Err NoRow)
 
 -- the number of each answer
-abbrev pub wired_number : Wiring → ℕ
-wired_number (With u) = DONE
-wired_number NoRow = NO_ROW
+abbrev pub wired_number : Result Setup Refusal → ℕ
+wired_number (Ok u) = DONE
+wired_number (Err why) = number_of why

@@ -7,6 +7,7 @@ ghost use Rattle.wiring.specs.Linked.{above_floor};
 ghost use Rattle.wiring.specs.Kept.{kept, counts_of, picked};
 
 use constants::part;
+use constants::refusal::Refusal;
 use events::{Counts, Setup};
 
 // The inputs that have a cell, by the number of cells: input 1 is the lowest bit. No two parts have a number in common.
@@ -22,13 +23,6 @@ const FEWEST_OF_10: u8 = 6;
 
 const FEWEST_OF_15: u8 = 11;
 
-#[derive(Clone, Copy)]
-pub enum Wiring {
-    With(Setup),
-    // Number 13.
-    NoRow,
-}
-
 // Whether a part has a row for a number of cells.
 pub fn has_row(part: u8, cells: u8) -> bool
     ensures { result ≡ has_row part cells }
@@ -39,14 +33,14 @@ pub fn has_row(part: u8, cells: u8) -> bool
 }
 
 // The setup with a wiring record's number of cells.
-pub fn wire(mut setup: Setup, cells: u8) -> Wiring
+#[tactic(auto, unfolding(crate::specs::Rows::wired_with))]
+pub fn wire(setup: Setup, cells: u8) -> Result<Setup, Refusal>
     ensures { result ≡ wired_with setup cells }
 {
-    if has_row(setup.part, cells) {
-        setup.cells = cells;
-        return Wiring::With(setup);
+    if !has_row(setup.part, cells) {
+        return Err(Refusal::NoRow);
     }
-    Wiring::NoRow
+    Ok(Setup { cells, ..setup })
 }
 
 // The inputs that have a cell, input 1 the lowest bit: all of the part's where there is no wiring record.
