@@ -1,6 +1,6 @@
 -- CHIP B1 to B20. It knows no register: OUT gives the acknowledgement and at most one accepted store, IN asks for a register and is
 -- told it. `Line` moves by the host's bytes alone. What depends on what a register held stands apart, in `Owed`. Assumes nothing.
-use Rattle.std.specs.Prelude.{Bool, true, false, ◌&&◌, cond, ℕ, ◌+◌, ◌*◌, ◌%◌, eqb, leb}
+use Rattle.std.specs.Prelude.{Bool, true, false, ◌&&◌, cond, ℕ, ◌+◌, ◌*◌, ◌%◌, eqb, leb, Option, Some, None}
 use Rattle.constants.specs.Address.{VC1, CC}
 use Rattle.crc8.specs.Crc.{byte_on}
 use Rattle.events.specs.declared.Setup.{Setup}
@@ -9,11 +9,16 @@ use Rattle.bus.specs.declared.Phase.TheVariants.{Idle, Address, Pointing, Writin
 use Rattle.bus.specs.declared.Line.{Line}
 use Rattle.bus.specs.declared.Owed.{Owed}
 use Rattle.bus.specs.declared.Bus.{Bus}
-use Rattle.bus.specs.declared.Store.TheVariants.{Nothing, At}
+use Rattle.bus.specs.declared.Write.{Write}
 use Rattle.bus.specs.declared.Outed.{Outed}
-use Rattle.bus.specs.declared.Want.{Want}
-use Rattle.bus.specs.declared.Want.TheVariants.{Register, Nothing as NoRegister}
 use Rattle.bus.specs.declared.Taken.{Taken}
+
+-- an accepted store of a value at an address, or none
+abbrev pub Store : Type 0
+Store = Option Write
+
+abbrev pub At : ℕ → ℕ → Store
+At a v = Some (record { at = a; value = v })
 
 abbrev pub line_of : Phase → ℕ → Line
 line_of p a = record { phase = p; pointer = a }
@@ -41,10 +46,10 @@ stopped l = line_of Idle l.pointer
 
 -- ── OUT: the byte given back is 0 where it is acknowledged, 1 where it is not ──
 abbrev pub goes : Phase → ℕ → Outed
-goes p a = record { line = line_of p a; acked = true; byte = 0; store = Nothing }
+goes p a = record { line = line_of p a; acked = true; byte = 0; store = None }
 
 abbrev pub refuses : ℕ → Outed
-refuses a = record { line = line_of Idle a; acked = false; byte = 1; store = Nothing }
+refuses a = record { line = line_of Idle a; acked = false; byte = 1; store = None }
 
 -- an accepted data byte (CHIP B10); the CRC of later ones has the data alone (CHIP B12)
 abbrev pub stores : ℕ → ℕ → Outed
@@ -129,16 +134,16 @@ unfoldable pub owing : ℕ → ℕ → Bus → Owed
 owing here low b = in_owed here low b.owed b.line.phase b.line.pointer
 
 -- ── IN whole: what it asks for, and what it does once it is told ──
-abbrev pub wanted_in : Phase → ℕ → Want
-wanted_in Idle a = NoRegister
-wanted_in Address a = NoRegister
-wanted_in (Pointing s) a = NoRegister
-wanted_in (Writing s) a = NoRegister
-wanted_in (Checking v s) a = NoRegister
-wanted_in (Reading s k) a = Register a
-wanted_in (Summing k) a = NoRegister
+abbrev pub wanted_in : Phase → ℕ → Option ℕ
+wanted_in Idle a = None
+wanted_in Address a = None
+wanted_in (Pointing s) a = None
+wanted_in (Writing s) a = None
+wanted_in (Checking v s) a = None
+wanted_in (Reading s k) a = Some a
+wanted_in (Summing k) a = None
 
-unfoldable pub wanted : Bus → Want
+unfoldable pub wanted : Bus → Option ℕ
 wanted b = wanted_in b.line.phase b.line.pointer
 
 abbrev pub gives : Line → Owed → ℕ → Taken

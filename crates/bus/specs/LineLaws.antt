@@ -1,6 +1,6 @@
 -- CHIP B1 to B18 as they are read: which byte of the host is acknowledged, when the bus goes idle, where the pointer goes, and what a read
 -- takes, in every phase. Addresses and answers are the paper's numbers here. Assumes nothing.
-use Rattle.std.specs.Prelude.{◌≡◌, refl, Bool, true, false, ◌&&◌, ◌||◌, cond, ℕ, ◌+◌, ◌*◌, ◌%◌, eqb, leb}
+use Rattle.std.specs.Prelude.{◌≡◌, refl, Bool, true, false, ◌&&◌, ◌||◌, cond, ℕ, ◌+◌, ◌*◌, ◌%◌, eqb, leb, Some, None}
 use Rattle.std.proofs.Common.{arith}
 use Rattle.crc8.specs.Crc.{byte_on}
 use Rattle.events.specs.declared.Setup.{Setup}
@@ -8,10 +8,8 @@ use Rattle.bus.specs.declared.Phase.{Phase}
 use Rattle.bus.specs.declared.Phase.TheVariants.{Idle, Address, Pointing, Writing, Checking, Reading, Summing}
 use Rattle.bus.specs.declared.Line.{Line}
 use Rattle.bus.specs.declared.Owed.{Owed}
-use Rattle.bus.specs.declared.Store.{Store}
-use Rattle.bus.specs.declared.Store.TheVariants.{Nothing, At}
 use Rattle.bus.specs.declared.Outed.{Outed}
-use Rattle.bus.specs.Bus.{started, stopped, goes, refuses, stores, addressed, fed, checked, out_in, outed}
+use Rattle.bus.specs.Bus.{Store, At, started, stopped, goes, refuses, stores, addressed, fed, checked, out_in, outed}
 use Rattle.bus.specs.Bus.{after_data, after_sum, taken, byte_given, keeps, owing, takes}
 
 -- ── OUT ──
@@ -27,13 +25,13 @@ acknowledged u (Summing k) b = false
 
 -- the data byte that it stores: at once, or with CRC on when its CRC is right
 abbrev pub storing : Setup → Phase → ℕ → ℕ → Store
-storing u Idle a b = Nothing
-storing u Address a b = Nothing
-storing u (Pointing s) a b = Nothing
-storing u (Writing s) a b = cond u.crc Nothing (At a b)
-storing u (Checking v s) a b = cond (eqb b s) (At a v) Nothing
-storing u (Reading s k) a b = Nothing
-storing u (Summing k) a b = Nothing
+storing u Idle a b = None
+storing u Address a b = None
+storing u (Pointing s) a b = None
+storing u (Writing s) a b = cond u.crc None (At a b)
+storing u (Checking v s) a b = cond (eqb b s) (At a v) None
+storing u (Reading s k) a b = None
+storing u (Summing k) a b = None
 
 -- what is awaited after an acknowledged byte
 abbrev pub awaited : Setup → Phase → ℕ → Phase
@@ -50,10 +48,10 @@ abbrev pub pointed : Phase → ℕ → ℕ → Store → ℕ
 pointed Idle a b w = a
 pointed Address a b w = a
 pointed (Pointing s) a b w = b
-pointed (Writing s) a b Nothing = a
-pointed (Writing s) a b (At x v) = (a + 1) % 256
-pointed (Checking v s) a b Nothing = a
-pointed (Checking v s) a b (At x w) = (a + 1) % 256
+pointed (Writing s) a b None = a
+pointed (Writing s) a b (Some w) = (a + 1) % 256
+pointed (Checking v s) a b None = a
+pointed (Checking v s) a b (Some w) = (a + 1) % 256
 pointed (Reading s k) a b w = a
 pointed (Summing k) a b w = a
 
@@ -84,7 +82,7 @@ out_is u l b = by l.phase l.pointer
               line = record { phase = cond (x || y) (cond x (Pointing (byte_on 0 b)) (Reading (byte_on 0 b) false)) Idle; pointer = a };
               acked = x || y;
               byte = cond (x || y) 0 1;
-              store = Nothing;
+              store = None;
             }
         each true y = refl
         each false true = refl
@@ -97,11 +95,11 @@ out_is u l b = by l.phase l.pointer
               line =
                   record {
                     phase = cond x (Checking b (byte_on s b)) (Writing 0);
-                    pointer = pointed (Writing s) a b (cond x Nothing (At a b));
+                    pointer = pointed (Writing s) a b (cond x None (At a b));
                   };
               acked = true;
               byte = 0;
-              store = cond x Nothing (At a b);
+              store = cond x None (At a b);
             }
         each true = refl
         each false = refl
@@ -109,10 +107,10 @@ out_is u l b = by l.phase l.pointer
       where
         each : (x : Bool) → cond x (stores a v) (refuses a)
             ≡ record {
-              line = record { phase = cond x (Writing 0) Idle; pointer = pointed (Checking v s) a b (cond x (At a v) Nothing) };
+              line = record { phase = cond x (Writing 0) Idle; pointer = pointed (Checking v s) a b (cond x (At a v) None) };
               acked = x;
               byte = cond x 0 1;
-              store = cond x (At a v) Nothing;
+              store = cond x (At a v) None;
             }
         each true = refl
         each false = refl

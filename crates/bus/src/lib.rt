@@ -15,7 +15,7 @@ pub const NOT_ACKNOWLEDGED: u8 = 1;
 
 pub const NOTHING_READ: u8 = 0xFF;
 
-#[derive(Clone, Copy)]
+#[derive(Clone, Copy, Debug, PartialEq, Eq)]
 pub enum Phase {
     Idle,
     // After START: the address byte comes.
@@ -33,50 +33,43 @@ pub enum Phase {
 }
 
 // What the host's bytes alone move.
-#[derive(Clone, Copy)]
+#[derive(Clone, Copy, Debug, PartialEq, Eq)]
 pub struct Line {
     pub phase: Phase,
     pub pointer: u8,
 }
 
 // What depends on what registers held: the CRC of the byte given, and the low byte of its pair.
-#[derive(Clone, Copy)]
+#[derive(Clone, Copy, Debug, PartialEq, Eq)]
 pub struct Owed {
     pub sum: u8,
     pub low: u8,
 }
 
-#[derive(Clone, Copy)]
+#[derive(Clone, Copy, Debug, PartialEq, Eq)]
 pub struct Bus {
     pub line: Line,
     pub owed: Owed,
 }
 
-// The accepted store of a value at an address.
-#[derive(Clone, Copy)]
-pub enum Store {
-    Nothing,
-    At(u8, u8),
+// An accepted store of a value at an address.
+#[derive(Clone, Copy, Debug, PartialEq, Eq)]
+pub struct Write {
+    pub at: u8,
+    pub value: u8,
 }
 
 // What OUT does: the line after it, the acknowledgement and the byte that says it, and at most one accepted store.
-#[derive(Clone, Copy)]
+#[derive(Clone, Copy, Debug, PartialEq, Eq)]
 pub struct Outed {
     pub line: Line,
     pub acked: bool,
     pub byte: u8,
-    pub store: Store,
-}
-
-// What IN asks for: the register at an address and the one after it, or none, where a byte is owed already or nothing is read.
-#[derive(Clone, Copy)]
-pub enum Want {
-    Register(u8),
-    Nothing,
+    pub store: Option<Write>,
 }
 
 // What IN does: the bus after it, and the byte given.
-#[derive(Clone, Copy)]
+#[derive(Clone, Copy, Debug, PartialEq, Eq)]
 pub struct Taken {
     pub bus: Bus,
     pub byte: u8,
@@ -86,51 +79,45 @@ pub struct Taken {
 pub fn grown(at: u8) -> u8
     ensures { result ≡ grown at }
 {
-    ((at as u16 + 1) % 256) as u8
+    at.wrapping_add(1)
 }
 
 fn goes(phase: Phase, pointer: u8) -> Outed
     ensures { result ≡ goes phase pointer }
 {
-    let line = Line { phase, pointer };
-    let store = Store::Nothing;
     Outed {
-        line,
+        line: Line { phase, pointer },
         acked: true,
         byte: ACKNOWLEDGED,
-        store,
+        store: None,
     }
 }
 
 fn refuses(pointer: u8) -> Outed
     ensures { result ≡ refuses pointer }
 {
-    let phase = Phase::Idle;
-    let line = Line { phase, pointer };
-    let store = Store::Nothing;
     Outed {
-        line,
+        line: Line {
+            phase: Phase::Idle,
+            pointer,
+        },
         acked: false,
         byte: NOT_ACKNOWLEDGED,
-        store,
+        store: None,
     }
 }
 
-fn stores(pointer: u8, value: u8) -> Outed
-    ensures { result ≡ stores pointer value }
+fn stores(at: u8, value: u8) -> Outed
+    ensures { result ≡ stores at value }
 {
-    let phase = Phase::Writing(0);
-    let next = grown(pointer);
-    let line = Line {
-        phase,
-        pointer: next,
-    };
-    let store = Store::At(pointer, value);
     Outed {
-        line,
+        line: Line {
+            phase: Phase::Writing(0),
+            pointer: grown(at),
+        },
         acked: true,
         byte: ACKNOWLEDGED,
-        store,
+        store: Some(Write { at, value }),
     }
 }
 
@@ -148,6 +135,7 @@ fn address_byte(setup: Setup, pointer: u8, byte: u8) -> Outed
     goes(Phase::Reading(crc, false), pointer)
 }
 
+#[tactic(auto, unfolding(crate::specs::Bus::fed))]
 fn write_byte(setup: Setup, crc: u8, pointer: u8, byte: u8) -> Outed
     ensures { result ≡ fed setup crc pointer byte }
 {
@@ -157,6 +145,7 @@ fn write_byte(setup: Setup, crc: u8, pointer: u8, byte: u8) -> Outed
     stores(pointer, byte)
 }
 
+#[tactic(auto, unfolding(crate::specs::Bus::checked))]
 fn check_byte(value: u8, crc: u8, pointer: u8, byte: u8) -> Outed
     ensures { result ≡ checked value crc pointer byte }
 {
@@ -170,28 +159,31 @@ impl Line {
     pub fn start(self) -> Self
         ensures { result ≡ started self }
     {
-        let phase = Phase::Address;
-        Line { phase, ..self }
+        Line {
+            phase: Phase::Address,
+            ..self
+        }
     }
 
     pub fn stop(self) -> Self
         ensures { result ≡ stopped self }
     {
-        let phase = Phase::Idle;
-        Line { phase, ..self }
+        Line {
+            phase: Phase::Idle,
+            ..self
+        }
     }
 
+    #[tactic(auto, unfolding(crate::specs::Bus::outed))]
     pub fn out(self, setup: Setup, byte: u8) -> Outed
         ensures { result ≡ outed setup self byte }
     {
-        let phase = self.phase;
-        let at = self.pointer;
-        match phase {
-            Phase::Address => address_byte(setup, at, byte),
+        match self.phase {
+            Phase::Address => address_byte(setup, self.pointer, byte),
             Phase::Pointing(s) => goes(Phase::Writing(crc_byte(s, byte)), byte),
-            Phase::Writing(s) => write_byte(setup, s, at, byte),
-            Phase::Checking(v, s) => check_byte(v, s, at, byte),
-            Phase::Idle | Phase::Reading(_, _) | Phase::Summing(_) => refuses(at),
+            Phase::Writing(s) => write_byte(setup, s, self.pointer, byte),
+            Phase::Checking(v, s) => check_byte(v, s, self.pointer, byte),
+            _ => refuses(self.pointer),
         }
     }
 }
@@ -200,23 +192,24 @@ impl Line {
 fn is_high(at: u8) -> bool
     ensures { result ≡ is_high at }
 {
-    (at % 2 == 0) & (address::VC1 <= at) & (at <= address::CC)
+    at % 2 == 0 && (address::VC1..=address::CC).contains(&at)
 }
 
 // After a data byte given.
+#[tactic(auto, unfolding(crate::specs::Bus::after_data))]
 fn after_data(crc: bool, at: u8, nack: bool) -> Phase
     ensures { result ≡ after_data crc at nack }
 {
-    let high = is_high(at);
     if nack {
         return Phase::Idle;
     }
     if crc {
-        return Phase::Summing(high);
+        return Phase::Summing(is_high(at));
     }
-    Phase::Reading(0, high)
+    Phase::Reading(0, is_high(at))
 }
 
+#[tactic(auto, unfolding(crate::specs::Bus::after_sum))]
 fn after_sum(kept: bool, nack: bool) -> Phase
     ensures { result ≡ after_sum kept nack }
 {
@@ -237,54 +230,44 @@ fn next_byte(kept: bool, low: u8, here: u8) -> u8
 }
 
 // What a data byte given leaves owed: its CRC and, of a pair's high byte, the low byte.
+#[tactic(auto, unfolding(crate::specs::Bus::keeps))]
 fn owe(owed: Owed, crc: u8, kept: bool, at: u8, here: u8, low: u8) -> Owed
     ensures { result ≡ keeps owed crc kept at here low }
 {
-    let byte = next_byte(kept, owed.low, here);
-    let sum = crc_byte(crc, byte);
-    let low = if is_high(at) { low } else { owed.low };
-    Owed { sum, low }
+    Owed {
+        sum: crc_byte(crc, next_byte(kept, owed.low, here)),
+        low: if is_high(at) { low } else { owed.low },
+    }
 }
 
 impl Bus {
-    // What IN asks for before it is given.
-    pub fn wants(self) -> Want
+    // What IN asks for before it is given: the register at an address and the one after it, or none, where a byte is owed already or
+    // nothing is read.
+    #[tactic(auto, unfolding(crate::specs::Bus::wanted))]
+    pub fn wants(self) -> Option<u8>
         ensures { result ≡ wanted self }
     {
-        let line = self.line;
-        let phase = line.phase;
-        match phase {
-            Phase::Reading(_, _) => Want::Register(line.pointer),
-            Phase::Idle
-            | Phase::Address
-            | Phase::Pointing(_)
-            | Phase::Writing(_)
-            | Phase::Checking(_, _)
-            | Phase::Summing(_) => Want::Nothing,
+        match self.line.phase {
+            Phase::Reading(_, _) => Some(self.line.pointer),
+            _ => None,
         }
     }
 
     // IN, where the register at the pointer reads `here` and the one after it `low`; `nack`: the host does not acknowledge.
+    #[tactic(auto, unfolding(crate::specs::Bus::taken, crate::specs::Bus::owing, crate::specs::Bus::byte_given))]
     pub fn take(self, setup: Setup, here: u8, low: u8, nack: bool) -> Taken
         ensures { result ≡ takes setup here low nack self }
     {
-        let line = self.line;
-        let owed = self.owed;
-        let at = line.pointer;
-        let phase = line.phase;
-        match phase {
+        let at = self.line.pointer;
+        match self.line.phase {
             Phase::Reading(crc, kept) => gives(
                 after_data(setup.crc, at, nack),
                 grown(at),
-                owe(owed, crc, kept, at, here, low),
-                next_byte(kept, owed.low, here),
+                owe(self.owed, crc, kept, at, here, low),
+                next_byte(kept, self.owed.low, here),
             ),
-            Phase::Summing(kept) => gives(after_sum(kept, nack), at, owed, owed.sum),
-            Phase::Idle
-            | Phase::Address
-            | Phase::Pointing(_)
-            | Phase::Writing(_)
-            | Phase::Checking(_, _) => gives(phase, at, owed, NOTHING_READ),
+            Phase::Summing(kept) => gives(after_sum(kept, nack), at, self.owed, self.owed.sum),
+            phase => gives(phase, at, self.owed, NOTHING_READ),
         }
     }
 }
@@ -292,17 +275,24 @@ impl Bus {
 fn gives(phase: Phase, pointer: u8, owed: Owed, byte: u8) -> Taken
     ensures { result ≡ gives (line_of phase pointer) owed byte }
 {
-    let line = Line { phase, pointer };
-    let bus = Bus { line, owed };
-    Taken { bus, byte }
+    Taken {
+        bus: Bus {
+            line: Line { phase, pointer },
+            owed,
+        },
+        byte,
+    }
 }
 
 // The bus on entering SHIP.
 pub fn idle() -> Bus
     ensures { result ≡ idle_bus }
 {
-    let phase = Phase::Idle;
-    let line = Line { phase, pointer: 0 };
-    let owed = Owed { sum: 0, low: 0 };
-    Bus { line, owed }
+    Bus {
+        line: Line {
+            phase: Phase::Idle,
+            pointer: 0,
+        },
+        owed: Owed { sum: 0, low: 0 },
+    }
 }
