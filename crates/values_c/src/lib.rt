@@ -4,22 +4,37 @@
 ghost use Rattle.std.specs.Prelude.{◌≡◌};
 ghost use Rattle.values.specs.Values.{cell_said, ohms_said, die_said, over_said, under_said, cc_hundredths};
 ghost use Rattle.crc8.specs.Crc.{crc_on};
+ghost use Rattle.values.specs.Said.{said};
 ghost use Rattle.values_c.specs.Convert.{clipped, Gives};
 
-use values::{CellVoltage, DieTemperature, Microvolts, RawCount, Resistance, ThresholdCode};
+use constants::refusal::Refusal;
+use values::{Microvolts, RawCount};
 
 // A gain code, or the most that a byte can be, which is none, for every larger number.
 fn code_of(n: u32) -> u8
     ensures { result ≡ clipped 255 n }
 {
-    if n < 255 { n as u8 } else { 255 }
+    u8::try_from(n).unwrap_or(255)
 }
 
 // A count, or the most that 16 bits can be, which is none, for every larger number.
 fn count_of(n: u32) -> u16
     ensures { result ≡ clipped 65535 n }
 {
-    if n < 65535 { n as u16 } else { 65535 }
+    u16::try_from(n).unwrap_or(65535)
+}
+
+// 0 and the value, or the number that refuses, with the value left alone.
+fn give<T: Copy>(answer: Result<T, Refusal>, value: &mut T) -> u8
+    ensures { Gives (said answer) value.old result value.new }
+{
+    match answer {
+        Ok(v) => {
+            *value = v;
+            0
+        }
+        Err(why) => why.number(),
+    }
 }
 
 #[unsafe(no_mangle)]
@@ -32,42 +47,24 @@ pub extern "C" fn toralinge_cell_microvolts(
     ensures { Gives (cell_said gain_code offset count) microvolts.old result microvolts.new }
 {
     let answer = values::cell_voltage(code_of(gain_code), offset, RawCount(count_of(count)));
-    match answer {
-        CellVoltage::Is(v) => {
-            let z = v.0;
-            *microvolts = z;
-            0
-        }
-        CellVoltage::No(why) => values::number_of(why),
-    }
+    give(answer.map(|v: Microvolts| v.0), microvolts)
 }
 
 #[unsafe(no_mangle)]
 pub extern "C" fn toralinge_thermistor_ohms(count: u32, ohms: &mut u64) -> u8
     ensures { Gives (ohms_said count) ohms.old result ohms.new }
 {
-    let answer = values::thermistor_ohms(RawCount(count_of(count)));
-    match answer {
-        Resistance::Is(n) => {
-            *ohms = n;
-            0
-        }
-        Resistance::No(why) => values::number_of(why),
-    }
+    give(values::thermistor_ohms(RawCount(count_of(count))), ohms)
 }
 
 #[unsafe(no_mangle)]
 pub extern "C" fn toralinge_die_temperature(count: u32, half_thousandths: &mut i64) -> u8
     ensures { Gives (die_said count) half_thousandths.old result half_thousandths.new }
 {
-    let answer = values::die_temperature(RawCount(count_of(count)));
-    match answer {
-        DieTemperature::Is(z) => {
-            *half_thousandths = z;
-            0
-        }
-        DieTemperature::No(why) => values::number_of(why),
-    }
+    give(
+        values::die_temperature(RawCount(count_of(count))),
+        half_thousandths,
+    )
 }
 
 #[unsafe(no_mangle)]
@@ -79,14 +76,10 @@ pub extern "C" fn toralinge_over_voltage_code(
 ) -> u8
     ensures { Gives (over_said gain_code offset wanted) code.old result code.new }
 {
-    let answer = values::over_voltage_code(code_of(gain_code), offset, Microvolts(wanted));
-    match answer {
-        ThresholdCode::Is(n) => {
-            *code = n;
-            0
-        }
-        ThresholdCode::No(why) => values::number_of(why),
-    }
+    give(
+        values::over_voltage_code(code_of(gain_code), offset, Microvolts(wanted)),
+        code,
+    )
 }
 
 #[unsafe(no_mangle)]
@@ -98,14 +91,10 @@ pub extern "C" fn toralinge_under_voltage_code(
 ) -> u8
     ensures { Gives (under_said gain_code offset wanted) code.old result code.new }
 {
-    let answer = values::under_voltage_code(code_of(gain_code), offset, Microvolts(wanted));
-    match answer {
-        ThresholdCode::Is(n) => {
-            *code = n;
-            0
-        }
-        ThresholdCode::No(why) => values::number_of(why),
-    }
+    give(
+        values::under_voltage_code(code_of(gain_code), offset, Microvolts(wanted)),
+        code,
+    )
 }
 
 #[unsafe(no_mangle)]
