@@ -1,10 +1,8 @@
 -- CHIP C1 to C6: the word of each command, and what refuses it. Assumes nothing.
-use Rattle.std.specs.Prelude.{Bool, ◌&&◌, ◌||◌, cond, ℕ, suc, ◌+◌, ◌-◌, ◌*◌, ◌/◌, eqb, leb, ℤ, pos, negsuc, neg_ℤ, ◌+ℤ◌}
+use Rattle.std.specs.Prelude.{Bool, ◌&&◌, ◌||◌, cond, ℕ, suc, ◌-◌, ◌*◌, ◌/◌, eqb, leb, ℤ, pos, negsuc, neg_ℤ, ◌+ℤ◌}
 use Rattle.constants.specs.Number.{BAD_VALUE, ASLEEP, NOT_CONNECTED, NO_FIT, EXTERNAL, BAD_COMMAND}
 use Rattle.constants.specs.Answer.{Said, gives, refuses}
 use Rattle.values.specs.Values.{floor, die_temperature, cc_hundredths}
-use Rattle.smart_battery.specs.declared.Word.{Word}
-use Rattle.smart_battery.specs.declared.Word.TheVariants.{Is, No}
 use Rattle.smart_battery.specs.declared.Pack.{Pack}
 
 -- the commands that are answered
@@ -26,11 +24,6 @@ signed_most = 32767
 
 abbrev pub milliohms_most : ℕ
 milliohms_most = 100
-
--- what an answer says
-abbrev pub said_word : Word → Said ℕ
-said_word (Is w) = gives w
-said_word (No n) = refuses n
 
 -- ── the values ──
 -- Temperature() (CHIP C3), of the count of TS1
@@ -63,13 +56,13 @@ signed_said (negsuc n) = cond (leb n signed_most) (gives (word_most - n)) (refus
 abbrev pub known : ℕ → Bool
 known command = eqb command TEMPERATURE || eqb command VOLTAGE || eqb command CURRENT
 
-unfoldable pub asked_for : Pack → ℤ → ℕ → ℕ → Said ℕ
+abbrev pub asked_for : Pack → ℤ → ℕ → ℕ → Said ℕ
 asked_for p total command r =
     cond (eqb command TEMPERATURE) (cond p.external (refuses EXTERNAL) (unsigned_said (kelvins p.warmth)))
     (cond (eqb command VOLTAGE) (cond p.connected (unsigned_said (millivolts total)) (refuses NOT_CONNECTED))
     (signed_said (milliamps p.cc r)))
 
-unfoldable pub word_for : Pack → ℤ → ℕ → ℕ → Said ℕ
+abbrev pub word_for : Pack → ℤ → ℕ → ℕ → Said ℕ
 word_for p total command r =
     cond (known command)
     (cond (leb 1 r && leb r milliohms_most) (cond p.normal (asked_for p total command r) (refuses ASLEEP)) (refuses BAD_VALUE))

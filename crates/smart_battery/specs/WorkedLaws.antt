@@ -2,7 +2,7 @@
 use Rattle.std.specs.Prelude.{◌≡◌, refl, true, false, List, [], ◌∷◌, map, ℕ, ℤ, pos, negsuc}
 use Rattle.constants.specs.Answer.{Said, gives, refuses}
 use Rattle.smart_battery.specs.declared.Pack.{Pack}
-use Rattle.smart_battery.specs.Words.{word_for, asked_for}
+use Rattle.smart_battery.specs.Words.{word_for}
 
 pub record Case : Type 0 where
   pub warmth : ℕ
@@ -41,5 +41,4 @@ cases =
     ∷ []
 
 pub all_worked : map worded cases ≡ map (λ c. c.said) cases
-unfolding word_for asked_for
 all_worked = refl
