@@ -3,17 +3,17 @@
 use Rattle.std.specs.Prelude.{◌≡◌, List, ℕ}
 use Rattle.std.proofs.Common.{sym, ap}
 use Rattle.events.specs.declared.Setup.{Setup}
-use Rattle.events.specs.declared.Faults.{Faults}
+use Rattle.events.specs.Fault.{Faults}
 use Rattle.events.specs.Fault.{among}
 use Rattle.events.specs.Event.{Event, Scan}
 use Rattle.bus.specs.declared.Bus.{Bus}
 use Rattle.registers.specs.declared.Registers.{Registers}
 use Rattle.registers.specs.Judging.{scanned}
 use Rattle.registers.specs.LevelLaws.{level_calm, reset_calm, calm_level, raised_calm}
-use Rattle.protection.specs.declared.Runs.{Runs}
+use Rattle.protection.specs.Fault.{Runs}
 use Rattle.protection.specs.Runs.{risen}
 use Rattle.chip.specs.declared.Chip.{Chip}
-use Rattle.chip.specs.declared.Stepped.{Stepped}
+use Rattle.chip.specs.Answer.{Stepped}
 use Rattle.chip.specs.Chip.{with_bus, with_registers, with_runs, in_ship, watched, settled, normally, next}
 use Rattle.chip.specs.Parts.{raised_by}
 use Rattle.chip.proofs.MovesLaws.{next_by, asleep_by}

@@ -8,7 +8,8 @@ use native.Mathlib.Omega.{arith}
 use lib.IntN.{ℤ}
 use Rattle.events.specs.declared.BusEvent.{BusEvent}
 use Rattle.events.specs.Event.{Scan, Sense, OnBus}
-use Rattle.events.specs.Fault.{Ov, Uv, among}
+use Rattle.events.specs.declared.Fault.TheVariants.{Ov, Uv}
+use Rattle.events.specs.Fault.{among}
 use Rattle.cell_counts.specs.declared.Looked.{Looked}
 use Rattle.cell_counts.specs.Scan.{looked_at}
 use Rattle.registers.specs.declared.Registers.{Registers}
@@ -20,8 +21,8 @@ use Rattle.limits.specs.Rule.{rule}
 use Rattle.protection.specs.Judged.{scan_judged, scan_judged_lem, tick_judged}
 use Rattle.protection.specs.Repeat.{ticks_judged}
 use Rattle.chip.specs.declared.Chip.{Chip}
-use Rattle.chip.specs.declared.Heard.{Heard}
-use Rattle.chip.specs.declared.Stepped.{Stepped}
+use Rattle.chip.specs.Answer.{Heard}
+use Rattle.chip.specs.Answer.{Stepped}
 use Rattle.chip.specs.Chip.{numbered, with_bus, with_registers, with_runs, settled, normally, ticking, ticked, watched}
 use Rattle.chip.specs.Parts.{raised_by, heard_of, landed, told, tick_parts, bus_parts}
 use Rattle.chip.specs.RepeatLaws.{ticked_by}

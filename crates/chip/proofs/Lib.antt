@@ -1,3 +1,4 @@
+pub mod AnswerLaws
 pub mod Modes
 pub mod Judged
 pub mod Told

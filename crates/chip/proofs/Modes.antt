@@ -13,7 +13,7 @@ use Rattle.registers.specs.declared.Registers.{Registers}
 use Rattle.registers.specs.Write.{written}
 use Rattle.registers.specs.Judging.{pulled_by_level}
 use Rattle.chip.specs.declared.Chip.{Chip}
-use Rattle.chip.specs.declared.Stepped.{Stepped}
+use Rattle.chip.specs.Answer.{Stepped}
 use Rattle.chip.specs.Chip.{with_normal, with_registers, numbered, in_ship, watched, settled, normally, asleep, happened, stepped}
 use Rattle.chip.specs.Chip.{stepped_as}
 use Rattle.chip.specs.Parts.{moved_to, wrote}

@@ -3,7 +3,7 @@
 -- nothing to raise after the first. The words stand in specs/RepeatLaws. Assumes nothing.
 use Rattle.std.specs.Prelude.{◌≡◌, refl, Bool, true, false, cond, ◌&&◌, ℕ, zero, suc, ◌+◌, leb, ℤ}
 use Rattle.std.proofs.Common.{sym, ap, ◌∙◌, true≢false, arith}
-use Rattle.events.specs.declared.Faults.{Faults}
+use Rattle.events.specs.Fault.{Faults}
 use Rattle.events.specs.Event.{Sense, fits, sense_fits, ticks_fit, Meant, means, ticks, unfit}
 use Rattle.events.specs.Fault.{among}
 use Rattle.settings.specs.declared.Settings.{Settings}
@@ -15,7 +15,7 @@ use Rattle.protection.specs.declared.Judged.{Judged}
 use Rattle.protection.specs.Judged.{tick_judged}
 use Rattle.protection.specs.Repeat.{ticks_judged, scd_stays, ocd_stays}
 use Rattle.chip.specs.declared.Chip.{Chip}
-use Rattle.chip.specs.declared.Stepped.{Stepped}
+use Rattle.chip.specs.Answer.{Stepped}
 use Rattle.chip.specs.Chip.{numbered, with_registers, with_runs, watched, settled, normally, asleep, happened, stepped, next}
 use Rattle.chip.specs.Chip.{ticking, ticked, stepped_as}
 use Rattle.chip.proofs.MovesLaws.{setup-next}

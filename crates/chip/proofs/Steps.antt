@@ -5,7 +5,7 @@ use Rattle.events.specs.declared.Counts.{Counts}
 use Rattle.events.specs.declared.Event.{Event as Coded}
 use Rattle.events.specs.Event.{counts_wanted, counts_fit, unfit, event_of, meant_of}
 use Rattle.chip.specs.declared.Chip.{Chip}
-use Rattle.chip.specs.declared.Stepped.{Stepped}
+use Rattle.chip.specs.Answer.{Stepped}
 use Rattle.chip.specs.Chip.{numbered, stepped_as, stepped_by}
 
 pub step_unfit : {s : Stepped} (e : Coded) (k : Counts) (c : Chip) → counts_fit (counts_wanted c.setup e) k ≡ false → s ≡ numbered 2 c → s ≡ stepped_by e k c

@@ -23,11 +23,11 @@ use Rattle.registers.specs.Write.{written}
 use Rattle.registers.specs.Read.{read_at}
 use Rattle.registers.specs.Fault.{raised}
 use Rattle.registers.specs.Judging.{scanned, warmed, coulombs, pulled, pulled_by_level, unready}
-use Rattle.protection.specs.declared.Runs.{Runs}
+use Rattle.protection.specs.Fault.{Runs}
 use Rattle.protection.specs.Fault.{no_runs}
 use Rattle.protection.specs.Runs.{counted, risen}
 use Rattle.chip.specs.declared.Chip.{Chip}
-use Rattle.chip.specs.declared.Stepped.{Stepped}
+use Rattle.chip.specs.Answer.{Stepped}
 
 -- ── answers: a number, and for an OUT or IN that is done the bus flag and byte ──
 abbrev pub numbered : ℕ → Chip → Stepped

@@ -5,7 +5,7 @@ use Rattle.std.proofs.Common.{ap, true≢false}
 use Rattle.constants.specs.Number.{DONE, ASLEEP}
 use Rattle.events.specs.declared.BusEvent.{BusEvent}
 use Rattle.events.specs.declared.BusEvent.TheVariants.{Start, Stop, Out, In}
-use Rattle.events.specs.declared.Faults.{Faults}
+use Rattle.events.specs.Fault.{Faults}
 use Rattle.events.specs.Event.{Sense}
 use Rattle.events.specs.Fault.{among}
 use Rattle.bus.specs.declared.Line.{Line}
@@ -21,12 +21,12 @@ use Rattle.registers.specs.declared.Shown.{Shown}
 use Rattle.registers.specs.State.{with_shown}
 use Rattle.registers.specs.Write.{written}
 use Rattle.registers.specs.Fault.{raised}
-use Rattle.protection.specs.declared.Runs.{Runs}
+use Rattle.protection.specs.Fault.{Runs}
 use Rattle.settings.specs.declared.Settings.{Settings}
 use Rattle.protection.specs.Judged.{tick_judged, tick_judged_lem}
 use Rattle.chip.specs.declared.Chip.{Chip}
-use Rattle.chip.specs.declared.Heard.{Heard}
-use Rattle.chip.specs.declared.Stepped.{Stepped}
+use Rattle.chip.specs.Answer.{Heard}
+use Rattle.chip.specs.Answer.{Stepped}
 use Rattle.chip.specs.Chip.{numbered, answered, with_bus, with_registers, with_runs, in_ship, line_moved, accepted, watched, settled}
 use Rattle.chip.specs.Chip.{stored_at, stored, sent, taken_by, on_bus, normally}
 

@@ -4,7 +4,7 @@ use Rattle.std.specs.Prelude.{◌≡◌, refl, Bool, true, false, cond, List, �
 use Rattle.std.proofs.Common.{sym, ap, ◌∙◌, true≢false}
 use Rattle.events.specs.declared.BusEvent.TheVariants.{Start, Stop, Out, In}
 use Rattle.events.specs.Event.{Event, Boot, Scan, Sense, OnBus, fits, ticks_fit, ticks}
-use Rattle.events.specs.Fault.{Fault}
+use Rattle.events.specs.declared.Fault.{Fault}
 use Rattle.bus.specs.declared.Phase.TheVariants.{Reading}
 use Rattle.bus.specs.Bus.{is_high, keeps, owing}
 use Rattle.registers.specs.Fault.{bit_of}
@@ -12,7 +12,7 @@ use Rattle.registers.specs.DrivesLaws.{rises}
 use Rattle.registers.specs.LevelLaws.{level_bit}
 use Rattle.protection.specs.Runs.{counted, risen}
 use Rattle.chip.specs.declared.Chip.{Chip}
-use Rattle.chip.specs.declared.Stepped.{Stepped}
+use Rattle.chip.specs.Answer.{Stepped}
 use Rattle.chip.specs.Chip.{reads, on_bus, numbered, watched, settled, normally, asleep, happened, stepped, next, ticking, stepped_as}
 
 -- ── NUMBERS ──

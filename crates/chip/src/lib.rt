@@ -5,6 +5,8 @@ ghost use Rattle.std.specs.Prelude.{◌≡◌, take};
 ghost use Rattle.events.specs.Setup.{groups, inputs};
 ghost use Rattle.events.specs.Event.{event_of, ticks, ticks_most, soak_most, Por, Boot, Pin, Xready, Scan, Temp, Count, Sense, Load, OnBus, Level};
 ghost use Rattle.events.specs.declared.BusEvent.TheVariants.{Start, Out, In, Stop};
+ghost use Rattle.constants.specs.Refusal.{number_of};
+ghost use Rattle.chip.specs.Answer.{as_step, as_heard};
 ghost use Rattle.chip.specs.Chip.{numbered, answered, in_ship, taken_by, watched, settled, normally, bus_asleep, happened, stepped, ticked, stepped_as, stepped_by};
 ghost use Rattle.chip.specs.Parts.{moved_to, unheard, sent_on, handed_over, heard_of, wrote, landed, raised_by};
 ghost use Rattle.protection.specs.Judged.{tick_judged};
@@ -13,12 +15,16 @@ ghost use Rattle.chip.specs.RepeatLaws.{ticked_by};
 ghost use Rattle.bus.specs.Bus.{wanted};
 
 use bus::{Bus, Line, Outed, Store, Taken, Want};
-use constants::{number, range};
+use constants::range;
+use constants::refusal::Refusal;
 use events::{BusEvent, Counts, Event, Faults, Setup};
 use protection::{Judged, Runs};
 use registers::Registers;
 
+mod answer;
 mod outward;
+
+pub use answer::{byte, flag, number};
 
 #[derive(Clone, Copy)]
 pub struct Chip {
@@ -29,134 +35,129 @@ pub struct Chip {
     pub runs: Runs,
 }
 
-// The next chip; the number given back; for an OUT or IN that is done the flag and the byte.
+// The next chip; and a refusal, or that the event is done, with a byte for an OUT or IN.
 #[derive(Clone, Copy)]
 pub struct Stepped {
     pub chip: Chip,
-    pub number: u8,
-    pub flag: bool,
-    pub byte: u8,
+    pub answer: Result<Option<u8>, Refusal>,
 }
 
-// What an event of the bus does at once: the bus after it, the flag and byte given back, and at most one accepted store, which follows.
+// What an event of the bus does at once: the bus after it, the byte given back, and at most one accepted store, which follows.
 #[derive(Clone, Copy)]
 pub struct Heard {
     pub bus: Bus,
-    pub flag: bool,
-    pub byte: u8,
+    pub byte: Option<u8>,
     pub store: Store,
-}
-
-// An answer with no bus byte.
-fn numbered(number: u8, chip: Chip) -> Stepped
-    ensures { result ≡ numbered number chip }
-{
-    Stepped {
-        chip,
-        number,
-        flag: false,
-        byte: 0,
-    }
-}
-
-// The outside level is looked at.
-fn watched(mut chip: Chip) -> Chip
-    ensures { result ≡ watched chip }
-{
-    chip.registers = chip.registers.pulled_by_level();
-    chip
-}
-
-// An event done in NORMAL: the outside level is looked at, number 0.
-fn done(chip: Chip) -> Stepped
-    ensures { result ≡ settled (numbered 0 chip) }
-{
-    numbered(number::DONE, watched(chip))
-}
-
-// The answer of an OUT or IN that is done.
-fn answered(byte: u8, chip: Chip) -> Stepped
-    ensures { result ≡ answered byte chip }
-{
-    Stepped {
-        chip,
-        number: 0,
-        flag: true,
-        byte,
-    }
 }
 
 // The chip in SHIP, as it is after setup, POR and the shipping sequence. A setup is judged where it is made: `events::setup_of`.
 pub fn in_ship(setup: Setup) -> Chip
     ensures { result ≡ in_ship setup }
 {
-    let bus = bus::idle();
-    let registers = registers::reset();
-    let runs = protection::no_runs();
     Chip {
         setup,
         normal: false,
-        bus,
-        registers,
-        runs,
+        bus: bus::idle(),
+        registers: registers::reset(),
+        runs: Runs::default(),
     }
 }
 
 // START and STOP: nothing given back.
-fn unheard(line: Line, mut bus: Bus) -> Heard
-    ensures { result ≡ unheard line bus }
+pub fn unheard(line: Line, mut bus: Bus) -> Heard
+    ensures { as_heard result ≡ unheard line bus }
 {
     bus.line = line;
-    let store = Store::Nothing;
     Heard {
         bus,
-        flag: false,
-        byte: 0,
-        store,
+        byte: None,
+        store: Store::Nothing,
     }
 }
 
 // OUT.
-fn sent(out: Outed, mut bus: Bus) -> Heard
-    ensures { result ≡ sent_on out bus }
+pub fn sent(out: Outed, mut bus: Bus) -> Heard
+    ensures { as_heard result ≡ sent_on out bus }
 {
-    let line = out.line;
-    bus.line = line;
-    let store = out.store;
+    bus.line = out.line;
     Heard {
         bus,
-        flag: true,
-        byte: out.byte,
-        store,
+        byte: Some(out.byte),
+        store: out.store,
     }
 }
 
 // IN.
-fn handed(taken: Taken) -> Heard
-    ensures { result ≡ handed_over taken }
+pub fn handed(taken: Taken) -> Heard
+    ensures { as_heard result ≡ handed_over taken }
 {
-    let bus = taken.bus;
-    let store = Store::Nothing;
     Heard {
-        bus,
-        flag: true,
-        byte: taken.byte,
-        store,
+        bus: taken.bus,
+        byte: Some(taken.byte),
+        store: Store::Nothing,
+    }
+}
+
+// What a step is answered.
+impl Chip {
+    // Refused: the chip as it is.
+    pub fn refused(self, why: Refusal) -> Stepped
+        ensures { as_step result ≡ numbered (number_of why) self }
+    {
+        Stepped {
+            chip: self,
+            answer: Err(why),
+        }
+    }
+
+    // Done, with no bus byte.
+    pub fn done(self) -> Stepped
+        ensures { as_step result ≡ numbered 0 self }
+    {
+        Stepped {
+            chip: self,
+            answer: Ok(None),
+        }
+    }
+
+    // An OUT or IN done.
+    fn answered(self, byte: u8) -> Stepped
+        ensures { as_step result ≡ answered byte self }
+    {
+        Stepped {
+            chip: self,
+            answer: Ok(Some(byte)),
+        }
+    }
+
+    // The outside level is looked at.
+    fn watched(mut self) -> Self
+        ensures { result ≡ watched self }
+    {
+        self.registers = self.registers.pulled_by_level();
+        self
+    }
+
+    // An event done in NORMAL: the outside level is looked at.
+    fn settled(self) -> Stepped
+        ensures { as_step result ≡ settled (numbered 0 self) }
+    {
+        self.watched().done()
     }
 }
 
 impl Chip {
     pub fn por(self) -> Stepped
-        ensures { result ≡ happened Por self }
+        ensures { as_step result ≡ happened Por self }
     {
-        numbered(number::DONE, in_ship(self.setup))
+        in_ship(self.setup).done()
     }
 
     pub fn boot(mut self) -> Stepped
-        ensures { result ≡ happened Boot self }
+        ensures { as_step result ≡ happened Boot self }
     {
         self.normal = true;
-        done(self)
+        self.settled()
     }
 
     // In NORMAL: one look over the counts stores, sums and judges.
@@ -167,32 +168,30 @@ impl Chip {
         let over = limits::over_line(s);
         let under = limits::under_line(s);
         let looked = cell_counts::look(counts, self.setup.inputs(), over, self.setup.floor, under);
-        let judged = self.runs.scanned(s, looked.over, looked.under);
-        let cells = looked.cells;
-        let stored = self.registers.scanned(cells, looked.sum);
+        let judged = protection::scanned(self.runs, s, looked.over, looked.under);
+        let stored = self.registers.scanned(looked.cells, looked.sum);
         self.registers = stored.raised(judged.risen);
-        let runs = judged.runs;
-        self.runs = runs;
+        self.runs = judged.runs;
         self
     }
 
     pub fn scan(self, counts: [u16; 15]) -> Stepped
-        ensures { result ≡ stepped (Scan (take (inputs self.setup) counts)) self }
+        ensures { as_step result ≡ stepped (Scan (take (inputs self.setup) counts)) self }
     {
         if !ranges::counts_in_range(counts, self.setup.inputs()) {
-            return numbered(number::BAD_VALUE, self);
+            return self.refused(Refusal::BadValue);
         }
         if !self.normal {
-            return numbered(number::ASLEEP, self);
+            return self.refused(Refusal::Asleep);
         }
-        done(self.scanned(counts))
+        self.scanned(counts).settled()
     }
 
     // In NORMAL: one tick judged.
     pub fn sensed(self, value: i32) -> Judged
         ensures { result ≡ tick_judged self.registers.settings value self.runs }
     {
-        self.runs.sensed(self.registers.settings, value)
+        protection::sensed(self.runs, self.registers.settings, value)
     }
 
     // What rises is shown, and puts off its drive.
@@ -205,60 +204,58 @@ impl Chip {
 
     // One tick.
     pub fn sense(mut self, value: i32) -> Stepped
-        ensures { result ≡ stepped (Sense value) self }
+        ensures { as_step result ≡ stepped (Sense value) self }
     {
         if !ranges::sense_fits(value) {
-            return numbered(number::BAD_VALUE, self);
+            return self.refused(Refusal::BadValue);
         }
         if !self.normal {
-            return numbered(number::ASLEEP, self);
+            return self.refused(Refusal::Asleep);
         }
         let judged = self.sensed(value);
-        let runs = judged.runs;
-        self.runs = runs;
-        done(self.raised(judged.risen))
+        self.runs = judged.runs;
+        self.raised(judged.risen).settled()
     }
 
     // In NORMAL: ticks of one value judged by their number, and what is due at the last of them shown.
     fn judged_by(mut self, value: i32, repeat: u32) -> Self
         ensures { result ≡ ticked_by (ticks_judged repeat self.registers.settings value self.runs) self }
     {
-        let judged = self.runs.ticked(self.registers.settings, value, repeat);
-        let runs = judged.runs;
-        self.runs = runs;
+        let judged = protection::ticked(self.runs, self.registers.settings, value, repeat);
+        self.runs = judged.runs;
         self.raised(judged.risen)
     }
 
     // That many ticks of one value: their number is enough, whatever it is. After the first the outside level has nothing more to raise.
     pub fn ticked(self, value: i32, repeat: u32) -> Stepped
-        ensures { result ≡ ticked repeat value self }
+        ensures { as_step result ≡ ticked repeat value self }
     {
         if !self.normal {
-            return numbered(number::ASLEEP, self);
+            return self.refused(Refusal::Asleep);
         }
         if repeat == 0 {
-            return numbered(number::DONE, self);
+            return self.done();
         }
-        let first = watched(self.judged_by(value, 1));
-        numbered(number::DONE, first.judged_by(value, repeat - 1))
+        let first = self.judged_by(value, 1).watched();
+        first.judged_by(value, repeat - 1).done()
     }
 
     // 1 to 4,096 ticks of one value.
     pub fn ticks(self, value: i32, repeat: u16) -> Stepped
-        ensures { result ≡ stepped_as (ticks ticks_most value repeat) self }
+        ensures { as_step result ≡ stepped_as (ticks ticks_most value repeat) self }
     {
-        if !ranges::ticks_fit(range::TICKS_MOST, value, repeat as u32) {
-            return numbered(number::BAD_VALUE, self);
+        if !ranges::ticks_fit(range::TICKS_MOST, value, u32::from(repeat)) {
+            return self.refused(Refusal::BadValue);
         }
-        self.ticked(value, repeat as u32)
+        self.ticked(value, u32::from(repeat))
     }
 
     // 1 to 16,777,216 ticks of one value.
     pub fn soak(self, value: i32, repeat: u32) -> Stepped
-        ensures { result ≡ stepped_as (ticks soak_most value repeat) self }
+        ensures { as_step result ≡ stepped_as (ticks soak_most value repeat) self }
     {
         if !ranges::ticks_fit(range::SOAK_MOST, value, repeat) {
-            return numbered(number::BAD_VALUE, self);
+            return self.refused(Refusal::BadValue);
         }
         self.ticked(value, repeat)
     }
@@ -273,54 +270,54 @@ impl Chip {
     }
 
     pub fn temp(self, counts: [u16; 15]) -> Stepped
-        ensures { result ≡ stepped (Temp (take (groups self.setup) counts)) self }
+        ensures { as_step result ≡ stepped (Temp (take (groups self.setup) counts)) self }
     {
         if !ranges::counts_in_range(counts, self.setup.groups()) {
-            return numbered(number::BAD_VALUE, self);
+            return self.refused(Refusal::BadValue);
         }
         if !self.normal {
-            return numbered(number::ASLEEP, self);
+            return self.refused(Refusal::Asleep);
         }
-        done(self.warmed(counts))
+        self.warmed(counts).settled()
     }
 
     // An event that moves the registers alone: in SHIP it is refused.
     fn moved(mut self, registers: Registers) -> Stepped
-        ensures { result ≡ moved_to registers self }
+        ensures { as_step result ≡ moved_to registers self }
     {
         if !self.normal {
-            return numbered(number::ASLEEP, self);
+            return self.refused(Refusal::Asleep);
         }
         self.registers = registers;
-        done(self)
+        self.settled()
     }
 
     pub fn count(self, cc: u16) -> Stepped
-        ensures { result ≡ happened (Count cc) self }
+        ensures { as_step result ≡ happened (Count cc) self }
     {
         self.moved(self.registers.coulombs(cc))
     }
 
     pub fn pin(self) -> Stepped
-        ensures { result ≡ happened Pin self }
+        ensures { as_step result ≡ happened Pin self }
     {
         self.moved(self.registers.pulled())
     }
 
     pub fn load(self, level: bool) -> Stepped
-        ensures { result ≡ happened (Load level) self }
+        ensures { as_step result ≡ happened (Load level) self }
     {
         self.moved(self.registers.loaded(level))
     }
 
     pub fn level(self, level: bool) -> Stepped
-        ensures { result ≡ happened (Level level) self }
+        ensures { as_step result ≡ happened (Level level) self }
     {
         self.moved(self.registers.leveled(level))
     }
 
     pub fn xready(self) -> Stepped
-        ensures { result ≡ happened Xready self }
+        ensures { as_step result ≡ happened Xready self }
     {
         self.moved(self.registers.unready())
     }
@@ -330,7 +327,7 @@ impl Chip {
 impl Chip {
     // In NORMAL: what an event does to the bus, before a store.
     pub fn heard(self, event: BusEvent) -> Heard
-        ensures { result ≡ heard_of event self }
+        ensures { as_heard result ≡ heard_of event self }
     {
         match event {
             BusEvent::Start => unheard(self.bus.line.start(), self.bus),
@@ -347,72 +344,65 @@ impl Chip {
         if self.registers.settings.ships(at, value) {
             return in_ship(self.setup);
         }
-        let written = self.registers.write(self.setup, at, value);
-        self.registers = written.pulled_by_level();
-        self
+        self.registers = self.registers.write(self.setup, at, value);
+        self.watched()
     }
 
     fn landed(self, store: Store) -> Self
         ensures { result ≡ landed store self }
     {
         match store {
-            Store::Nothing => watched(self),
+            Store::Nothing => self.watched(),
             Store::At(at, value) => self.wrote(at, value),
         }
     }
 
     // The bus in SHIP: idle, even after START.
     pub fn doze(self, event: BusEvent) -> Stepped
-        ensures { result ≡ bus_asleep event self }
+        ensures { as_step result ≡ bus_asleep event self }
     {
         match event {
-            BusEvent::Start => numbered(number::DONE, self),
-            BusEvent::Out(_) => answered(bus::NOT_ACKNOWLEDGED, self),
-            BusEvent::In(_) => answered(bus::NOTHING_READ, self),
-            BusEvent::Stop => numbered(number::DONE, self),
+            BusEvent::Start | BusEvent::Stop => self.done(),
+            BusEvent::Out(_) => self.answered(bus::NOT_ACKNOWLEDGED),
+            BusEvent::In(_) => self.answered(bus::NOTHING_READ),
         }
     }
 
     fn on_bus(mut self, event: BusEvent) -> Stepped
-        ensures { result ≡ happened (OnBus event) self }
+        ensures { as_step result ≡ happened (OnBus event) self }
     {
         if !self.normal {
             return self.doze(event);
         }
         let heard = self.heard(event);
-        let bus = heard.bus;
-        self.bus = bus;
-        let store = heard.store;
-        let chip = self.landed(store);
+        self.bus = heard.bus;
         Stepped {
-            chip,
-            number: 0,
-            flag: heard.flag,
-            byte: heard.byte,
+            chip: self.landed(heard.store),
+            answer: Ok(heard.byte),
         }
     }
 
     pub fn start(self) -> Stepped
-        ensures { result ≡ happened (OnBus Start) self }
+        ensures { as_step result ≡ happened (OnBus Start) self }
     {
         self.on_bus(BusEvent::Start)
     }
 
     pub fn stop(self) -> Stepped
-        ensures { result ≡ happened (OnBus Stop) self }
+        ensures { as_step result ≡ happened (OnBus Stop) self }
     {
         self.on_bus(BusEvent::Stop)
     }
 
     pub fn out(self, byte: u8) -> Stepped
-        ensures { result ≡ happened (OnBus (Out byte)) self }
+        ensures { as_step result ≡ happened (OnBus (Out byte)) self }
     {
         self.on_bus(BusEvent::Out(byte))
     }
 
     // IN; `nack`: the host does not acknowledge.
     pub fn take(self, nack: bool) -> Stepped
-        ensures { result ≡ happened (OnBus (In nack)) self }
+        ensures { as_step result ≡ happened (OnBus (In nack)) self }
     {
         self.on_bus(BusEvent::In(nack))
     }
@@ -436,10 +426,10 @@ impl Chip {
 impl Chip {
     // With counts that fit. SETUP and a wiring record are none for a chip that stands.
     fn happen(self, event: Event, counts: [u16; 15]) -> Stepped
-        ensures { result ≡ stepped_as (event_of self.setup event counts) self }
+        ensures { as_step result ≡ stepped_as (event_of self.setup event counts) self }
     {
         match event {
-            Event::Setup(_) => numbered(number::BAD_KIND, self),
+            Event::Setup(_) | Event::Wires(_) => self.refused(Refusal::BadKind),
             Event::Por => self.por(),
             Event::Boot => self.boot(),
             Event::Scan => self.scan(counts),
@@ -453,19 +443,17 @@ impl Chip {
             Event::Level(level) => self.level(level),
             Event::Ticks(value, repeat) => self.ticks(value, repeat),
             Event::Soak(value, repeat) => self.soak(value, repeat),
-            Event::Wires(_) => numbered(number::BAD_KIND, self),
         }
     }
 
     // With any counts: 2, then 3, then 4 (asleep), and a refused chip stays as it was.
     pub fn step(self, event: Event, counts: Counts) -> Stepped
-        ensures { result ≡ stepped_by event counts self }
+        ensures { as_step result ≡ stepped_by event counts self }
     {
         let wanted = ranges::counts_wanted(self.setup, event);
         if !ranges::counts_fit(wanted, counts) {
-            return numbered(number::BAD_KIND, self);
+            return self.refused(Refusal::BadKind);
         }
-        let of = counts.of;
-        self.happen(event, of)
+        self.happen(event, counts.of)
     }
 }

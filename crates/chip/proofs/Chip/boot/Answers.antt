@@ -3,4 +3,4 @@ use Rattle.chip.proofs.Modes.{boots}
 use Rattle.chip.proofs.Chip.boot.Goals as goal
 
 pub returns : goal.returns
-returns c = boots c.args.self c.done.ensures
+returns c = boots c.args.self c.settled.ensures

@@ -5,7 +5,7 @@ use Rattle.chip.proofs.Steps.{step_unfit, step_fit}
 use Rattle.chip.proofs.Chip.step.Goals as goal
 
 pub returns-then-not-counts_fit : goal.returns-then-not-counts_fit
-returns-then-not-counts_fit c = step_unfit c.args.event c.args.counts c.args.self (ap (λ (n : ℕ). counts_fit n c.args.counts) (sym c.counts_wanted-wanted.ensures) ∙ sym c.counts_fit.ensures ∙ c.if-not-counts_fit.true) c.numbered.ensures
+returns-then-not-counts_fit c = step_unfit c.args.event c.args.counts c.args.self (ap (λ (n : ℕ). counts_fit n c.args.counts) (sym c.counts_wanted-wanted.ensures) ∙ sym c.counts_fit.ensures ∙ c.if-not-counts_fit.true) c.refused.ensures
 
 pub returns : goal.returns
 returns c = step_fit c.args.event c.args.counts c.args.self (ap (λ (n : ℕ). counts_fit n c.args.counts) (sym c.counts_wanted-wanted.ensures) ∙ sym c.counts_fit.ensures ∙ c.if-not-counts_fit.false) c.happen.ensures

@@ -12,4 +12,4 @@ returns c = let e = to_z-of_z {w = w32} c.ranges.value in
     (c.judged_by.ensures ∙ ap (λ v. ticked_by (ticks_judged 1 c.args.self.registers.settings v c.args.self.runs) c.args.self) e)
     c.watched-first.ensures
     (c.judged_by-2.ensures ∙ ap (λ v. ticked_by (ticks_judged (c.args.repeat - 1) c.watched-first.result.registers.settings v c.watched-first.result.runs) c.watched-first.result) e)
-    c.numbered-2.ensures
+    c.done-2.ensures

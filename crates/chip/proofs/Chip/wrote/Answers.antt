@@ -1,4 +1,5 @@
 -- A write ships or is accepted, as the settings say.
+use Rattle.std.proofs.Common.{refl, ◌∙◌}
 use Rattle.chip.proofs.Modes.{wrote-ships, wrote_stays}
 use Rattle.chip.proofs.Chip.wrote.Goals as goal
 
@@ -6,4 +7,4 @@ pub returns-then-ships : goal.returns-then-ships
 returns-then-ships c = wrote-ships _ _ _ c.ships.ensures c.if-ships.true c.in_ship.ensures
 
 pub returns : goal.returns
-returns c = wrote_stays _ _ _ c.ships.ensures c.if-ships.false c.write-written.ensures c.pulled_by_level-self.ensures
+returns c = c.watched.ensures ∙ wrote_stays _ _ _ c.ships.ensures c.if-ships.false c.write-self.ensures refl
