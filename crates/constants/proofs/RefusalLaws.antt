@@ -47,6 +47,14 @@ refusal_number NotSo = refl
 pub same_refusal : (a b : Refusal) → number_of a ≡ number_of b → a ≡ b
 same_refusal a b e = sym (refusal_number a) ∙ ap refusal_of e ∙ refusal_number b
 
+-- 0 is no refusal's
+pub no_zero : (why : Refusal) → number_of why ≡ 0 → ⊥
+unfolding refusal_of refusals
+no_zero why e =
+    let n : why ≡ NotSo = sym (refusal_number why) ∙ ap refusal_of e in
+    let z : number_of NotSo ≡ 0 = ap number_of (sym n) ∙ e in
+    cc
+
 told : {A B : Type 0} → (B → A) → Said B → Result A Refusal
 told back (gives v) = Ok (back v)
 told back (refuses n) = Err (refusal_of n)

@@ -1,43 +1,20 @@
 -- The cases of the definitions, as the code comes to them.
 -- Assumes nothing.
 use mathlib.Core.Path.{◌≡◌, ap, sym, ◌∙◌, subst}
-use Prim.Native.Nat.{ℕ, ◌+◌, ◌-◌, ◌<◌, ◌≤◌}
+use Prim.Native.Nat.{ℕ, ◌+◌, ◌-◌, ◌≤◌}
 use mathlib.Core.List.{List}
 use native.Mathlib.Omega.{arith}
-use lib.ListN.{length, get_or, take, drop, length-drop}
+use lib.ListN.{length, take, drop, length-drop}
 use lib.Seq.{take_all}
-use borrow.Author.Tests.{lt-ltb, le-ltb, eq-eqb}
-use Rattle.events.specs.Setup.{checked_of}
-use Rattle.events.specs.declared.Checked.{Checked}
+use borrow.Author.Tests.{le-ltb}
 use Rattle.events.specs.declared.Counts.{Counts}
 use Rattle.events.specs.declared.Event.{Event}
-use Rattle.bits.specs.Numbers.{le16}
-use Rattle.records.specs.Record.{checked_in, setup_in, payload_of, as_read, read_of, no_counts, counts_in, taken_from, taken_at}
+use Rattle.records.specs.Record.{read_of, no_counts, counts_in, taken_from, taken_at}
 use Rattle.records.specs.ReadingLaws.{Placed, placed}
-use Rattle.records.specs.declared.Payload.{Payload}
+use Rattle.constants.specs.declared.refusal.Refusal.{Refusal}
 use Rattle.records.specs.declared.Read.{Read}
 use Rattle.records.specs.declared.Taken.{Taken}
-use Rattle.records.specs.declared.Read.TheVariants.{Record, Refused, Cut}
-
-pub setup_is : (b : List ℕ) (f : ℕ) (x : Checked) → length b ≡ 7 → f ≡ le16 b 5
-    → x ≡ checked_of (get_or b 0 0) (get_or b 1 0) (get_or b 2 0) (get_or b 3 0) (get_or b 4 0) f → checked_in x ≡ setup_in b
-unfolding setup_in
-setup_is b f x l e q =
-    simp (eq-eqb (length b) 7 l)
-    (ap checked_in (q ∙ ap (checked_of (get_or b 0 0) (get_or b 1 0) (get_or b 2 0) (get_or b 3 0) (get_or b 4 0)) e))
-
--- a record that is whole
-module _ (part : ℕ) (r : List ℕ) (n k : ℕ) (p : Payload) (en : n ≡ le16 r 0) (ek : k ≡ le16 r 2) (h : 4 ≤ length r) (g : n ≤ length r - 4) (q : p ≡ payload_of k part (take (4 + n - 4) (drop 4 r))) where
-  pub read_is : as_read (4 + n) p ≡ read_of part r
-  unfolding read_of
-  read_is =
-      let c : 4 + n - 4 ≡ n = omega arith in
-      let m : p ≡ payload_of (le16 r 2) part (take (le16 r 0) (drop 4 r)) = rw (c, en, ek) at q in
-      simp (le-ltb (length r) 4 h, le-ltb (length r - 4) (le16 r 0) (omega arith), m, en)
-
-pub read_cut : (part : ℕ) (r : List ℕ) (n : ℕ) → n ≡ le16 r 0 → 4 ≤ length r → length r - 4 < n → Cut ≡ read_of part r
-unfolding read_of
-read_cut part r n en h g = simp (le-ltb (length r) 4 h, lt-ltb (length r - 4) (le16 r 0) (omega arith))
+use Rattle.records.specs.declared.Read.TheVariants.{Record, Refused}
 
 abbrev pub as_taken : Read → Counts → Taken
 as_taken y k = record { read = y; counts = k }
@@ -69,7 +46,7 @@ module _ (part : ℕ) (s : List ℕ) (at : ℕ) (x : Read) (h : at ≤ length s)
   pub record_placed : (e : Event) (next : ℕ) → x ≡ Record e next → (4 ≤ next) × (next ≤ length s - at)
   record_placed e next r = subst (Placed (length s - at)) r at_placed
 
-  pub refused_placed : (k next : ℕ) → x ≡ Refused k next → (4 ≤ next) × (next ≤ length s - at)
+  pub refused_placed : (k : Refusal) (next : ℕ) → x ≡ Refused k next → (4 ≤ next) × (next ≤ length s - at)
   refused_placed k next r = subst (Placed (length s - at)) r at_placed
 
   pub record_taken : (e : Event) (next : ℕ) (k : Counts) → x ≡ Record e next

@@ -2,6 +2,7 @@
 -- whose counts fit the part and whose values are in range, so that a chip has nothing to check again; but for the wiring record, which is
 -- taken before a chip moves. Assumes nothing.
 use Rattle.std.specs.Prelude.{◌≡◌, refl, ◌≢◌, ℕ, zero, suc, ◌-◌, ◌*◌, ◌≤◌, List, Bool, false, cond, ◌&&◌, leb, eqb, get_or, take, drop, ℤ}
+use Rattle.std.specs.Prelude.{Ok, Err}
 use Rattle.std.proofs.Math.Path.{ap}
 use Rattle.std.proofs.Common.{sym, ◌∙◌, subst, true≢false}
 use Rattle.std.proofs.Math.Bool.{true}
@@ -23,13 +24,12 @@ use Rattle.events.specs.declared.Event.{Event}
 use Rattle.events.specs.declared.Event.TheVariants.{Setup, Por, Boot, Scan, Temp, Count, Sense, Pin, Load, Xready, OnBus, Level, Ticks}
 use Rattle.events.specs.declared.Event.TheVariants.{Soak, Wires}
 use Rattle.records.specs.Kind.{SETUP}
-use Rattle.records.specs.Record.{setup_good, checked_in, setup_in, counted_in, sense_of, repeat_of, ticks_of, soak_of, payload_of, later_of}
+use Rattle.records.specs.Record.{Payload, setup_good, checked_in, sense_of, repeat_of, ticks_of, soak_of, payload_of, later_of}
 use Rattle.records.specs.Record.{read_of, groups_at, inputs_at, counts_of, counts_in, counts_beside}
 use Rattle.events.specs.FewLaws.{few_groups, few_inputs}
 use Rattle.records.specs.CountedLaws.{counts_fit_lem, counts_taken}
 use Rattle.records.specs.ReadingLaws.{WholeAt, read_whole, later_by, cond_by}
-use Rattle.records.specs.declared.Payload.{Payload}
-use Rattle.records.specs.declared.Payload.TheVariants.{Whole, Unfit}
+use Rattle.constants.specs.declared.refusal.Refusal.TheVariants.{BadKind, BadValue}
 use Rattle.records.specs.declared.Read.TheVariants.{Record}
 
 -- ── the first record ──
@@ -67,8 +67,8 @@ pub no_setup : (e : Event) → role_of e ≡ Happens → IsSetup e → ⊥
 no_setup e h s = subst MakesGood h s
 
 abbrev FirstOk : Payload → Type 0
-FirstOk (Whole e) = IsSetup e
-FirstOk (Unfit k) = Unit
+FirstOk (Ok e) = IsSetup e
+FirstOk (Err k) = Unit
 
 checked_ok : (p c a g o f : ℕ) (t : Bool) → setup_fits p c a g f ≡ t → FirstOk (checked_in (checked_of p c a g o f))
 unfolding checked_of
@@ -76,10 +76,10 @@ checked_ok p c a g o f true h = simp h (setup_good_lem p c a g o f h)
 checked_ok p c a g o f false h = simp h tt
 
 first_ok : (kind : ℕ) (b : List ℕ) → FirstOk (payload_of kind 0 b)
-unfolding payload_of setup_in
+unfolding payload_of
 first_ok kind b =
-    cond_by FirstOk (eqb kind SETUP) _ (Unfit 2)
-    (λ k. cond_by FirstOk (eqb (length b) 7) _ (Unfit 2)
+    cond_by FirstOk (eqb kind SETUP) _ (Err BadKind)
+    (λ k. cond_by FirstOk (eqb (length b) 7) _ (Err BadKind)
     (λ l. checked_ok (get_or b 0 0) (get_or b 1 0) (get_or b 2 0) (get_or b 3 0) (get_or b 4 0) (le16 b 5) _ refl) tt)
     tt
 
@@ -110,8 +110,8 @@ pub wires_by : (P : Event → Type 0) → ((n : ℕ) → P (Wires n)) → ((e : 
 wires_by P w f = by_role P (λ v. f (Setup v) refl) w (λ e h. f e (no_wires e h))
 
 abbrev LaterOk : SetupValues → List ℕ → Payload → Type 0
-LaterOk u b (Whole e) = is_wires e ≡ false → Meaning u e (counts_in e b)
-LaterOk u b (Unfit k) = Unit
+LaterOk u b (Ok e) = is_wires e ≡ false → Meaning u e (counts_in e b)
+LaterOk u b (Err k) = Unit
 
 groups_at_lem : (u : SetupValues) → groups u ≡ groups_at u.part
 unfolding groups
@@ -141,28 +141,28 @@ module _ (u : SetupValues) (b : List ℕ) where
       simp f (ap (within count_most) (counts_taken b (groups u) n few) ∙ w)
 
 later_ok : (u : SetupValues) (kind : ℕ) (b : List ℕ) → LaterOk u b (later_of kind u.part b)
-unfolding counted_in sense_of repeat_of meant_of counts_fit counts_in fits
+unfolding meant_of counts_fit counts_in fits
 later_ok u kind b =
     later_by (λ (kind : ℕ) (p : Payload). LaterOk u b p) u.part b
-    (sized _ (Whole Por) (λ l w. refl))
-    (sized _ (Whole Boot) (λ l w. refl))
-    (sized (2 * inputs_at u.part) (cond counts (Whole Scan) (Unfit 3)) (λ l. ranged counts (Whole Scan) (λ f w. scan_ok u b l f)))
-    (sized (2 * groups_at u.part) (cond counts (Whole Temp) (Unfit 3)) (λ l. ranged counts (Whole Temp) (λ f w. temp_ok u b l f)))
-    (sized _ (Whole (Count (le16 b 0))) (λ l w. refl))
-    (sized _ (sense_of (le32 b 0)) (λ l. ranged (sense_fits value) (Whole (Sense value)) (λ f w. f)))
-    (sized _ (Whole Pin) (λ l w. refl))
-    (sized _ (cond bit (Whole (Load level)) (Unfit 3)) (λ l. ranged bit (Whole (Load level)) (λ f w. refl)))
-    (sized _ (Whole Xready) (λ l w. refl))
-    (sized _ (Whole (OnBus Start)) (λ l w. refl))
-    (sized _ (Whole (OnBus (Out (get_or b 0 0)))) (λ l w. refl))
-    (sized _ (cond bit (Whole (OnBus (In level))) (Unfit 3)) (λ l. ranged bit (Whole (OnBus (In level))) (λ f w. refl)))
-    (sized _ (Whole (OnBus Stop)) (λ l w. refl))
-    (sized _ (cond bit (Whole (Level level)) (Unfit 3)) (λ l. ranged bit (Whole (Level level)) (λ f w. refl)))
+    (sized _ (Ok Por) (λ l w. refl))
+    (sized _ (Ok Boot) (λ l w. refl))
+    (sized (2 * inputs_at u.part) (cond counts (Ok Scan) (Err BadValue)) (λ l. ranged counts (Ok Scan) (λ f w. scan_ok u b l f)))
+    (sized (2 * groups_at u.part) (cond counts (Ok Temp) (Err BadValue)) (λ l. ranged counts (Ok Temp) (λ f w. temp_ok u b l f)))
+    (sized _ (Ok (Count (le16 b 0))) (λ l w. refl))
+    (sized _ (sense_of (le32 b 0)) (λ l. ranged (sense_fits value) (Ok (Sense value)) (λ f w. f)))
+    (sized _ (Ok Pin) (λ l w. refl))
+    (sized _ (cond bit (Ok (Load level)) (Err BadValue)) (λ l. ranged bit (Ok (Load level)) (λ f w. refl)))
+    (sized _ (Ok Xready) (λ l w. refl))
+    (sized _ (Ok (OnBus Start)) (λ l w. refl))
+    (sized _ (Ok (OnBus (Out (get_or b 0 0)))) (λ l w. refl))
+    (sized _ (cond bit (Ok (OnBus (In level))) (Err BadValue)) (λ l. ranged bit (Ok (OnBus (In level))) (λ f w. refl)))
+    (sized _ (Ok (OnBus Stop)) (λ l w. refl))
+    (sized _ (cond bit (Ok (Level level)) (Err BadValue)) (λ l. ranged bit (Ok (Level level)) (λ f w. refl)))
     (sized _ (repeat_of ticks_of ticks_most (le32 b 0) (le16 b 4))
-    (λ l. ranged (ticks_fit ticks_most value (le16 b 4)) (Whole (Ticks value (le16 b 4))) (λ f w. f)))
+    (λ l. ranged (ticks_fit ticks_most value (le16 b 4)) (Ok (Ticks value (le16 b 4))) (λ f w. f)))
     (sized _ (repeat_of soak_of soak_most (le32 b 0) (le32 b 4))
-    (λ l. ranged (ticks_fit soak_most value (le32 b 4)) (Whole (Soak value (le32 b 4))) (λ f w. f)))
-    (sized _ (Whole (Wires (get_or b 0 0))) (λ l w. absurd (true≢false w)))
+    (λ l. ranged (ticks_fit soak_most value (le32 b 4)) (Ok (Soak value (le32 b 4))) (λ f w. f)))
+    (sized _ (Ok (Wires (get_or b 0 0))) (λ l w. absurd (true≢false w)))
     (λ (k : ℕ). tt)
     kind
   where
@@ -178,11 +178,11 @@ later_ok u kind b =
     value : ℤ
     value = signed32 (le32 b 0)
 
-    sized : (n : ℕ) (x : Payload) → (eqb (length b) n ≡ true → LaterOk u b x) → LaterOk u b (cond (eqb (length b) n) x (Unfit 2))
-    sized n x f = cond_by (LaterOk u b) (eqb (length b) n) x (Unfit 2) f tt
+    sized : (n : ℕ) (x : Payload) → (eqb (length b) n ≡ true → LaterOk u b x) → LaterOk u b (cond (eqb (length b) n) x (Err BadKind))
+    sized n x f = cond_by (LaterOk u b) (eqb (length b) n) x (Err BadKind) f tt
 
-    ranged : (t : Bool) (x : Payload) → (t ≡ true → LaterOk u b x) → LaterOk u b (cond t x (Unfit 3))
-    ranged t x f = cond_by (LaterOk u b) t x (Unfit 3) f tt
+    ranged : (t : Bool) (x : Payload) → (t ≡ true → LaterOk u b x) → LaterOk u b (cond t x (Err BadValue))
+    ranged t x f = cond_by (LaterOk u b) t x (Err BadValue) f tt
 
 -- a record read at the part of a setup means an event that fits
 pub later_means : (u : SetupValues) (r : List ℕ) (e : Event) (next : ℕ) → u.part ≢ 0 → read_of u.part r ≡ Record e next
@@ -192,6 +192,6 @@ unfolding payload_of
 later_means u r e next h q z =
     let w : WholeAt u.part r e next = read_whole u.part r e next q in
     let n : next - 4 ≡ le16 r 0 = omega (arith, w.ended) in
-    let p : later_of (le16 r 2) u.part (take (le16 r 0) (drop 4 r)) ≡ Whole e = simp (ne_eqb u.part 0 h) at w.payload in
+    let p : later_of (le16 r 2) u.part (take (le16 r 0) (drop 4 r)) ≡ Ok e = simp (ne_eqb u.part 0 h) at w.payload in
     subst (λ (n : ℕ). Meaning u e (counts_in e (take n (drop 4 r)))) (sym n)
     (subst (LaterOk u (take (le16 r 0) (drop 4 r))) p (later_ok u (le16 r 2) (take (le16 r 0) (drop 4 r))) z)

@@ -1,45 +1,36 @@
-// Records, read: the record that bytes begin with, or the number it is refused with.
+// Records, read: the record that bytes begin with, or why it is refused.
 #![tactic(auto)]
 
 ghost use Rattle.std.specs.Prelude.{◌≡◌, true, ◌+◌, ◌<◌, ◌≤◌, length};
-ghost use Rattle.events.specs.Event.{count_most, sense_fits, ticks_most, soak_most};
-ghost use Rattle.bits.specs.Numbers.{within, le16, le32, signed32, words, word_or};
+ghost use Rattle.events.specs.Event.{count_most};
+ghost use Rattle.bits.specs.Numbers.{within, le16, le32, words, word_or};
 ghost use Rattle.cell_counts.specs.Scan.{padded};
-ghost use Rattle.records.specs.Frame.{frame_of, header_of};
-ghost use Rattle.records.specs.Record.{sense_of, repeat_of, ticks_of, ticks_in, soak_of, soak_in, setup_in, bare_in, counted_in, count_in, sense_in, switch_in, load_of, level_of, in_of, out_in, wires_in, groups_at, inputs_at, later_of, payload_of, read_of, number_of, no_counts, counts_of, counts_in, taken_at};
+ghost use Rattle.records.specs.FramingLaws.{payload_number};
+ghost use Rattle.records.specs.Frame.{frame_of, header_of, size_of};
+ghost use Rattle.records.specs.Record.{byte_in, switch, value_of, sense_in, ticks_in, soak_in, count_in, setup_in, bare_in, counted_in, groups_at, inputs_at, event_of, payload_of, read_of, number_of, no_counts, counts_of, counts_in, taken_at};
 
-use constants::{kind, number, range, size};
-use events::{Beside, BusEvent, Checked, Counts, Event, setup_of};
+use constants::kind::{self, Kind};
+use constants::refusal::Refusal;
+use constants::{number, range, size};
+use events::{Beside, BusEvent, Counts, Event, setup_of};
 
-// The values of SENSE as numbers of 32 bits without a sign: up to the most, and from the least on.
-const SENSE_MOST: u32 = range::SENSE_MOST as u32;
-
-const SENSE_LEAST: u32 = 4294967295 - SENSE_MOST + 1;
-
-// A payload's event, or the number it is refused with.
-#[derive(Clone, Copy)]
-pub enum Payload {
-    Whole(Event),
-    Unfit(u8),
-}
-
-// A record with the place after it, a refusal with its number and the place after it, or a record that is cut short.
-#[derive(Clone, Copy)]
+// A record with the place after it, a refusal with the place after it, or a record that is cut short.
+#[derive(Clone, Copy, Debug, PartialEq, Eq)]
 pub enum Read {
     Record { event: Event, next: usize },
-    Refused { number: u8, next: usize },
+    Refused { why: Refusal, next: usize },
     Cut,
 }
 
-// The header of a record that is whole, as its kind and the place after it, or of one that is cut short.
-#[derive(Clone, Copy)]
-pub enum Framed {
-    Header { kind: u16, next: usize },
-    Short,
+// The header of a record that is whole: its kind and the place after it.
+#[derive(Clone, Copy, Debug, PartialEq, Eq)]
+pub struct Header {
+    pub kind: u16,
+    pub next: usize,
 }
 
 // What was read, and the counts that stand beside it.
-#[derive(Clone, Copy)]
+#[derive(Clone, Copy, Debug, PartialEq, Eq)]
 pub struct Taken {
     pub read: Read,
     pub counts: Counts,
@@ -49,292 +40,243 @@ fn get16(b: &[u8], at: usize) -> u16
     requires { at + 2 ≤ length b.now }
     ensures { result ≡ le16 b.now at }
 {
-    let low = b[at] as u16;
-    let high = b[at + 1] as u16;
-    low + 256 * high
+    u16::from_le_bytes([b[at], b[at + 1]])
 }
 
 fn get32(b: &[u8], at: usize) -> u32
     requires { at + 4 ≤ length b.now }
     ensures { result ≡ le32 b.now at }
 {
-    (get16(b, at) as u32) + 65536 * (get16(b, at + 2) as u32)
+    u32::from_le_bytes([b[at], b[at + 1], b[at + 2], b[at + 3]])
 }
 
-// Whether a number of 32 bits, read with its sign, is within 500,000 of 0.
-fn near(u: u32) -> bool
-    ensures { result ≡ sense_fits (signed32 u) }
+// A payload of one byte.
+fn byte(b: &[u8]) -> Result<u8, Refusal>
+    ensures { result ≡ byte_in b.now }
 {
-    (u <= SENSE_MOST) | (SENSE_LEAST <= u)
-}
-
-// Such a number, read with its sign.
-fn signed(u: u32) -> i32
-    requires { sense_fits (signed32 u) ≡ true }
-    ensures { result ≡ signed32 u }
-{
-    if u <= SENSE_MOST {
-        return u as i32;
+    match b {
+        [x] => Ok(*x),
+        _ => Err(Refusal::BadKind),
     }
-    -((4294967295 - u + 1) as i32)
 }
 
-fn sense(u: u32) -> Payload
-    ensures { result ≡ sense_of u }
+// A payload of one byte that is 0 or 1.
+fn switch(b: &[u8]) -> Result<bool, Refusal>
+    ensures { result ≡ switch b.now }
 {
-    if near(u) {
-        return Payload::Whole(Event::Sense(signed(u)));
+    match byte(b)? {
+        0 => Ok(false),
+        1 => Ok(true),
+        _ => Err(Refusal::BadValue),
     }
-    Payload::Unfit(number::BAD_VALUE)
 }
 
-// The same, to be repeated 1 to 4,096 times.
-fn ticks(u: u32, n: u16) -> Payload
-    ensures { result ≡ repeat_of ticks_of ticks_most u n }
+// A value of SENSE: a number of 32 bits with its sign, within 500,000 of 0.
+fn value(u: u32) -> Result<i32, Refusal>
+    ensures { result ≡ value_of u }
 {
-    if near(u) & (1 <= n) & (n as u32 <= range::TICKS_MOST) {
-        return Payload::Whole(Event::Ticks(signed(u), n));
+    let v = u.cast_signed();
+    if (range::SENSE_LEAST..=range::SENSE_MOST).contains(&v) {
+        Ok(v)
+    } else {
+        Err(Refusal::BadValue)
     }
-    Payload::Unfit(number::BAD_VALUE)
 }
 
-// Or 1 to 16,777,216 times.
-fn soak(u: u32, n: u32) -> Payload
-    ensures { result ≡ repeat_of soak_of soak_most u n }
+// A payload of one value, where it is a SENSE's.
+fn sense_in(b: &[u8]) -> Result<Event, Refusal>
+    ensures { result ≡ sense_in b.now }
 {
-    if near(u) & (1 <= n) & (n <= range::SOAK_MOST) {
-        return Payload::Whole(Event::Soak(signed(u), n));
+    match b {
+        [k, l, m, n] => Ok(Event::Sense(value(u32::from_le_bytes([*k, *l, *m, *n]))?)),
+        _ => Err(Refusal::BadKind),
     }
-    Payload::Unfit(number::BAD_VALUE)
+}
+
+// TICKS: a value and how often it comes, 1 to 4,096 times.
+#[tactic(auto, unfolding(events::specs::Event::ticks_fit))]
+fn ticks_in(b: &[u8]) -> Result<Event, Refusal>
+    ensures { result ≡ ticks_in b.now }
+{
+    if b.len() != size::TICKS_PAYLOAD {
+        return Err(Refusal::BadKind);
+    }
+    let v = value(get32(b, 0))?;
+    let n = get16(b, 4);
+    if (1..=range::TICKS_MOST).contains(&u32::from(n)) {
+        Ok(Event::Ticks(v, n))
+    } else {
+        Err(Refusal::BadValue)
+    }
+}
+
+// SOAK: the same, 1 to 16,777,216 times.
+#[tactic(auto, unfolding(events::specs::Event::ticks_fit))]
+fn soak_in(b: &[u8]) -> Result<Event, Refusal>
+    ensures { result ≡ soak_in b.now }
+{
+    if b.len() != size::SOAK_PAYLOAD {
+        return Err(Refusal::BadKind);
+    }
+    let v = value(get32(b, 0))?;
+    let n = get32(b, 4);
+    if (1..=range::SOAK_MOST).contains(&n) {
+        Ok(Event::Soak(v, n))
+    } else {
+        Err(Refusal::BadValue)
+    }
+}
+
+// SETUP: part, CRC, address, gain code, offset and floor.
+#[tactic(auto, unfolding(events::specs::Setup::checked_of))]
+fn setup_in(b: &[u8]) -> Result<Event, Refusal>
+    ensures { result ≡ setup_in b.now }
+{
+    match b {
+        [part, crc, address, gain, offset, low, high] => {
+            let floor = u16::from_le_bytes([*low, *high]);
+            Ok(Event::Setup(setup_of(*part, *crc, *address, *gain, *offset, floor)?))
+        }
+        _ => Err(Refusal::BadKind),
+    }
+}
+
+// An event with no payload.
+fn bare_in(event: Event, b: &[u8]) -> Result<Event, Refusal>
+    ensures { result ≡ bare_in event b.now }
+{
+    if b.is_empty() {
+        Ok(event)
+    } else {
+        Err(Refusal::BadKind)
+    }
 }
 
 // Whether each of a payload's numbers is a count.
 fn all_counts(b: &[u8]) -> bool
     ensures { result ≡ within count_most (words b.now) }
 {
-    let n = b.len() / 2;
-    let mut i = 0;
-    while i < n {
+    for i in 0..b.len() / 2 {
         if range::COUNT_MOST < get16(b, 2 * i) {
             return false;
         }
-        i += 1;
     }
     true
 }
 
-fn setup_in(b: &[u8]) -> Payload
-    ensures { result ≡ setup_in b.now }
-{
-    if b.len() != size::SETUP_PAYLOAD {
-        return Payload::Unfit(number::BAD_KIND);
-    }
-    match setup_of(b[0], b[1], b[2], b[3], b[4], get16(b, 5)) {
-        Checked::Good(setup) => Payload::Whole(Event::Setup(setup)),
-        Checked::Bad => Payload::Unfit(number::BAD_SETUP),
-    }
-}
-
-// An event with no payload.
-fn bare_in(event: Event, b: &[u8]) -> Payload
-    ensures { result ≡ bare_in event b.now }
-{
-    if b.len() == 0 {
-        Payload::Whole(event)
-    } else {
-        Payload::Unfit(number::BAD_KIND)
-    }
-}
-
 // An event with as many counts as are wanted beside it.
-fn counted_in(event: Event, wanted: u8, b: &[u8]) -> Payload
+fn counted_in(event: Event, wanted: u8, b: &[u8]) -> Result<Event, Refusal>
     ensures { result ≡ counted_in event wanted b.now }
 {
-    if b.len() != 2 * (wanted as usize) {
-        return Payload::Unfit(number::BAD_KIND);
+    if b.len() != 2 * usize::from(wanted) {
+        return Err(Refusal::BadKind);
     }
     if all_counts(b) {
-        Payload::Whole(event)
+        Ok(event)
     } else {
-        Payload::Unfit(number::BAD_VALUE)
+        Err(Refusal::BadValue)
     }
 }
 
-fn count_in(b: &[u8]) -> Payload
+fn count_in(b: &[u8]) -> Result<Event, Refusal>
     ensures { result ≡ count_in b.now }
 {
-    if b.len() != size::COUNT_PAYLOAD {
-        return Payload::Unfit(number::BAD_KIND);
+    match b {
+        [low, high] => Ok(Event::Count(u16::from_le_bytes([*low, *high]))),
+        _ => Err(Refusal::BadKind),
     }
-    Payload::Whole(Event::Count(get16(b, 0)))
-}
-
-fn sense_in(b: &[u8]) -> Payload
-    ensures { result ≡ sense_in b.now }
-{
-    if b.len() != size::SENSE_PAYLOAD {
-        return Payload::Unfit(number::BAD_KIND);
-    }
-    sense(get32(b, 0))
-}
-
-fn ticks_in(b: &[u8]) -> Payload
-    ensures { result ≡ ticks_in b.now }
-{
-    if b.len() != size::TICKS_PAYLOAD {
-        return Payload::Unfit(number::BAD_KIND);
-    }
-    ticks(get32(b, 0), get16(b, 4))
-}
-
-fn soak_in(b: &[u8]) -> Payload
-    ensures { result ≡ soak_in b.now }
-{
-    if b.len() != size::SOAK_PAYLOAD {
-        return Payload::Unfit(number::BAD_KIND);
-    }
-    soak(get32(b, 0), get32(b, 4))
-}
-
-fn load_in(b: &[u8]) -> Payload
-    ensures { result ≡ switch_in load_of b.now }
-{
-    if b.len() != 1 {
-        return Payload::Unfit(number::BAD_KIND);
-    }
-    if b[0] <= 1 {
-        Payload::Whole(Event::Load(b[0] == 1))
-    } else {
-        Payload::Unfit(number::BAD_VALUE)
-    }
-}
-
-fn level_in(b: &[u8]) -> Payload
-    ensures { result ≡ switch_in level_of b.now }
-{
-    if b.len() != 1 {
-        return Payload::Unfit(number::BAD_KIND);
-    }
-    if b[0] <= 1 {
-        Payload::Whole(Event::Level(b[0] == 1))
-    } else {
-        Payload::Unfit(number::BAD_VALUE)
-    }
-}
-
-fn host_in(b: &[u8]) -> Payload
-    ensures { result ≡ switch_in in_of b.now }
-{
-    if b.len() != 1 {
-        return Payload::Unfit(number::BAD_KIND);
-    }
-    if b[0] <= 1 {
-        Payload::Whole(Event::OnBus(BusEvent::In(b[0] == 1)))
-    } else {
-        Payload::Unfit(number::BAD_VALUE)
-    }
-}
-
-fn host_out(b: &[u8]) -> Payload
-    ensures { result ≡ out_in b.now }
-{
-    if b.len() != 1 {
-        return Payload::Unfit(number::BAD_KIND);
-    }
-    Payload::Whole(Event::OnBus(BusEvent::Out(b[0])))
-}
-
-// Any number of cells: who takes the record judges it.
-fn wires_in(b: &[u8]) -> Payload
-    ensures { result ≡ wires_in b.now }
-{
-    if b.len() != 1 {
-        return Payload::Unfit(number::BAD_KIND);
-    }
-    Payload::Whole(Event::Wires(b[0]))
 }
 
 // How many groups of five inputs a part has: at most three.
+#[tactic(auto, unfolding(events::specs::Setup::groups))]
 pub fn groups_at(part: u8) -> u8
     ensures { result ≡ groups_at part }
 {
-    if part < range::PART_MOST {
-        part
-    } else {
-        range::PART_MOST
-    }
+    part.min(range::PART_MOST)
 }
 
+#[tactic(auto, unfolding(events::specs::Setup::inputs, events::specs::Setup::groups))]
 pub fn inputs_at(part: u8) -> u8
     ensures { result ≡ inputs_at part }
 {
-    if part < range::PART_MOST {
-        range::GROUP_INPUTS * part
-    } else {
-        range::INPUTS_MOST
-    }
+    range::GROUP_INPUTS * groups_at(part)
 }
 
 // The payload of a kind once a part stands.
-fn later_of(kind: u16, part: u8, b: &[u8]) -> Payload
-    ensures { result ≡ later_of kind part b.now }
+fn event_of(kind: Kind, part: u8, b: &[u8]) -> Result<Event, Refusal>
+    ensures { result ≡ event_of kind part b.now }
 {
     match kind {
-        kind::POR => bare_in(Event::Por, b),
-        kind::BOOT => bare_in(Event::Boot, b),
-        kind::SCAN => counted_in(Event::Scan, inputs_at(part), b),
-        kind::TEMP => counted_in(Event::Temp, groups_at(part), b),
-        kind::COUNT => count_in(b),
-        kind::SENSE => sense_in(b),
-        kind::PIN => bare_in(Event::Pin, b),
-        kind::LOAD => load_in(b),
-        kind::XREADY => bare_in(Event::Xready, b),
-        kind::START => bare_in(Event::OnBus(BusEvent::Start), b),
-        kind::OUT => host_out(b),
-        kind::IN => host_in(b),
-        kind::STOP => bare_in(Event::OnBus(BusEvent::Stop), b),
-        kind::LEVEL => level_in(b),
-        kind::TICKS => ticks_in(b),
-        kind::SOAK => soak_in(b),
-        kind::WIRING => wires_in(b),
-        _ => Payload::Unfit(number::BAD_KIND),
+        Kind::Por => bare_in(Event::Por, b),
+        Kind::Boot => bare_in(Event::Boot, b),
+        Kind::Scan => counted_in(Event::Scan, inputs_at(part), b),
+        Kind::Temp => counted_in(Event::Temp, groups_at(part), b),
+        Kind::Count => count_in(b),
+        Kind::Sense => sense_in(b),
+        Kind::Pin => bare_in(Event::Pin, b),
+        Kind::Load => Ok(Event::Load(switch(b)?)),
+        Kind::Xready => bare_in(Event::Xready, b),
+        Kind::Start => bare_in(Event::OnBus(BusEvent::Start), b),
+        Kind::Out => Ok(Event::OnBus(BusEvent::Out(byte(b)?))),
+        Kind::In => Ok(Event::OnBus(BusEvent::In(switch(b)?))),
+        Kind::Stop => bare_in(Event::OnBus(BusEvent::Stop), b),
+        Kind::Level => Ok(Event::Level(switch(b)?)),
+        Kind::Ticks => ticks_in(b),
+        Kind::Soak => soak_in(b),
+        // Any number of cells: who takes the record judges it.
+        Kind::Wiring => Ok(Event::Wires(byte(b)?)),
+        Kind::Setup => Err(Refusal::BadKind),
     }
 }
 
 // The payload of a kind at a part, 0 where none stands yet.
-pub fn payload_of(kind: u16, part: u8, b: &[u8]) -> Payload
+#[tactic(auto, unfolding(crate::specs::Record::payload_of, crate::specs::Record::later_of))]
+pub fn payload_of(kind: u16, part: u8, b: &[u8]) -> Result<Event, Refusal>
     ensures { result ≡ payload_of kind part b.now }
 {
     if part != 0 {
-        return later_of(kind, part, b);
+        return event_of(Kind::try_from(kind)?, part, b);
     }
     if kind == kind::SETUP {
         setup_in(b)
     } else {
-        Payload::Unfit(number::BAD_KIND)
+        Err(Refusal::BadKind)
     }
+}
+
+// The header that bytes begin with, where its record is whole.
+#[tactic(auto, unfolding(crate::specs::Frame::header_of))]
+pub fn header_of(rest: &[u8]) -> Option<Header>
+    ensures { result ≡ header_of rest.now }
+{
+    if rest.len() < size::HEADER {
+        return None;
+    }
+    let n = usize::from(get16(rest, 0));
+    if rest.len() - size::HEADER < n {
+        return None;
+    }
+    Some(Header {
+        kind: get16(rest, 2),
+        next: size::HEADER + n,
+    })
 }
 
 // The record that the rest of a stream begins with, at the part that stands: 0 where none does yet.
 pub fn read_rest(rest: &[u8], part: u8) -> Read
     ensures { result ≡ read_of part rest.now }
 {
-    if rest.len() < size::HEADER {
+    let Some(Header { kind, next }) = header_of(rest) else {
         return Read::Cut;
-    }
-    let n = get16(rest, 0) as usize;
-    let kind = get16(rest, 2);
-    if rest.len() - size::HEADER < n {
-        return Read::Cut; // The payload runs past the end.
-    }
-    let end = size::HEADER + n;
-    match payload_of(kind, part, &rest[size::HEADER..end]) {
-        Payload::Whole(event) => Read::Record { event, next: end },
-        Payload::Unfit(number) => Read::Refused { number, next: end },
+    };
+    match payload_of(kind, part, &rest[size::HEADER..next]) {
+        Ok(event) => Read::Record { event, next },
+        Err(why) => Read::Refused { why, next },
     }
 }
 
 // A number of 2 bytes, or 0 past the end.
+#[tactic(auto, unfolding(bits::specs::Numbers::word_or))]
 fn word(b: &[u8], i: usize) -> u16
     requires { i < 16 }
     ensures { result ≡ word_or b.now i }
@@ -365,19 +307,18 @@ fn fifteen(b: &[u8]) -> [u16; 15]
     ]
 }
 
+#[tactic(auto, unfolding(crate::specs::Record::counts_of))]
 fn counts_of(b: &[u8]) -> Counts
     ensures { result ≡ counts_of b.now }
 {
-    let of = fifteen(b);
-    if b.len() < size::PAYLOAD_MOST {
-        return Counts {
-            many: (b.len() / 2) as u8,
-            of,
-        };
-    }
+    let many = if b.len() < size::PAYLOAD_MOST {
+        (b.len() / 2) as u8
+    } else {
+        range::INPUTS_MOST
+    };
     Counts {
-        many: range::INPUTS_MOST,
-        of,
+        many,
+        of: fifteen(b),
     }
 }
 
@@ -391,12 +332,12 @@ pub fn no_counts() -> Counts
 }
 
 // The counts beside an event that was read, from its payload. SCAN and TEMP alone have any.
+#[tactic(auto, unfolding(crate::specs::Record::counts_in))]
 pub fn counts_in(event: Event, payload: &[u8]) -> Counts
     ensures { result ≡ counts_in event payload.now }
 {
     match events::beside_of(event) {
-        Beside::Inputs => counts_of(payload),
-        Beside::Groups => counts_of(payload),
+        Beside::Inputs | Beside::Groups => counts_of(payload),
         Beside::Nothing => no_counts(),
     }
 }
@@ -421,9 +362,9 @@ pub fn take_record(s: &[u8], at: usize, part: u8) -> Taken
             },
             counts: counts_in(event, &rest[size::HEADER..next]),
         },
-        Read::Refused { number, next } => Taken {
+        Read::Refused { why, next } => Taken {
             read: Read::Refused {
-                number,
+                why,
                 next: at + next,
             },
             counts,
@@ -435,51 +376,33 @@ pub fn take_record(s: &[u8], at: usize, part: u8) -> Taken
     }
 }
 
-// The header that bytes begin with.
-pub fn header_of(rest: &[u8]) -> Framed
-    ensures { result ≡ header_of rest.now }
+// The SETUP that a stream begins with, or why it begins with none.
+fn first(s: &[u8]) -> Result<Event, Refusal>
+    ensures { payload_number result ≡ number_of (read_of 0 s.now) }
 {
-    if rest.len() < size::HEADER {
-        return Framed::Short;
+    let Some(Header { kind, next }) = header_of(s) else {
+        return Err(Refusal::CutShort);
+    };
+    if kind != kind::SETUP {
+        return Err(Refusal::BadKind);
     }
-    let n = get16(rest, 0) as usize;
-    if rest.len() - size::HEADER < n {
-        return Framed::Short;
-    }
-    let kind = get16(rest, 2);
-    Framed::Header {
-        kind,
-        next: size::HEADER + n,
-    }
+    setup_in(&s[size::HEADER..next])
 }
 
 // The number of the record that a stream begins with: 0 for a good SETUP.
 pub fn first_number(s: &[u8]) -> u8
     ensures { result ≡ number_of (read_of 0 s.now) }
 {
-    let framed = header_of(s);
-    let Framed::Header { kind, next } = framed else {
-        return number::CUT;
-    };
-    if kind != kind::SETUP {
-        return number::BAD_KIND;
-    }
-    match setup_in(&s[size::HEADER..next]) {
-        Payload::Whole(_) => 0,
-        Payload::Unfit(number) => number,
+    match first(s) {
+        Ok(_) => number::DONE,
+        Err(why) => why.number(),
     }
 }
 
-// How long the record is that bytes begin with: 0 where it is cut short.
-pub fn frame(rest: &[u8]) -> usize
-    ensures { result ≡ frame_of rest.now }
+// How long the record is that bytes begin with, where it is whole.
+#[tactic(auto, unfolding(crate::specs::Frame::frame_of, crate::specs::Frame::header_of))]
+pub fn frame(rest: &[u8]) -> Option<usize>
+    ensures { result ≡ size_of (frame_of rest.now) }
 {
-    if rest.len() < size::HEADER {
-        return 0;
-    }
-    let n = get16(rest, 0) as usize;
-    if rest.len() - size::HEADER < n {
-        return 0;
-    }
-    size::HEADER + n
+    Some(header_of(rest)?.next)
 }

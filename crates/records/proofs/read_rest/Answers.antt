@@ -1,25 +1,33 @@
--- `read_rest` looks for a cut header and a cut payload, and reads the payload by its callee (Cases: read-cut, read_is).
-use Rattle.std.proofs.Common.{ap, sym, ◌+◌, ◌∙◌, ◌≡◌}
-use Rattle.records.specs.Record.{read_of, as_read}
-use Rattle.records.proofs.Cases.{read_is, read_cut}
-use Rattle.records.proofs.Tests.{tests}
+-- `read_rest` reads the payload by what the header says (FramingLaws).
+use Rattle.std.proofs.Common.{ap, arith, length, sym, ◌∙◌, ◌≡◌, ◌≤◌, Some}
+use Rattle.records.specs.Frame.{header_of}
+use Rattle.records.specs.FramingLaws.{framed_place, framed_reads, short_reads}
+use Rattle.records.specs.Record.{as_read}
 use Rattle.records.proofs.read_rest.Goals as goal
-use Rattle.records.proofs.read_rest.Goals.{After-payload_of}
+use Rattle.records.proofs.read_rest.Goals.{In-Some}
 
--- what the payload's answer makes of the record
-whole : (c : After-payload_of) → as_read (4 + c.get16-n.result) c.payload_of.result
-    ≡ read_of c.args.part c.args.rest.now
-whole c = read_is c.args.part c.args.rest.now c.get16-n.result c.get16-kind.result c.payload_of.result c.get16-n.ensures c.get16-kind.ensures c.if-rest-lt-HEADER.false c.if-rest-n.false c.payload_of.ensures
+header : (c : In-Some) → header_of c.args.rest.now ≡ Some c.in-Some.field-0
+header c = sym c.header_of.ensures ∙ c.in-Some.is
 
-pub returns-then-rest-lt-HEADER : goal.returns-then-rest-lt-HEADER
-unfolding read_of
-returns-then-rest-lt-HEADER c = search tests
+place : (c : In-Some) → (4 ≤ c.in-Some.field-0.next) × (c.in-Some.field-0.next ≤ length c.args.rest.now)
+place c = framed_place c.args.rest.now c.in-Some.field-0 (header c)
 
-pub returns-then-rest-n : goal.returns-then-rest-n
-returns-then-rest-n c = read_cut c.args.part c.args.rest.now c.get16-n.result c.get16-n.ensures c.if-rest-lt-HEADER.false c.if-rest-n.true
+pub returns-in_default : goal.returns-in_default
+returns-in_default c = sym (short_reads c.args.part c.args.rest.now (sym c.header_of.ensures ∙ c.in_default.is))
 
-pub returns-in-Whole : goal.returns-in-Whole
-returns-in-Whole c = ap (as_read _) (sym c.in-Whole.is) ∙ whole (goal.at.returns-in-Whole c).After-payload_of
+pub slice_bounds-payload_of-count : goal.slice_bounds-payload_of-count
+slice_bounds-payload_of-count c = (place c).0
 
-pub returns-in-Unfit : goal.returns-in-Unfit
-returns-in-Unfit c = ap (as_read _) (sym c.in-Unfit.is) ∙ whole (goal.at.returns-in-Unfit c).After-payload_of
+pub slice_bounds-payload_of-start : goal.slice_bounds-payload_of-start
+slice_bounds-payload_of-start c = omega (arith, place c)
+
+pub slice_bounds-payload_of-end : goal.slice_bounds-payload_of-end
+slice_bounds-payload_of-end c = omega (arith, place c)
+
+pub returns-in-Ok : goal.returns-in-Ok
+returns-in-Ok c = ap (as_read _) (sym c.in-Ok.is ∙ c.payload_of.ensures)
+    ∙ sym (framed_reads c.args.rest.now c.in-Some.field-0 (header (goal.at.returns-in-Ok c).In-Some) c.args.part)
+
+pub returns-in-Err : goal.returns-in-Err
+returns-in-Err c = ap (as_read _) (sym c.in-Err.is ∙ c.payload_of.ensures)
+    ∙ sym (framed_reads c.args.rest.now c.in-Some.field-0 (header (goal.at.returns-in-Err c).In-Some) c.args.part)
