@@ -5,7 +5,7 @@ use Rattle.std.proofs.Math.Path.{ap}
 use Rattle.std.proofs.Math.Bool.{true, false, cond}
 use native.Mathlib.Omega.{arith}
 use Rattle.constants.specs.Refusal.{number_of as refusal_number}
-use Rattle.constants.specs.RefusalLaws.{no_zero}
+use Rattle.constants.proofs.RefusalLaws.{no_zero}
 use Rattle.constants.specs.declared.refusal.Refusal.{Refusal}
 use Rattle.constants.specs.declared.refusal.Refusal.TheVariants.{BadKind}
 use Rattle.bits.specs.Numbers.{le16}

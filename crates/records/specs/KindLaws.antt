@@ -16,7 +16,8 @@ use Rattle.events.specs.declared.BusEvent.TheVariants.{Start, Stop, Out, In}
 use Rattle.events.specs.declared.Event.{Event}
 use Rattle.events.specs.declared.Event.TheVariants.{Setup, Por, Boot, Scan, Temp, Count, Sense, Pin, Load, Xready, OnBus, Level, Ticks}
 use Rattle.events.specs.declared.Event.TheVariants.{Soak, Wires}
-use Rattle.records.specs.Record.{Payload, checked_in, setup_in, bare_in, counted_in, sense_of, sense_in, repeat_of, ticks_of, ticks_in, soak_of}
+use Rattle.records.specs.Record.{Payload, checked_in, setup_in, bare_in, counted_in, sense_of, sense_in, repeat_of, ticks_of, ticks_in}
+use Rattle.records.specs.Record.{soak_of}
 use Rattle.records.specs.Record.{soak_in, switch_in, load_of, level_of, in_of, groups_at, inputs_at, of_kind, later_of, payload_of, read_of}
 use Rattle.records.specs.ReadingLaws.{WholeAt, read_whole}
 use Rattle.records.specs.declared.Read.TheVariants.{Record}

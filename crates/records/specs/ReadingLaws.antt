@@ -7,8 +7,10 @@ use Rattle.std.proofs.Math.Seq.{drop-append_seam}
 use Rattle.bits.specs.Numbers.{le16}
 use Rattle.records.specs.Kind.{SETUP, POR, BOOT, SCAN, TEMP, COUNT, SENSE, PIN, LOAD, XREADY, START, OUT, IN, STOP, LEVEL, TICKS}
 use Rattle.records.specs.Kind.{SOAK, WIRES}
-use Rattle.records.specs.Record.{Payload, bare_in, counted_in, count_in, sense_in, switch_in, load_of, level_of, in_of, out_in, ticks_in, soak_in}
-use Rattle.records.specs.Record.{wires_in, groups_at, inputs_at, of_kind, later_of, payload_of, as_read, read_of, number_of, taken_from, taken_at}
+use Rattle.records.specs.Record.{Payload, bare_in, counted_in, count_in, sense_in, switch_in, load_of, level_of, in_of, out_in, ticks_in}
+use Rattle.records.specs.Record.{soak_in}
+use Rattle.records.specs.Record.{wires_in, groups_at, inputs_at, of_kind, later_of, payload_of, as_read, read_of, number_of, taken_from}
+use Rattle.records.specs.Record.{taken_at}
 use Rattle.events.specs.declared.BusEvent.TheVariants.{Start, Stop}
 use Rattle.events.specs.declared.Event.{Event}
 use Rattle.events.specs.declared.Event.TheVariants.{Por, Boot, Scan, Temp, Pin, Xready, OnBus}

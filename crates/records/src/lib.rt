@@ -7,7 +7,7 @@ ghost use Rattle.bits.specs.Numbers.{within, le16, le32, words, word_or};
 ghost use Rattle.cell_counts.specs.Scan.{padded};
 ghost use Rattle.records.specs.FramingLaws.{payload_number};
 ghost use Rattle.records.specs.Frame.{frame_of, header_of, size_of};
-ghost use Rattle.records.specs.Record.{byte_in, switch, value_of, sense_in, ticks_in, soak_in, count_in, setup_in, bare_in, counted_in, groups_at, inputs_at, event_of, payload_of, read_of, number_of, no_counts, counts_of, counts_in, taken_at};
+ghost use Rattle.records.specs.Record.{byte_in, switch, value_of, sense_in, ticks_in, soak_in, count_in, setup_in, bare_in, counted_in, groups_at, inputs_at, event_of, payload_of, read_of, number_of, counts_of, counts_in, taken_at};
 
 use constants::kind::{self, Kind};
 use constants::refusal::Refusal;
@@ -322,23 +322,14 @@ fn counts_of(b: &[u8]) -> Counts
     }
 }
 
-pub fn no_counts() -> Counts
-    ensures { result ≡ no_counts }
-{
-    Counts {
-        many: 0,
-        of: [0; 15],
-    }
-}
-
 // The counts beside an event that was read, from its payload. SCAN and TEMP alone have any.
-#[tactic(auto, unfolding(crate::specs::Record::counts_in))]
+#[tactic(auto, using(crate::proofs::NoCounts::none_made), unfolding(crate::specs::Record::counts_in))]
 pub fn counts_in(event: Event, payload: &[u8]) -> Counts
     ensures { result ≡ counts_in event payload.now }
 {
     match events::beside_of(event) {
         Beside::Inputs | Beside::Groups => counts_of(payload),
-        Beside::Nothing => no_counts(),
+        Beside::Nothing => Counts::default(),
     }
 }
 
@@ -346,7 +337,7 @@ pub fn counts_in(event: Event, payload: &[u8]) -> Counts
 pub fn take_record(s: &[u8], at: usize, part: u8) -> Taken
     ensures { result ≡ taken_at part s.now at }
 {
-    let counts = no_counts();
+    let counts = Counts::default();
     if s.len() < at {
         return Taken {
             read: Read::Cut,
