@@ -10,7 +10,7 @@ use Rattle.constants.specs.declared.refusal.Refusal.TheVariants.{NoCode, CutShor
 use Rattle.constants.specs.declared.refusal.Refusal.TheVariants.{BadAddress, SeasonFull, BadCommand, TooLong, OtherChip, NoChip}
 use Rattle.constants.specs.declared.refusal.Refusal.TheVariants.{NoRecord, NotSo}
 use Rattle.bus.specs.declared.Bus.{Bus}
-use Rattle.bus.specs.declared.Store.{Store}
+use Rattle.bus.specs.Bus.{Store}
 use Rattle.chip.specs.declared.Chip.{Chip}
 use Rattle.chip.specs.declared.Stepped.{Stepped as GivenStep}
 use Rattle.chip.specs.declared.Heard.{Heard as GivenHeard}

@@ -1,5 +1,5 @@
 -- What the chip owes, of its definitions: SHIP leaves the reset registers and the setup and nothing else. Assumes nothing.
-use Rattle.std.specs.Prelude.{◌≡◌, refl, Bool, true, false, cond, ℕ, ◌+◌, ◌*◌, eqb}
+use Rattle.std.specs.Prelude.{◌≡◌, refl, Bool, true, false, cond, ℕ, ◌+◌, ◌*◌, eqb, None}
 use Rattle.std.proofs.Common.{ap, ◌∙◌}
 use Rattle.events.specs.declared.Setup.{Setup}
 use Rattle.events.specs.declared.BusEvent.TheVariants.{Out}
@@ -8,10 +8,8 @@ use Rattle.crc8.specs.Crc.{byte_on}
 use Rattle.bus.specs.declared.Line.{Line}
 use Rattle.bus.specs.declared.Phase.{Phase}
 use Rattle.bus.specs.declared.Phase.TheVariants.{Idle, Address, Pointing, Writing, Checking, Reading, Summing}
-use Rattle.bus.specs.declared.Store.{Store}
-use Rattle.bus.specs.declared.Store.TheVariants.{Nothing, At}
 use Rattle.bus.specs.declared.Outed.{Outed}
-use Rattle.bus.specs.Bus.{goes, refuses, stores, addressed, fed, checked, out_in, outed}
+use Rattle.bus.specs.Bus.{Store, At, goes, refuses, stores, addressed, fed, checked, out_in, outed}
 use Rattle.settings.specs.Write.{ships}
 use Rattle.chip.specs.declared.Chip.{Chip}
 use Rattle.chip.specs.Chip.{numbered, answered, in_ship, accepted, stored_at, stored, settled, normally, asleep, happened, stepped}
@@ -38,7 +36,7 @@ stores_by : (t : Bool) (o p : Outed) (a v : ℕ) → (o.store ≡ At a v → o.b
 stores_by true o p a v h k s = h s
 stores_by false o p a v h k s = k s
 
-no_store : (a v : ℕ) → Nothing ≡ At a v → ◌≡◌ {A = ℕ} 1 0
+no_store : (a v : ℕ) → None ≡ At a v → ◌≡◌ {A = ℕ} 1 0
 no_store a v s = cc
 
 stored_acked : (u : Setup) (p : Phase) (at b a v : ℕ) → (out_in u p at b).store ≡ At a v → (out_in u p at b).byte ≡ 0

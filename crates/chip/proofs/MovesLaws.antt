@@ -1,12 +1,10 @@
 -- What one event does to the parts of the chip, whatever the others hold. Assumes nothing.
-use Rattle.std.specs.Prelude.{◌≡◌, refl, Bool, true, false, cond, ℕ}
+use Rattle.std.specs.Prelude.{◌≡◌, refl, Bool, true, false, cond, ℕ, Some, None}
 use Rattle.events.specs.declared.BusEvent.{BusEvent}
 use Rattle.events.specs.declared.BusEvent.TheVariants.{Start, Stop, Out, In}
 use Rattle.events.specs.Event.{Event, Por, Boot, Pin, Xready, Scan, Temp, Count, Sense, Load, OnBus, Level, fits}
 use Rattle.bus.specs.declared.Line.{Line}
-use Rattle.bus.specs.declared.Store.{Store}
-use Rattle.bus.specs.declared.Store.TheVariants.{Nothing, At}
-use Rattle.bus.specs.Bus.{outed}
+use Rattle.bus.specs.Bus.{Store, At, outed}
 use Rattle.settings.specs.Write.{ships}
 use Rattle.chip.specs.declared.Chip.{Chip}
 use Rattle.chip.specs.Chip.{numbered, with_normal, in_ship, line_moved, accepted, stored_at, stored, on_bus, watched, settled}
@@ -36,16 +34,16 @@ next_by P e c n s r = by (fits e) c.normal n s r
 
 -- and one of a chip that a store leaves
 pub stored_by : (P : Chip → Type 0) (l : Line) (t : Store) (c : Chip)
-    → (t ≡ Nothing → P (line_moved l c))
+    → (t ≡ None → P (line_moved l c))
     → ((a v : ℕ) → t ≡ At a v → ships a v c.registers.settings ≡ true → P (in_ship c.setup))
     → ((a v : ℕ) → t ≡ At a v → ships a v c.registers.settings ≡ false → P (accepted l a v c))
     → P (stored l t c)
 unfolding stored_at
-stored_by P l Nothing c n s k = n refl
-stored_by P l (At a v) c n s k = by (ships a v c.registers.settings) (s a v refl) (k a v refl)
+stored_by P l None c n s k = n refl
+stored_by P l (Some w) c n s k = by (ships w.at w.value c.registers.settings) (s w.at w.value refl) (k w.at w.value refl)
   where
-    by : (b : Bool) → (b ≡ true → P (in_ship c.setup)) → (b ≡ false → P (accepted l a v c))
-        → P (cond b (in_ship c.setup) (accepted l a v c))
+    by : (b : Bool) → (b ≡ true → P (in_ship c.setup)) → (b ≡ false → P (accepted l w.at w.value c))
+        → P (cond b (in_ship c.setup) (accepted l w.at w.value c))
     by true s k = s refl
     by false s k = k refl
 
@@ -100,11 +98,12 @@ Agree c d = core_of c ≡ core_of d
 
 core_stored : (l : Line) (t : Store) (c : Chip) → Agree (stored l t c) (stored l t (bare c.setup (core_of c)))
 unfolding stored_at
-core_stored l Nothing c = refl
-core_stored l (At a v) c = by (ships a v c.registers.settings)
+core_stored l None c = refl
+core_stored l (Some w) c = by (ships w.at w.value c.registers.settings)
   where
     by : (b : Bool)
-        → Agree (cond b (in_ship c.setup) (accepted l a v c)) (cond b (in_ship c.setup) (accepted l a v (bare c.setup (core_of c))))
+        → Agree (cond b (in_ship c.setup) (accepted l w.at w.value c))
+        (cond b (in_ship c.setup) (accepted l w.at w.value (bare c.setup (core_of c))))
     by true = refl
     by false = refl
 

@@ -11,7 +11,7 @@ use Rattle.bus.specs.declared.Owed.{Owed}
 use Rattle.bus.specs.declared.Phase.{Phase}
 use Rattle.bus.specs.declared.Phase.TheVariants.{Idle, Address, Pointing, Writing, Checking, Reading, Summing}
 use Rattle.bus.specs.declared.Taken.{Taken}
-use Rattle.bus.specs.declared.Want.TheVariants.{Register, Nothing as NoRegister}
+use Rattle.std.specs.Prelude.{Some, None}
 use Rattle.bus.specs.Bus.{is_high, grown, keeps, in_owed, owing, taken, byte_given as given_of, gives, wanted, takes}
 use Rattle.bus.proofs.Laws.{wants_nothing, wants_at}
 use Rattle.registers.specs.declared.Pair.{Pair}
@@ -54,7 +54,7 @@ high_low c a h =
     let n : a + 1 ≡ grown a = omega arith in
     pair_low c.setup c.registers a e f g ∙ ap (reads c) n
 
-pub told_pair : {t : Taken} (c : Chip) (nack : Bool) (a : ℕ) (p : Pair) → wanted c.bus ≡ Register a → p ≡ pair_at c.setup c.registers a
+pub told_pair : {t : Taken} (c : Chip) (nack : Bool) (a : ℕ) (p : Pair) → wanted c.bus ≡ Some a → p ≡ pair_at c.setup c.registers a
     → t ≡ takes c.setup p.here p.low nack c.bus → t ≡ taken_by nack c
 unfolding pair_at
 told_pair c nack a p w hp h =
@@ -63,5 +63,5 @@ told_pair c nack a p w hp h =
     h ∙ ap (λ (p : Pair). takes c.setup p.here p.low nack c.bus) q
     ∙ takes_low c.setup _ _ _ nack c.bus (λ (k : is_high c.bus.line.pointer ≡ true). high_low c c.bus.line.pointer k)
 
-pub told_none : {t : Taken} (c : Chip) (nack : Bool) → wanted c.bus ≡ NoRegister → t ≡ takes c.setup 0 0 nack c.bus → t ≡ taken_by nack c
+pub told_none : {t : Taken} (c : Chip) (nack : Bool) → wanted c.bus ≡ None → t ≡ takes c.setup 0 0 nack c.bus → t ≡ taken_by nack c
 told_none c nack w h = h ∙ sym (wants_nothing c.setup _ _ nack c.bus w)

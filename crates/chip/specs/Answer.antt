@@ -5,7 +5,7 @@ use Rattle.constants.specs.Number.{DONE}
 use Rattle.constants.specs.Refusal.{number_of}
 use Rattle.constants.specs.declared.refusal.Refusal.{Refusal}
 use Rattle.bus.specs.declared.Bus.{Bus}
-use Rattle.bus.specs.declared.Store.{Store}
+use Rattle.bus.specs.Bus.{Store}
 use Rattle.chip.specs.declared.Chip.{Chip}
 use Rattle.chip.specs.declared.Stepped.{Stepped as GivenStep}
 use Rattle.chip.specs.declared.Heard.{Heard as GivenHeard}

@@ -1,6 +1,6 @@
 -- The chip (CHIP S7): setup, mode, bus, registers and runs, and what each event does and answers: CHIP M1 to M10,
 -- and the rules of the bus, the registers and judging put together over the rooms below. Assumes nothing.
-use Rattle.std.specs.Prelude.{Bool, true, false, cond, List, ℕ, zero, suc, ℤ}
+use Rattle.std.specs.Prelude.{Bool, true, false, cond, List, ℕ, zero, suc, ℤ, Some, None}
 use Rattle.constants.specs.Number.{DONE, BAD_KIND, BAD_VALUE, ASLEEP}
 use Rattle.events.specs.declared.Setup.{Setup}
 use Rattle.events.specs.declared.Counts.{Counts}
@@ -11,11 +11,9 @@ use Rattle.events.specs.Event.{Event, Por, Boot, Pin, Xready, Scan, Temp, Count,
 use Rattle.events.specs.Event.{means, ticks, unfit, event_of, meant_of}
 use Rattle.bus.specs.declared.Line.{Line}
 use Rattle.bus.specs.declared.Bus.{Bus}
-use Rattle.bus.specs.declared.Store.{Store}
 use Rattle.bus.specs.declared.Outed.{Outed}
 use Rattle.bus.specs.declared.Taken.{Taken}
-use Rattle.bus.specs.declared.Store.TheVariants.{Nothing, At}
-use Rattle.bus.specs.Bus.{with_line, idle_bus, grown, started, stopped, outed, takes}
+use Rattle.bus.specs.Bus.{Store, with_line, idle_bus, grown, started, stopped, outed, takes}
 use Rattle.settings.specs.Write.{ships}
 use Rattle.registers.specs.declared.Registers.{Registers}
 use Rattle.registers.specs.State.{reset, with_shown, with_load_level, with_outside_level}
@@ -71,8 +69,8 @@ unfoldable pub stored_at : Line → ℕ → ℕ → Chip → Chip
 stored_at l a v c = cond (ships a v c.registers.settings) (in_ship c.setup) (accepted l a v c)
 
 abbrev pub stored : Line → Store → Chip → Chip
-stored l Nothing c = line_moved l c
-stored l (At a v) c = stored_at l a v c
+stored l None c = line_moved l c
+stored l (Some w) c = stored_at l w.at w.value c
 
 abbrev pub sent : Outed → Chip → Stepped
 sent o c = answered o.byte (stored o.line o.store c)

@@ -1,6 +1,6 @@
 -- The parts that an event in NORMAL moves, one by one: the bus with its answer and then the store; the runs and then what rises. Assumes
 -- nothing.
-use Rattle.std.specs.Prelude.{◌≡◌, refl, Bool, true, false, cond, ◌||◌, ℕ, ℤ}
+use Rattle.std.specs.Prelude.{◌≡◌, refl, Bool, true, false, cond, ◌||◌, ℕ, ℤ, Some, None}
 use Rattle.std.proofs.Common.{ap, true≢false}
 use Rattle.constants.specs.Number.{DONE, ASLEEP}
 use Rattle.events.specs.declared.BusEvent.{BusEvent}
@@ -10,11 +10,9 @@ use Rattle.events.specs.Event.{Sense}
 use Rattle.events.specs.Fault.{among}
 use Rattle.bus.specs.declared.Line.{Line}
 use Rattle.bus.specs.declared.Bus.{Bus}
-use Rattle.bus.specs.declared.Store.{Store}
-use Rattle.bus.specs.declared.Store.TheVariants.{Nothing, At}
 use Rattle.bus.specs.declared.Outed.{Outed}
 use Rattle.bus.specs.declared.Taken.{Taken}
-use Rattle.bus.specs.Bus.{with_line, started, stopped, outed}
+use Rattle.bus.specs.Bus.{Store, with_line, started, stopped, outed}
 use Rattle.settings.specs.Write.{ships}
 use Rattle.registers.specs.declared.Registers.{Registers}
 use Rattle.registers.specs.declared.Shown.{Shown}
@@ -36,13 +34,13 @@ moved_to r c = cond c.normal (settled (numbered DONE (with_registers r c))) (num
 
 -- ── the bus: what is heard at once ──
 abbrev pub unheard : Line → Bus → Heard
-unheard l b = record { bus = with_line l b; flag = false; byte = 0; store = Nothing }
+unheard l b = record { bus = with_line l b; flag = false; byte = 0; store = None }
 
 abbrev pub sent_on : Outed → Bus → Heard
 sent_on o b = record { bus = with_line o.line b; flag = true; byte = o.byte; store = o.store }
 
 abbrev pub handed_over : Taken → Heard
-handed_over t = record { bus = t.bus; flag = true; byte = t.byte; store = Nothing }
+handed_over t = record { bus = t.bus; flag = true; byte = t.byte; store = None }
 
 unfoldable pub heard_of : BusEvent → Chip → Heard
 heard_of Start c = unheard (started c.bus.line) c.bus
@@ -56,8 +54,8 @@ wrote a v c =
     cond (ships a v c.registers.settings) (in_ship c.setup) (watched (with_registers (written c.setup a v c.registers) c))
 
 abbrev pub landed : Store → Chip → Chip
-landed Nothing c = watched c
-landed (At a v) c = wrote a v c
+landed None c = watched c
+landed (Some w) c = wrote w.at w.value c
 
 abbrev pub told : Heard → Chip → Stepped
 told h c = record { chip = landed h.store (with_bus h.bus c); number = 0; flag = h.flag; byte = h.byte }
@@ -74,8 +72,8 @@ sent_parts o c = by o.store
     by : (t : Store)
         → ◌≡◌ {A = Stepped} (record { chip = landed t (line_moved o.line c); number = 0; flag = true; byte = o.byte })
         (settled (answered o.byte (stored o.line t c)))
-    by Nothing = refl
-    by (At a v) = ap (answered o.byte) (or_ships a v (ships a v c.registers.settings))
+    by None = refl
+    by (Some w) = ap (answered o.byte) (or_ships w.at w.value (ships w.at w.value c.registers.settings))
 
 pub bus_parts : (e : BusEvent) (c : Chip) → told (heard_of e c) c ≡ settled (on_bus e c)
 unfolding heard_of

@@ -14,7 +14,7 @@ ghost use Rattle.protection.specs.Repeat.{ticks_judged};
 ghost use Rattle.chip.specs.RepeatLaws.{ticked_by};
 ghost use Rattle.bus.specs.Bus.{wanted};
 
-use bus::{Bus, Line, Outed, Store, Taken, Want};
+use bus::{Bus, Line, Outed, Taken, Write};
 use constants::range;
 use constants::refusal::Refusal;
 use events::{BusEvent, Counts, Event, Faults, Setup};
@@ -47,7 +47,7 @@ pub struct Stepped {
 pub struct Heard {
     pub bus: Bus,
     pub byte: Option<u8>,
-    pub store: Store,
+    pub store: Option<Write>,
 }
 
 // The chip in SHIP, as it is after setup, POR and the shipping sequence. A setup is judged where it is made: `events::setup_of`.
@@ -71,7 +71,7 @@ pub fn unheard(line: Line, mut bus: Bus) -> Heard
     Heard {
         bus,
         byte: None,
-        store: Store::Nothing,
+        store: None,
     }
 }
 
@@ -94,7 +94,7 @@ pub fn handed(taken: Taken) -> Heard
     Heard {
         bus: taken.bus,
         byte: Some(taken.byte),
-        store: Store::Nothing,
+        store: None,
     }
 }
 
@@ -348,12 +348,12 @@ impl Chip {
         self.watched()
     }
 
-    fn landed(self, store: Store) -> Self
+    fn landed(self, store: Option<Write>) -> Self
         ensures { result ≡ landed store self }
     {
         match store {
-            Store::Nothing => self.watched(),
-            Store::At(at, value) => self.wrote(at, value),
+            Some(Write { at, value }) => self.wrote(at, value),
+            None => self.watched(),
         }
     }
 
@@ -408,16 +408,16 @@ impl Chip {
     }
 
     // What the bus gives, once it is told the registers that it asks for.
-    fn fetched(self, nack: bool, want: Want) -> Taken
+    fn fetched(self, nack: bool, want: Option<u8>) -> Taken
         requires { want ≡ wanted self.bus }
         ensures { result ≡ taken_by nack self }
     {
         match want {
-            Want::Register(at) => {
+            Some(at) => {
                 let pair = self.registers.pair(self.setup, at);
                 self.bus.take(self.setup, pair.here, pair.low, nack)
             }
-            Want::Nothing => self.bus.take(self.setup, 0, 0, nack),
+            None => self.bus.take(self.setup, 0, 0, nack),
         }
     }
 }

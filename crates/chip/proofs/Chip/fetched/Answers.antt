@@ -3,8 +3,8 @@ use Rattle.std.proofs.Common.{sym, ◌∙◌}
 use Rattle.chip.proofs.Told.{told_pair, told_none}
 use Rattle.chip.proofs.Chip.fetched.Goals as goal
 
-pub returns-in-Register : goal.returns-in-Register
-returns-in-Register c = told_pair c.args.self c.args.nack _ c.pair-pair.result (sym c.requires ∙ c.in-Register.is) c.pair-pair.ensures c.take.ensures
+pub returns-in-Some : goal.returns-in-Some
+returns-in-Some c = told_pair c.args.self c.args.nack _ c.pair-pair.result (sym c.requires ∙ c.in-Some.is) c.pair-pair.ensures c.take.ensures
 
-pub returns-in-Nothing : goal.returns-in-Nothing
-returns-in-Nothing c = told_none c.args.self c.args.nack (sym c.requires ∙ c.in-Nothing.is) c.take-in-Nothing.ensures
+pub returns-in-None : goal.returns-in-None
+returns-in-None c = told_none c.args.self c.args.nack (sym c.requires ∙ c.in-None.is) c.take-in-None.ensures
