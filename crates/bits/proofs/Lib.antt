@@ -1,2 +1,1 @@
-pub mod Ints
 pub mod Stores

@@ -1,5 +1,6 @@
 -- CHIP R1: every number has its low byte first. Assumes nothing.
-use Rattle.std.specs.Prelude.{ℕ, ◌+◌, ◌-◌, ◌*◌, ◌/◌, ◌%◌, List, [], ◌∷◌, Bool, true, ◌&&◌, cond, length, get_or, ltb, leb, ℤ, pos, negsuc}
+use Rattle.std.specs.Prelude.{ℕ, ◌+◌, ◌-◌, ◌*◌, ◌/◌, ◌%◌, List, [], ◌∷◌, Bool, cond, length, get_or, ltb, leb, ℤ, pos, negsuc}
+use Rattle.std.specs.List.{list_all}
 
 -- numbers of 2 and 4 bytes, the lowest first
 abbrev pub le16 : List ℕ → ℕ → ℕ
@@ -44,5 +45,4 @@ word_bytes (x ∷ xs) = x % 256 ∷ x / 256 ∷ word_bytes xs
 
 -- ── each number of a list at most so much ──
 abbrev pub within : ℕ → List ℕ → Bool
-within most [] = true
-within most (x ∷ xs) = leb x most && within most xs
+within most xs = list_all (λ x. leb x most) xs

@@ -10,10 +10,7 @@ pub mod bytes;
 pub fn bit(v: u8, w: u8) -> bool
     ensures { result ≡ bit v w }
 {
-    if w == 0 {
-        return false;
-    }
-    v / w % 2 == 1
+    w != 0 && v / w % 2 == 1
 }
 
 // What a bit of weight `w` adds to its byte.

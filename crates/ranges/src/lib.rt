@@ -1,58 +1,54 @@
 // The checks of an event made by hand, for the writer and the chip: counts that fit the part, and values in range.
 #![tactic(auto)]
 
-ghost use Rattle.std.specs.Prelude.{◌≡◌, cond, take, drop};
-ghost use Rattle.constants.specs.Number.{DONE, BAD_VALUE};
+ghost use Rattle.std.specs.Prelude.{◌≡◌, take, drop};
 ghost use Rattle.bits.specs.Numbers.{within};
 ghost use Rattle.events.specs.Event.{count_most, sense_fits, ticks_fit, counts_wanted, counts_fit, event_of, meant_of};
-ghost use Rattle.ranges.specs.Refusal.{refusal_of};
+ghost use Rattle.ranges.specs.Refusal.{valued, refused};
 
-use constants::{number, range, size};
+use constants::refusal::Refusal;
+use constants::{range, size};
 use events::{Beside, Counts, Event, Setup};
 
 // Whether a SENSE value is in range.
 pub fn sense_fits(v: i32) -> bool
     ensures { result ≡ sense_fits v }
 {
-    (range::SENSE_LEAST <= v) & (v <= range::SENSE_MOST)
+    (range::SENSE_LEAST..=range::SENSE_MOST).contains(&v)
 }
 
 // Whether a tick's value is in range, and how often it is repeated, up to the most that its kind allows.
+#[tactic(auto, unfolding(events::specs::Event::ticks_fit))]
 pub fn ticks_fit(most: u32, value: i32, repeat: u32) -> bool
     ensures { result ≡ ticks_fit most value repeat }
 {
-    sense_fits(value) & (1 <= repeat) & (repeat <= most)
+    sense_fits(value) && 1 <= repeat && repeat <= most
+}
+
+// Whether each number is at most one.
+fn all_within(of: &[u16], most: u16) -> bool
+    ensures { result ≡ within most of.now }
+{
+    of.iter().all(|x| *x <= most)
 }
 
 // Whether each count from a place on is at most a number.
+#[tactic(auto, using(std::proofs::lemmas::List::drop_min))]
 pub fn within_from(of: [u16; 15], from: usize, most: u16) -> bool
     ensures { result ≡ within most (drop from of) }
 {
-    let mut i = from;
-    while i < size::INPUTS {
-        if most < of[i] {
-            return false;
-        }
-        i += 1;
-    }
-    true
+    all_within(&of[from.min(size::INPUTS)..], most)
 }
 
 // Whether each of the first `many` counts is in range.
+#[tactic(auto, using(std::proofs::lemmas::List::take_min))]
 pub fn counts_in_range(of: [u16; 15], many: u8) -> bool
     ensures { result ≡ within count_most (take many of) }
 {
-    let mut i = 0;
-    while i < size::INPUTS {
-        if many as usize <= i {
-            return true;
-        }
-        if range::COUNT_MOST < of[i] {
-            return false;
-        }
-        i += 1;
-    }
-    true
+    all_within(
+        &of[..usize::from(many).min(size::INPUTS)],
+        range::COUNT_MOST,
+    )
 }
 
 // How many counts stand beside an event.
@@ -67,57 +63,43 @@ pub fn counts_wanted(setup: Setup, event: Event) -> u8
 }
 
 // Whether there are as many counts as wanted, and 0 after them.
+#[tactic(auto, unfolding(events::specs::Event::counts_fit))]
 pub fn counts_fit(wanted: u8, counts: Counts) -> bool
     ensures { result ≡ counts_fit wanted counts }
 {
-    let of = counts.of;
-    if counts.many != wanted {
-        return false;
-    }
-    within_from(of, wanted as usize, 0)
+    counts.many == wanted && within_from(counts.of, usize::from(wanted), 0)
 }
 
-// The number of a value, by whether it is in range.
-fn number_of(good: bool) -> u8
-    ensures { result ≡ cond good DONE BAD_VALUE }
+// A value, by whether it is in range.
+fn valued(good: bool) -> Result<(), Refusal>
+    ensures { result ≡ valued good }
 {
-    if good {
-        number::DONE
-    } else {
-        number::BAD_VALUE
-    }
+    good.then_some(()).ok_or(Refusal::BadValue)
 }
 
-// The number of an event whose counts fit: 2 for SETUP and a wiring record, 3 for a value out of range, or 0.
-fn value_refusal(setup: Setup, event: Event, of: [u16; 15]) -> u8
-    ensures { result ≡ refusal_of (event_of setup event of) }
+// An event whose counts fit: SETUP and a wiring record have no place there, and a value may be out of range.
+#[tactic(auto, unfolding(events::specs::Event::fits))]
+fn value_refusal(setup: Setup, event: Event, of: [u16; 15]) -> Result<(), Refusal>
+    ensures { result ≡ refused (event_of setup event of) }
 {
     match event {
-        Event::Scan => number_of(counts_in_range(of, setup.inputs())),
-        Event::Temp => number_of(counts_in_range(of, setup.groups())),
-        Event::Sense(v) => number_of(sense_fits(v)),
-        Event::Ticks(v, n) => number_of(ticks_fit(range::TICKS_MOST, v, n as u32)),
-        Event::Soak(v, n) => number_of(ticks_fit(range::SOAK_MOST, v, n)),
-        Event::Setup(_) | Event::Wires(_) => number::BAD_KIND,
-        Event::Por
-        | Event::Boot
-        | Event::Count(_)
-        | Event::Pin
-        | Event::Load(_)
-        | Event::Xready
-        | Event::OnBus(_)
-        | Event::Level(_) => number::DONE,
+        Event::Scan => valued(counts_in_range(of, setup.inputs())),
+        Event::Temp => valued(counts_in_range(of, setup.groups())),
+        Event::Sense(v) => valued(sense_fits(v)),
+        Event::Ticks(v, n) => valued(ticks_fit(range::TICKS_MOST, v, u32::from(n))),
+        Event::Soak(v, n) => valued(ticks_fit(range::SOAK_MOST, v, n)),
+        Event::Setup(_) | Event::Wires(_) => Err(Refusal::BadKind),
+        _ => Ok(()),
     }
 }
 
-// The number that an event is refused with where a part stands, or 0: 2 before 3.
-pub fn refusal(setup: Setup, event: Event, counts: Counts) -> u8
-    ensures { result ≡ refusal_of (meant_of setup event counts) }
+// Why an event is refused where a part stands: number 2 before 3.
+#[tactic(auto, unfolding(events::specs::Event::meant_of))]
+pub fn refusal(setup: Setup, event: Event, counts: Counts) -> Result<(), Refusal>
+    ensures { result ≡ refused (meant_of setup event counts) }
 {
-    let wanted = counts_wanted(setup, event);
-    if counts_fit(wanted, counts) {
-        let of = counts.of;
-        return value_refusal(setup, event, of);
+    if !counts_fit(counts_wanted(setup, event), counts) {
+        return Err(Refusal::BadKind);
     }
-    number::BAD_KIND
+    value_refusal(setup, event, counts.of)
 }

@@ -1,11 +1,8 @@
 -- Two bytes a turn: those that are put so far are the first i numbers'.
-use Rattle.std.proofs.Common.{length, take, ◌-◌, ◌≡◌, ◌≤◌}
+use Rattle.std.proofs.Common.{length, take, ◌≡◌}
 use lib.Seq.{sets}
 use Rattle.bits.specs.Numbers.{word_bytes}
 use Rattle.bits.proofs.bytes.put_words.Given as goal
 
 abbrev pub invariant-loop-i : goal.invariant-loop-i
-invariant-loop-i l = (l.i ≤ length l.of) × (length l.out ≡ length l.initial.out) × (l.out ≡ sets l.initial.out l.at (word_bytes (take l.i l.of)))
-
-abbrev pub decreases-loop-i : goal.decreases-loop-i
-decreases-loop-i l = length l.of - l.i
+invariant-loop-i l = (length l.out ≡ length l.initial.out) × (l.out ≡ sets l.initial.out l.at (word_bytes (take l.i l.of)))
