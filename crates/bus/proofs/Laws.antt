@@ -11,7 +11,8 @@ use Rattle.bus.specs.declared.Line.{Line}
 use Rattle.bus.specs.declared.Owed.{Owed}
 use Rattle.bus.specs.declared.Bus.{Bus}
 use Rattle.bus.specs.declared.Outed.{Outed}
-use Rattle.bus.specs.Bus.{Store, At, line_of, grown, started, goes, refuses, stores, addressed, fed, checked, out_in, outed, is_high, after_data}
+use Rattle.bus.specs.Bus.{Store, At}
+use Rattle.bus.specs.Bus.{line_of, grown, started, goes, refuses, stores, addressed, fed, checked, out_in, outed, is_high, after_data}
 use Rattle.bus.specs.Bus.{after_sum, taken, byte_given, keeps, owing, wanted_in, wanted, takes}
 
 -- ── the stores of bytes that the host sends one after the other ──

@@ -1,5 +1,5 @@
 -- CHIP G1 to G20: what an address reads. Assumes nothing.
-use Rattle.std.specs.Prelude.{not, ◌&&◌, cond, ℕ, ◌+◌, ◌-◌, ◌*◌, ◌/◌, ◌%◌, get_or, eqb, leb, ltb}
+use Rattle.std.specs.Prelude.{Bool, not, ◌&&◌, cond, ℕ, ◌+◌, ◌-◌, ◌*◌, ◌/◌, ◌%◌, get_or, eqb, leb, ltb}
 use Rattle.constants.specs.Address.{SYS_STAT, CELLBAL1, CELLBAL2, CELLBAL3, SYS_CTRL1, SYS_CTRL2, VC1, BAT, TS1, CC, AFTER_CC}
 use Rattle.constants.specs.Address.{ADCGAIN1, ADCOFFSET, ADCGAIN2}
 use Rattle.constants.specs.Weight.{CC_READY, XREADY, OVRD_ALERT, UV, OV, SCD, OCD, LOAD_PRESENT, ADC_EN, TEMP_SEL, SHUT_B}
@@ -7,8 +7,10 @@ use Rattle.constants.specs.Weight.{DELAY_DIS, CC_EN, CC_ONESHOT, DSG_ON, CHG_ON}
 use Rattle.events.specs.declared.Setup.{Setup}
 use Rattle.events.specs.Setup.{groups, inputs}
 use Rattle.bits.specs.Bit.{weighed}
+use Rattle.settings.specs.declared.Settings.{Settings}
 use Rattle.settings.specs.Read.{settings_byte}
 use Rattle.registers.specs.declared.Status.{Status}
+use Rattle.registers.specs.declared.Shown.{Shown}
 use Rattle.registers.specs.declared.Cellbal.{Cellbal}
 use Rattle.registers.specs.declared.Measured.{Measured}
 use Rattle.registers.specs.declared.Registers.{Registers}
@@ -31,16 +33,20 @@ cellbal_byte u b a =
     0))
 
 -- SYS_CTRL1 (CHIP G6, G7)
+abbrev pub ctrl1_of : Bool → Settings → ℕ
+ctrl1_of load s = weighed load LOAD_PRESENT + weighed s.adc_en ADC_EN + weighed s.temp_sel TEMP_SEL + weighed s.shut_b SHUT_B
+
 abbrev pub ctrl1_byte : Registers → ℕ
-ctrl1_byte r =
-    weighed (r.load_level && not r.shown.chg_on) LOAD_PRESENT + weighed r.settings.adc_en ADC_EN
-    + weighed r.settings.temp_sel TEMP_SEL + weighed r.settings.shut_b SHUT_B
+ctrl1_byte r = ctrl1_of (r.load_level && not r.shown.chg_on) r.settings
 
 -- SYS_CTRL2 (CHIP G8)
+abbrev pub ctrl2_of : Shown → Settings → ℕ
+ctrl2_of w s =
+    weighed s.delay_dis DELAY_DIS + weighed s.cc_en CC_EN + weighed w.cc_oneshot CC_ONESHOT + weighed w.dsg_on DSG_ON
+    + weighed w.chg_on CHG_ON
+
 abbrev pub ctrl2_byte : Registers → ℕ
-ctrl2_byte r =
-    weighed r.settings.delay_dis DELAY_DIS + weighed r.settings.cc_en CC_EN + weighed r.shown.cc_oneshot CC_ONESHOT
-    + weighed r.shown.dsg_on DSG_ON + weighed r.shown.chg_on CHG_ON
+ctrl2_byte r = ctrl2_of r.shown r.settings
 
 unfoldable pub control_byte : Setup → Registers → ℕ → ℕ
 control_byte u r a =

@@ -13,10 +13,10 @@ use constants::{address, weight};
 use events::{Faults, Setup};
 use settings::Settings;
 
-mod read;
+pub mod read;
 
 // SYS_STAT, named from bit 7 down.
-#[derive(Clone, Copy)]
+#[derive(Clone, Copy, Debug, Default, PartialEq, Eq)]
 pub struct Status {
     pub cc_ready: bool,
     pub xready: bool,
@@ -28,7 +28,7 @@ pub struct Status {
 }
 
 // What faults move too: SYS_STAT, CC_ONESHOT, DSG_ON and CHG_ON.
-#[derive(Clone, Copy)]
+#[derive(Clone, Copy, Debug, Default, PartialEq, Eq)]
 pub struct Shown {
     pub status: Status,
     pub cc_oneshot: bool,
@@ -36,14 +36,14 @@ pub struct Shown {
     pub chg_on: bool,
 }
 
-#[derive(Clone, Copy)]
+#[derive(Clone, Copy, Debug, Default, PartialEq, Eq)]
 pub struct Cellbal {
     pub cellbal1: u8,
     pub cellbal2: u8,
     pub cellbal3: u8,
 }
 
-#[derive(Clone, Copy)]
+#[derive(Clone, Copy, Debug, Default, PartialEq, Eq)]
 pub struct Measured {
     pub cells: [u16; 15],
     pub bat: u16,
@@ -51,7 +51,7 @@ pub struct Measured {
     pub cc: u16,
 }
 
-#[derive(Clone, Copy)]
+#[derive(Clone, Copy, Debug, PartialEq, Eq)]
 pub struct Registers {
     pub settings: Settings,
     pub shown: Shown,
@@ -63,7 +63,7 @@ pub struct Registers {
 }
 
 // The byte at an address, and the low byte of the word that stands there.
-#[derive(Clone, Copy)]
+#[derive(Clone, Copy, Debug, PartialEq, Eq)]
 pub struct Pair {
     pub here: u8,
     pub low: u8,
@@ -73,7 +73,7 @@ pub struct Pair {
 fn bit_left(up: bool, v: u8, weight: u8) -> bool
     ensures { result ≡ (up && not (bit v weight)) }
 {
-    up & !bits::bit(v, weight)
+    up && !bits::bit(v, weight)
 }
 
 impl Status {
@@ -81,23 +81,30 @@ impl Status {
     pub fn alert(self) -> bool
         ensures { result ≡ alert self }
     {
-        self.cc_ready | self.xready | self.ovrd_alert | self.uv | self.ov | self.scd | self.ocd
+        self.cc_ready
+            || self.xready
+            || self.ovrd_alert
+            || self.uv
+            || self.ov
+            || self.scd
+            || self.ocd
     }
 
     // What keeps DSG_ON, and CHG_ON, off.
     fn holds_dsg(self) -> bool
         ensures { result ≡ holds_dsg self }
     {
-        self.uv | self.ocd | self.scd | self.ovrd_alert | self.xready
+        self.uv || self.ocd || self.scd || self.ovrd_alert || self.xready
     }
 
     fn holds_chg(self) -> bool
         ensures { result ≡ holds_chg self }
     {
-        self.ov | self.ovrd_alert | self.xready
+        self.ov || self.ovrd_alert || self.xready
     }
 
-    fn less(self, v: u8) -> Self
+    // What a write of SYS_STAT leaves.
+    pub fn less(self, v: u8) -> Self
         ensures { result ≡ without (status_of v) self }
     {
         Status {
@@ -113,56 +120,55 @@ impl Status {
 }
 
 impl Shown {
-    fn cleared(mut self, v: u8) -> Self
+    fn cleared(self, v: u8) -> Self
         ensures { result ≡ with_status (without (status_of v) self.status) self }
     {
-        self.status = self.status.less(v);
-        self
+        Shown {
+            status: self.status.less(v),
+            ..self
+        }
     }
 
-    fn driven(mut self, v: u8) -> Self
+    fn driven(self, v: u8) -> Self
         ensures { result ≡ driven v self }
     {
-        let dsg_on = bits::bit(v, weight::DSG_ON) & !self.status.holds_dsg();
-        let chg_on = bits::bit(v, weight::CHG_ON) & !self.status.holds_chg();
-        let cc_oneshot = bits::bit(v, weight::CC_ONESHOT)
-            & !bits::bit(v, weight::CC_EN)
-            & !self.status.cc_ready;
-        self.dsg_on = dsg_on;
-        self.chg_on = chg_on;
-        self.cc_oneshot = cc_oneshot;
-        self
+        Shown {
+            status: self.status,
+            cc_oneshot: bits::bit(v, weight::CC_ONESHOT)
+                && !bits::bit(v, weight::CC_EN)
+                && !self.status.cc_ready,
+            dsg_on: bits::bit(v, weight::DSG_ON) && !self.status.holds_dsg(),
+            chg_on: bits::bit(v, weight::CHG_ON) && !self.status.holds_chg(),
+        }
     }
 
+    #[tactic(auto, unfolding(crate::specs::Write::shown_with))]
     pub fn write(self, a: u8, v: u8) -> Self
         ensures { result ≡ shown_with a v self }
     {
-        if a == address::SYS_STAT {
-            return self.cleared(v);
+        match a {
+            address::SYS_STAT => self.cleared(v),
+            address::SYS_CTRL2 => self.driven(v),
+            _ => self,
         }
-        if a == address::SYS_CTRL2 {
-            return self.driven(v);
-        }
-        self
     }
 
     // Each fault that rises puts off its drive.
-    pub fn raised(mut self, rise: Faults) -> Self
+    pub fn raised(self, rise: Faults) -> Self
         ensures { result ≡ raised (among rise) self }
     {
-        let uv = rise.uv | self.status.uv;
-        self.status.uv = uv;
-        let ov = rise.ov | self.status.ov;
-        self.status.ov = ov;
-        let scd = rise.scd | self.status.scd;
-        self.status.scd = scd;
-        let ocd = rise.ocd | self.status.ocd;
-        self.status.ocd = ocd;
-        let dsg_on = !(rise.uv | rise.scd | rise.ocd) & self.dsg_on;
-        self.dsg_on = dsg_on;
-        let chg_on = !rise.ov & self.chg_on;
-        self.chg_on = chg_on;
-        self
+        Shown {
+            status: Status {
+                uv: rise.uv || self.status.uv,
+                ov: rise.ov || self.status.ov,
+                scd: rise.scd || self.status.scd,
+                ocd: rise.ocd || self.status.ocd,
+                ..self.status
+            },
+            dsg_on: !(rise.uv || rise.scd || rise.ocd) && self.dsg_on,
+            chg_on: !rise.ov && self.chg_on,
+            ..self
+        }
     }
 
     fn overridden(mut self) -> Self
@@ -178,10 +184,7 @@ impl Shown {
     fn pressed(self, level: bool) -> Self
         ensures { result ≡ pulled_at level self }
     {
-        if !level {
-            return self;
-        }
-        if self.status.alert() {
+        if !level || self.status.alert() {
             return self;
         }
         self.overridden()
@@ -206,6 +209,7 @@ impl Shown {
 }
 
 impl Cellbal {
+    #[tactic(auto, unfolding(crate::specs::Write::cellbal_with))]
     pub fn write(mut self, setup: Setup, a: u8, v: u8) -> Self
         ensures { result ≡ cellbal_with setup a v self }
     {
@@ -227,39 +231,11 @@ impl Cellbal {
 pub fn reset() -> Registers
     ensures { result ≡ reset }
 {
-    let settings = settings::reset();
-    let status = Status {
-        cc_ready: false,
-        xready: false,
-        ovrd_alert: false,
-        uv: false,
-        ov: false,
-        scd: false,
-        ocd: false,
-    };
-    let shown = Shown {
-        status,
-        cc_oneshot: false,
-        dsg_on: false,
-        chg_on: false,
-    };
-    let cells = [0; 15];
-    let ts = [0; 3];
-    let measured = Measured {
-        cells,
-        bat: 0,
-        ts,
-        cc: 0,
-    };
     Registers {
-        settings,
-        shown,
-        cellbal: Cellbal {
-            cellbal1: 0,
-            cellbal2: 0,
-            cellbal3: 0,
-        },
-        measured,
+        settings: settings::reset(),
+        shown: Shown::default(),
+        cellbal: Cellbal::default(),
+        measured: Measured::default(),
         load_level: false,
         outside_level: false,
     }
@@ -288,10 +264,8 @@ impl Registers {
         ensures { result ≡ scan_kept cells sum self }
     {
         if self.settings.adc_en {
-            let mut m = self.measured;
-            m.cells = cells;
-            m.bat = (sum / 4 % 65536) as u16;
-            self.measured = m;
+            self.measured.cells = cells;
+            self.measured.bat = (sum / 4 % 65536) as u16;
         }
         self
     }
@@ -301,9 +275,7 @@ impl Registers {
         ensures { result ≡ temp_kept ts self }
     {
         if self.settings.adc_en {
-            let mut m = self.measured;
-            m.ts = ts;
-            self.measured = m;
+            self.measured.ts = ts;
         }
         self
     }
@@ -312,7 +284,7 @@ impl Registers {
     pub fn coulombs(mut self, cc: u16) -> Self
         ensures { result ≡ coulombs cc self }
     {
-        if self.settings.cc_en | self.shown.cc_oneshot {
+        if self.settings.cc_en || self.shown.cc_oneshot {
             self.measured.cc = cc;
             self.shown = self.shown.counting();
         }
@@ -332,9 +304,7 @@ impl Registers {
         ensures { result ≡ unready self }
     {
         self.shown = self.shown.readied();
-        self.cellbal.cellbal1 = 0;
-        self.cellbal.cellbal2 = 0;
-        self.cellbal.cellbal3 = 0;
+        self.cellbal = Cellbal::default();
         self
     }
 

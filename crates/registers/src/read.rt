@@ -1,10 +1,11 @@
 // What an address reads.
 ghost use Rattle.std.specs.Prelude.{◌≡◌, ◌≤◌, ◌<◌};
-ghost use Rattle.registers.specs.Read.{status_byte, cellbal_byte, ctrl1_byte, ctrl2_byte, control_byte, half, cell_at, ts_at, word_at, fixed_byte, read_at, pair_at};
+ghost use Rattle.registers.specs.Read.{status_byte, cellbal_byte, ctrl1_of, ctrl2_of, control_byte, half, cell_at, ts_at, word_at, fixed_byte, read_at, pair_at};
 
-use crate::{Cellbal, Measured, Pair, Registers, Status};
+use crate::{Cellbal, Measured, Pair, Registers, Shown, Status};
 use constants::{address, weight};
 use events::Setup;
+use settings::Settings;
 
 impl Status {
     pub fn byte(self) -> u8
@@ -21,7 +22,8 @@ impl Status {
 }
 
 impl Cellbal {
-    fn byte(self, setup: Setup, a: u8) -> u8
+    #[tactic(auto, unfolding(crate::specs::Read::cellbal_byte))]
+    pub fn byte(self, setup: Setup, a: u8) -> u8
         ensures { result ≡ cellbal_byte setup self a }
     {
         // The address of each is the number of its group.
@@ -38,23 +40,22 @@ impl Cellbal {
 }
 
 // The high byte of a word at an even address, the low byte at an odd one.
-fn half_of(a: u8, word: u16) -> u8
+#[tactic(auto, unfolding(crate::specs::Read::half))]
+pub fn half_of(a: u8, word: u16) -> u8
     ensures { result ≡ half a word }
 {
-    if a % 2 == 0 {
-        (word / 256) as u8
-    } else {
-        (word % 256) as u8
-    }
+    let [low, high] = word.to_le_bytes();
+    if a % 2 == 0 { high } else { low }
 }
 
 impl Measured {
     // The count of the input after `at` others.
+    #[tactic(auto, using(events::specs::FewLaws::few_inputs))]
     pub fn cell(self, setup: Setup, at: u8) -> u16
         ensures { result ≡ cell_at setup self at }
     {
         if at < setup.inputs() {
-            return self.cells[at as usize];
+            return self.cells[usize::from(at)];
         }
         0
     }
@@ -64,12 +65,13 @@ impl Measured {
         ensures { result ≡ ts_at setup self at }
     {
         if at < setup.groups() {
-            return self.ts[at as usize];
+            return self.ts[usize::from(at)];
         }
         0
     }
 
     // The word that stands at `a` and its neighbour.
+    #[tactic(auto, unfolding(crate::specs::Read::word_at))]
     fn word(self, setup: Setup, a: u8) -> u16
         requires { 12 ≤ a }
         ensures { result ≡ word_at setup self a }
@@ -87,7 +89,9 @@ impl Measured {
     }
 }
 
-fn fixed_byte(setup: Setup, a: u8) -> u8
+// What is from the setup.
+#[tactic(auto, unfolding(crate::specs::Read::fixed_byte))]
+pub fn fixed_byte(setup: Setup, a: u8) -> u8
     ensures { result ≡ fixed_byte setup a }
 {
     match a {
@@ -98,69 +102,70 @@ fn fixed_byte(setup: Setup, a: u8) -> u8
     }
 }
 
+// SYS_CTRL1; `load`: a load is seen.
+pub fn ctrl1(load: bool, s: Settings) -> u8
+    ensures { result ≡ ctrl1_of load s }
+{
+    bits::weigh(load, weight::LOAD_PRESENT)
+        + bits::weigh(s.adc_en, weight::ADC_EN)
+        + bits::weigh(s.temp_sel, weight::TEMP_SEL)
+        + bits::weigh(s.shut_b, weight::SHUT_B)
+}
+
+// SYS_CTRL2.
+pub fn ctrl2(shown: Shown, s: Settings) -> u8
+    ensures { result ≡ ctrl2_of shown s }
+{
+    bits::weigh(s.delay_dis, weight::DELAY_DIS)
+        + bits::weigh(s.cc_en, weight::CC_EN)
+        + bits::weigh(shown.cc_oneshot, weight::CC_ONESHOT)
+        + bits::weigh(shown.dsg_on, weight::DSG_ON)
+        + bits::weigh(shown.chg_on, weight::CHG_ON)
+}
+
 impl Registers {
-    fn ctrl1(self) -> u8
-        ensures { result ≡ ctrl1_byte self }
-    {
-        bits::weigh(self.load_level & !self.shown.chg_on, weight::LOAD_PRESENT)
-            + bits::weigh(self.settings.adc_en, weight::ADC_EN)
-            + bits::weigh(self.settings.temp_sel, weight::TEMP_SEL)
-            + bits::weigh(self.settings.shut_b, weight::SHUT_B)
-    }
-
-    fn ctrl2(self) -> u8
-        ensures { result ≡ ctrl2_byte self }
-    {
-        bits::weigh(self.settings.delay_dis, weight::DELAY_DIS)
-            + bits::weigh(self.settings.cc_en, weight::CC_EN)
-            + bits::weigh(self.shown.cc_oneshot, weight::CC_ONESHOT)
-            + bits::weigh(self.shown.dsg_on, weight::DSG_ON)
-            + bits::weigh(self.shown.chg_on, weight::CHG_ON)
-    }
-
+    #[tactic(auto, unfolding(crate::specs::Read::control_byte))]
     fn control_byte(self, setup: Setup, a: u8) -> u8
         ensures { result ≡ control_byte setup self a }
     {
-        if a == address::SYS_STAT {
-            return self.shown.status.byte();
+        match a {
+            address::SYS_STAT => self.shown.status.byte(),
+            address::SYS_CTRL1 => ctrl1(self.load_level && !self.shown.chg_on, self.settings),
+            address::SYS_CTRL2 => ctrl2(self.shown, self.settings),
+            _ if a < address::SYS_CTRL1 => self.cellbal.byte(setup, a),
+            _ => self.settings.byte(a),
         }
-        if a == address::SYS_CTRL1 {
-            return self.ctrl1();
-        }
-        if a == address::SYS_CTRL2 {
-            return self.ctrl2();
-        }
-        if a < address::SYS_CTRL1 {
-            return self.cellbal.byte(setup, a);
-        }
-        self.settings.byte(a)
     }
 
     // What IN is told of any address.
+    #[tactic(auto, unfolding(crate::specs::Read::read_at, crate::specs::Read::pair_at))]
     pub fn pair(self, setup: Setup, a: u8) -> Pair
         ensures { result ≡ pair_at setup self a }
     {
         if a < address::VC1 {
-            let here = self.control_byte(setup, a);
-            return Pair { here, low: 0 };
+            return Pair {
+                here: self.control_byte(setup, a),
+                low: 0,
+            };
         }
         if a < address::AFTER_CC {
             let word = self.measured.word(setup, a);
-            let here = half_of(a, word);
             return Pair {
-                here,
+                here: half_of(a, word),
                 low: (word % 256) as u8,
             };
         }
-        let here = fixed_byte(setup, a);
-        Pair { here, low: 0 }
+        Pair {
+            here: fixed_byte(setup, a),
+            low: 0,
+        }
     }
 
     // What the host reads at any address.
+    #[tactic(auto, unfolding(crate::specs::Read::pair_at))]
     pub fn read(self, setup: Setup, a: u8) -> u8
         ensures { result ≡ read_at setup self a }
     {
-        let pair = self.pair(setup, a);
-        pair.here
+        self.pair(setup, a).here
     }
 }

@@ -15,7 +15,7 @@ const UV_TRIP_RESET: u8 = 0x97;
 
 const CC_CFG_RESET: u8 = 0x17;
 
-#[derive(Clone, Copy)]
+#[derive(Clone, Copy, Debug, PartialEq, Eq)]
 pub struct Settings {
     // ADC_EN, TEMP_SEL and whether the pair (0,1) is held.
     pub adc_en: bool,
@@ -82,62 +82,59 @@ impl Settings {
     pub fn ships(self, a: u8, v: u8) -> bool
         ensures { result ≡ ships a v self }
     {
-        (a == address::SYS_CTRL1)
-            & self.shut_b
-            & bits::bit(v, weight::SHUT_A)
-            & !bits::bit(v, weight::SHUT_B)
+        a == address::SYS_CTRL1
+            && self.shut_b
+            && bits::bit(v, weight::SHUT_A)
+            && !bits::bit(v, weight::SHUT_B)
     }
 
     // A write of SYS_CTRL1.
-    fn control(mut self, v: u8) -> Self
+    fn control(self, v: u8) -> Self
         ensures { result ≡ control_with v self }
     {
-        let shut_b = !self.shut_b & !bits::bit(v, weight::SHUT_A) & bits::bit(v, weight::SHUT_B);
-        self.adc_en = bits::bit(v, weight::ADC_EN);
-        self.temp_sel = bits::bit(v, weight::TEMP_SEL);
-        self.shut_b = shut_b;
-        self
+        Settings {
+            adc_en: bits::bit(v, weight::ADC_EN),
+            temp_sel: bits::bit(v, weight::TEMP_SEL),
+            shut_b: !self.shut_b && !bits::bit(v, weight::SHUT_A) && bits::bit(v, weight::SHUT_B),
+            ..self
+        }
     }
 
-    pub fn write(mut self, a: u8, v: u8) -> Self
+    #[tactic(auto, unfolding(crate::specs::Write::settings_with))]
+    pub fn write(self, a: u8, v: u8) -> Self
         ensures { result ≡ settings_with a v self }
     {
         match a {
             address::SYS_CTRL1 => self.control(v),
-            address::SYS_CTRL2 => {
-                self.delay_dis = bits::bit(v, weight::DELAY_DIS);
-                self.cc_en = bits::bit(v, weight::CC_EN);
-                self
-            }
-            address::PROTECT1 => {
-                self.protect1 = protect1_of(v);
-                self
-            }
-            address::PROTECT2 => {
-                self.protect2 = protect2_of(v);
-                self
-            }
-            address::PROTECT3 => {
-                self.protect3 = protect3_of(v);
-                self
-            }
-            address::OV_TRIP => {
-                self.ov_trip = v;
-                self
-            }
-            address::UV_TRIP => {
-                self.uv_trip = v;
-                self
-            }
-            address::CC_CFG => {
-                self.cc_cfg = cc_cfg_of(v);
-                self
-            }
+            address::SYS_CTRL2 => Settings {
+                delay_dis: bits::bit(v, weight::DELAY_DIS),
+                cc_en: bits::bit(v, weight::CC_EN),
+                ..self
+            },
+            address::PROTECT1 => Settings {
+                protect1: protect1_of(v),
+                ..self
+            },
+            address::PROTECT2 => Settings {
+                protect2: protect2_of(v),
+                ..self
+            },
+            address::PROTECT3 => Settings {
+                protect3: protect3_of(v),
+                ..self
+            },
+            address::OV_TRIP => Settings { ov_trip: v, ..self },
+            address::UV_TRIP => Settings { uv_trip: v, ..self },
+            address::CC_CFG => Settings {
+                cc_cfg: cc_cfg_of(v),
+                ..self
+            },
             _ => self,
         }
     }
 
     // The byte of a register that is settings alone, 0x06 to 0x0B.
+    #[tactic(auto, unfolding(crate::specs::Read::settings_byte))]
     pub fn byte(self, a: u8) -> u8
         ensures { result ≡ settings_byte self a }
     {
