@@ -12,10 +12,13 @@ use Rattle.events.specs.declared.Event.{Event}
 use Rattle.records.specs.declared.Read.{Read}
 use Rattle.records.specs.declared.Read.TheVariants.{Record, Refused, Cut}
 use Rattle.records.specs.Record.{read_of, counts_in}
-use Rattle.wiring.specs.declared.Wiring.{Wiring}
+use Rattle.std.specs.Prelude.{Result}
+use Rattle.constants.specs.Refusal.{number_of}
+use Rattle.constants.specs.declared.refusal.Refusal.{Refusal}
+use Rattle.events.specs.declared.Setup.{Setup}
 use Rattle.wiring.specs.Rows.{wired_with}
 use Rattle.chip.specs.declared.Chip.{Chip}
-use Rattle.chip.specs.declared.Stepped.{Stepped}
+use Rattle.chip.specs.Answer.{Stepped}
 use Rattle.chip.specs.Chip.{numbered}
 use Rattle.turn.specs.Turn.{Turn, wired_as, wires, acted_as, acted, stays_fresh, turn, turned, turn_of}
 use Rattle.turn.specs.declared.Turned.{Turned}
@@ -30,8 +33,8 @@ acted_as_lem o c e k y q w h = h ∙ ap (λ (r : Role). acted_as o r e k c) (sym
 pub wires_closed : {s : Stepped} (n : ℕ) (c : Chip) {op : Bool} → op ≡ false → s ≡ numbered 2 c → s ≡ wires op n c
 wires_closed n c e h = h ∙ sym (ap (λ (o : Bool). wires o n c) e)
 
-pub wires_fresh : {s : Stepped} {w w' : Wiring} (n : ℕ) (c : Chip) {op : Bool} → op ≡ true → w ≡ wired_with c.setup n → w ≡ w' → s ≡ wired_as w' c → s ≡ wires op n c
-wires_fresh n c e h q p = p ∙ ap (λ (w : Wiring). wired_as w c) (sym q ∙ h) ∙ sym (ap (λ (o : Bool). wires o n c) e)
+pub wires_fresh : {s : Stepped} {w w' : Result Setup Refusal} (n : ℕ) (c : Chip) {op : Bool} → op ≡ true → w ≡ wired_with c.setup n → w ≡ w' → s ≡ wired_as w' c → s ≡ wires op n c
+wires_fresh n c e h q p = p ∙ ap (λ (w : Result Setup Refusal). wired_as w c) (sym q ∙ h) ∙ sym (ap (λ (o : Bool). wires o n c) e)
 
 -- what was read, x
 module _ (o : Bool) (c : Chip) (rest : List ℕ) (x : Read) (q : x ≡ read_of c.setup.part rest) where
@@ -43,8 +46,8 @@ module _ (o : Bool) (c : Chip) (rest : List ℕ) (x : Read) (q : x ≡ read_of c
   pub cut_short : {r : Turned} {s : Stepped} → x ≡ Cut → s ≡ numbered 9 c → as_turn r ≡ turn s o 0 true → as_turn r ≡ turn_of o c rest
   cut_short w h e = found Cut w (e ∙ ap (λ (s : Stepped). turn s o 0 true) h)
 
-  pub refused : {r : Turned} {s : Stepped} (k next : ℕ) → x ≡ Refused k next → s ≡ numbered k c → as_turn r ≡ turn s o next (eqb c.setup.part 0) → as_turn r ≡ turn_of o c rest
-  refused k next w h e = found (Refused k next) w (e ∙ ap (λ (s : Stepped). turn s o next (eqb c.setup.part 0)) h)
+  pub refused : {r : Turned} {s : Stepped} (why : Refusal) (next : ℕ) → x ≡ Refused why next → s ≡ numbered (number_of why) c → as_turn r ≡ turn s o next (eqb c.setup.part 0) → as_turn r ≡ turn_of o c rest
+  refused why next w h e = found (Refused why next) w (e ∙ ap (λ (s : Stepped). turn s o next (eqb c.setup.part 0)) h)
 
   pub done : {r : Turned} {s : Stepped} {n : Counts} (e : Event) (next : ℕ) → x ≡ Record e next → n ≡ counts_in e (take (next - 4) (drop 4 rest)) → s ≡ acted o e n c
       → as_turn r ≡ turn s (stays_fresh o c s) next false → as_turn r ≡ turn_of o c rest

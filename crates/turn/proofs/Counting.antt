@@ -1,27 +1,25 @@
 -- The loop that counts frames: what it has counted and what is left make the count. Assumes nothing.
 use mathlib.Core.Path.{◌≡◌, refl, ap, sym, ◌∙◌}
-use mathlib.Core.Bool.{Bool, cond}
+use mathlib.Core.Bool.{Bool, true, false, cond}
 use mathlib.Core.List.{List, [], ◌∷◌}
 use Prim.Native.Nat.{ℕ, zero, suc, ◌+◌, ◌-◌, ◌*◌, ◌<◌, ◌≤◌}
 use native.Mathlib.Omega.{arith}
 use native.Mathlib.Nat.{zero-add, not-suc-le-zero}
 use lib.Dec.{eqb}
-use lib.ListN.{length, take, drop, length-drop, drop_of_length-le}
-use lib.Seq.{drop-drop}
-use borrow.Author.Tests.{eq-eqb, ne_eqb}
+use lib.ListN.{length, drop, length-drop}
+use borrow.Author.Tests.{eqb-false, ne_eqb}
 use Rattle.records.specs.declared.Read.{Read}
 use Rattle.records.specs.declared.Read.TheVariants.{Record, Refused, Cut}
-use Rattle.records.specs.Frame.{frame_of}
+use Rattle.std.specs.Prelude.{Some, None}
+use Rattle.records.specs.Frame.{frame_of, size_of}
 use Rattle.records.specs.FramingLaws.{first_refused}
 use Rattle.records.specs.Record.{read_of, number_of}
 use Rattle.turn.specs.Frames.{frames, frames_after, frames_of}
 use Rattle.turn.specs.CountedLaws.{Framed, framed, frame_place}
-use Rattle.turn.proofs.Runs.{rest_is}
 
-pub record Counting (s : List ℕ) (at n : ℕ) : Type 0 where
-  pub whole : frames (length s) s ≡ n + frames (length s - n) (drop at s)
-  pub slow : 4 * n ≤ at
-  pub inside : at ≤ length s
+pub record Counting (s rest : List ℕ) (n : ℕ) : Type 0 where
+  pub whole : frames (length s) s ≡ n + frames (length s - n) rest
+  pub slow : 4 * n + length rest ≤ length s
 
 pub count_none : (s : List ℕ) → length s ≡ 0 → 0 ≡ frames_of s
 unfolding frames_of
@@ -65,43 +63,55 @@ frames_cons : (f : ℕ) (l : List ℕ) → 0 < length l → frames (suc f) l ≡
 frames_cons f [] h = absurd (not-suc-le-zero h)
 frames_cons f (b ∷ l) h = refl
 
-pub counting : (s : List ℕ) → Counting s 0 0
-counting s = let z : length s ≡ length s - 0 = omega arith in record { whole = ap (λ (k : ℕ). frames k s) z ∙ sym (zero-add (frames (length s - 0) s)); slow = omega arith; inside = omega arith }
+-- a size is no 0
+no_size : (n : ℕ) → size_of n ≡ None → eqb n 0 ≡ true
+no_size n e = by (eqb n 0) e
+  where
+    by : (t : Bool) → cond t None (Some n) ≡ None → t ≡ true
+    by true e = refl
+    by false e = cc
 
-module _ (s : List ℕ) (at n : ℕ) (g : Counting s at n) where
-  pub count_end : length s ≤ at → n ≡ frames (length s) s
+a_size : (n size : ℕ) → size_of n ≡ Some size → (eqb n 0 ≡ false) × (n ≡ size)
+a_size n size e = by (eqb n 0) e
+  where
+    by : (t : Bool) → cond t None (Some n) ≡ Some size → (t ≡ false) × (n ≡ size)
+    by true e = cc
+    by false e = (refl, cc)
+
+length-zero : (l : List ℕ) → length l ≡ 0 → l ≡ []
+length-zero [] h = refl
+length-zero (b ∷ l) h = absurd (omega (arith, h))
+
+pub counting : (s : List ℕ) → Counting s s 0
+counting s = let z : length s ≡ length s - 0 = omega arith in record { whole = ap (λ (k : ℕ). frames k s) z ∙ sym (zero-add (frames (length s - 0) s)); slow = omega arith }
+
+module _ (s rest : List ℕ) (n : ℕ) (g : Counting s rest n) where
+  pub count_end : length rest ≡ 0 → n ≡ frames (length s) s
   count_end h =
-      let e : drop at s ≡ [] = drop_of_length-le s h in
-      let z : frames (length s - n) (drop at s) ≡ 0 = ap (frames (length s - n)) e ∙ frames-nil (length s - n) in
+      let e : rest ≡ [] = length-zero rest h in
+      let z : frames (length s - n) rest ≡ 0 = ap (frames (length s - n)) e ∙ frames-nil (length s - n) in
       omega (arith, g.whole, z)
 
-  module _ (h : at < length s) (size : ℕ) (q : size ≡ frame_of (take (length s - at) (drop at s))) where
-    size_is : frame_of (drop at s) ≡ size
-    size_is = ap frame_of (sym (rest_is s at)) ∙ sym q
-
-    step : frames (length s) s ≡ n + suc (cond (eqb size 0) 0 (frames (length s - (n + 1)) (drop (at + size) s)))
+  module _ (h : 0 < length rest) where
+    step : frames (length s) s ≡ n + suc (cond (eqb (frame_of rest) 0) 0 (frames (length s - (n + 1)) (drop (frame_of rest) rest)))
     step =
-        let l : 4 * n ≤ at = g.slow in
-        let f : length s - n ≡ suc (length s - (n + 1)) = omega arith in
-        g.whole
-        ∙ ap (λ (m : ℕ). n + m)
-        (ap (λ (k : ℕ). frames k (drop at s)) f
-        ∙ frames_cons (length s - (n + 1)) (drop at s) (simp length-drop (omega arith))
-        ∙ ap (λ (k : ℕ). suc (cond (eqb k 0) 0 (frames (length s - (n + 1)) (drop k (drop at s))))) size_is
-        ∙ ap (λ (l : List ℕ). suc (cond (eqb size 0) 0 (frames (length s - (n + 1)) l))) (drop-drop size at s))
+        let f : length s - n ≡ suc (length s - (n + 1)) = omega (arith, g.slow) in
+        g.whole ∙ ap (λ (m : ℕ). n + m) (ap (λ (k : ℕ). frames k rest) f ∙ frames_cons (length s - (n + 1)) rest h)
 
-    pub count_cut : size ≡ 0 → n + 1 ≡ frames (length s) s
-    count_cut e = let t : frames (length s) s ≡ n + 1 = step ∙ simp (eq-eqb size 0 e) in omega (arith, t)
+    pub count_cut : size_of (frame_of rest) ≡ None → n + 1 ≡ frames (length s) s
+    count_cut e = let t : frames (length s) s ≡ n + 1 = step ∙ simp (no_size (frame_of rest) e) in omega (arith, t)
 
-    pub count_place : (size ≡ 0 → ⊥) → (4 ≤ size) × (at + size ≤ length s)
-    count_place e =
-        let p : (4 ≤ frame_of (drop at s)) × (frame_of (drop at s) ≤ length (drop at s)) = frame_place (drop at s) (λ z. e (sym size_is ∙ z)) in
-        let d : length (drop at s) ≡ length s - at = length-drop at s in
-        (omega (arith, size_is, p.0), omega (arith, size_is, p.1))
+    module _ (size : ℕ) (e : size_of (frame_of rest) ≡ Some size) where
+      pub count_place : (4 ≤ size) × (size ≤ length rest)
+      count_place =
+          let p : (4 ≤ frame_of rest) × (frame_of rest ≤ length rest) = frame_place rest (λ z. eqb-false (frame_of rest) 0 (a_size (frame_of rest) size e).0 z) in
+          (omega (arith, (a_size (frame_of rest) size e).1, p.0), omega (arith, (a_size (frame_of rest) size e).1, p.1))
 
-    pub count_more : (size ≡ 0 → ⊥) → Counting s (at + size) (n + 1)
-    count_more e =
-        let l : 4 * n ≤ at = g.slow in
-        let p : (4 ≤ size) × (at + size ≤ length s) = count_place e in
-        let t : frames (length s) s ≡ n + suc (frames (length s - (n + 1)) (drop (at + size) s)) = step ∙ simp (ne_eqb size 0 e) in
-        record { whole = omega (arith, t); slow = omega (arith, p.0); inside = p.1 }
+      pub count_more : Counting s (drop size rest) (n + 1)
+      count_more =
+          let q : frame_of rest ≡ size = (a_size (frame_of rest) size e).1 in
+          let t : frames (length s) s ≡ n + suc (frames (length s - (n + 1)) (drop size rest)) =
+          step ∙ ap (λ (t : Bool). n + suc (cond t 0 (frames (length s - (n + 1)) (drop (frame_of rest) rest)))) (a_size (frame_of rest) size e).0
+          ∙ ap (λ (k : ℕ). n + suc (frames (length s - (n + 1)) (drop k rest))) q in
+          let l : length (drop size rest) ≡ length rest - size = length-drop size rest in
+          record { whole = omega (arith, t); slow = omega (arith, g.slow, count_place.0, count_place.1, l) }

@@ -8,7 +8,8 @@ use Rattle.events.specs.declared.Setup.{Setup as SetupValues}
 use Rattle.events.specs.Setup.{with_cells}
 use Rattle.events.specs.Event.{meant_of}
 use Rattle.wiring.specs.Rows.{has_row, wired_with}
-use Rattle.wiring.specs.declared.Wiring.TheVariants.{With, NoRow}
+use Rattle.std.specs.Prelude.{Ok, Err}
+use Rattle.constants.specs.declared.refusal.Refusal.TheVariants.{NoRow}
 use Rattle.records.specs.declared.Read.{Read}
 use Rattle.records.specs.declared.Read.TheVariants.{Record, Refused, Cut}
 use Rattle.records.specs.Record.{read_of, counts_beside}
@@ -21,7 +22,8 @@ use Rattle.turn.specs.Turn.{wired_as, acted, turned, turn_of}
 use Rattle.turn.specs.Entries.{stands, chip_from}
 
 -- after a record
-wires_calm : (o t : Bool) (u : SetupValues) (c : Chip) → Calmed c → Calmed (cond o (wired_as (cond t (With u) NoRow) c) (numbered 2 c)).chip
+wires_calm : (o t : Bool) (u : SetupValues) (c : Chip) → Calmed c
+    → Calmed (cond o (wired_as (cond t (Ok u) (Err NoRow)) c) (numbered 2 c)).chip
 wires_calm true true u c k = ship_calm u
 wires_calm true false u c k = k
 wires_calm false t u c k = k

@@ -10,13 +10,12 @@ use Rattle.events.specs.declared.Event.{Event}
 use Rattle.events.specs.declared.Event.TheVariants.{Setup, Por, Boot, Scan, Temp, Count, Sense, Pin, Load, Xready, OnBus, Level, Ticks}
 use Rattle.events.specs.declared.Event.TheVariants.{Soak, Wires}
 use Rattle.events.specs.Setup.{with_cells}
-use Rattle.records.specs.declared.Payload.{Payload}
-use Rattle.records.specs.declared.Payload.TheVariants.{Whole, Unfit}
+use Rattle.std.specs.Prelude.{Ok, Err}
 use Rattle.records.specs.declared.Read.{Read}
 use Rattle.records.specs.declared.Read.TheVariants.{Record, Refused, Cut}
 use Rattle.bits.specs.Numbers.{le16}
 use Rattle.records.specs.Frame.{frame_of}
-use Rattle.records.specs.Record.{setup_good, payload_of, as_read, read_of, counts_beside}
+use Rattle.records.specs.Record.{Payload, setup_good, payload_of, as_read, read_of, counts_beside}
 use Rattle.records.specs.SoundLaws.{IsSetup, first_setup}
 use Rattle.chip.specs.declared.Chip.{Chip}
 use Rattle.chip.specs.Chip.{in_ship}
@@ -32,8 +31,8 @@ Framed r (Refused k next) = (frame_of r ≡ next) × (4 ≤ next) × (next ≤ l
 Framed r Cut = frame_of r ≡ 0
 
 framed_as : (r : List ℕ) (n : ℕ) (p : Payload) → frame_of r ≡ n → 4 ≤ n → n ≤ length r → Framed r (as_read n p)
-framed_as r n (Whole e) f a b = (f, a, b)
-framed_as r n (Unfit k) f a b = (f, a, b)
+framed_as r n (Ok e) f a b = (f, a, b)
+framed_as r n (Err why) f a b = (f, a, b)
 
 framed_by : (part : ℕ) (r : List ℕ) (t u : Bool) → ltb (length r) 4 ≡ t → ltb (length r - 4) (le16 r 0) ≡ u → Framed r (read_of part r)
 unfolding read_of frame_of

@@ -3,11 +3,12 @@
 use Rattle.std.specs.Prelude.{◌≡◌, refl, Bool, true, false, cond, List, [], ◌∷◌, ◌++◌, ℕ, ◌*◌, ◌/◌, eqb, length, take, drop}
 use Rattle.std.proofs.Common.{ap, subst, arith}
 use Rattle.std.proofs.Math.Seq.{take-append_seam, drop-append_seam}
+use Rattle.constants.specs.declared.refusal.Refusal.{Refusal}
 use Rattle.events.specs.declared.Counts.{Counts}
 use Rattle.events.specs.declared.Event.TheVariants.{Wires}
 use Rattle.records.specs.declared.Read.TheVariants.{Refused, Cut}
 use Rattle.chip.specs.declared.Chip.{Chip}
-use Rattle.chip.specs.declared.Stepped.{Stepped}
+use Rattle.chip.specs.Answer.{Stepped}
 use Rattle.turn.specs.declared.Entry.{Entry}
 use Rattle.turn.specs.Turn.{entry_of, acted, turned}
 use Rattle.turn.specs.Entries.{entry_bytes, bytes_of, entered}
@@ -24,8 +25,9 @@ pub late_wiring : (n : ℕ) (k : Counts) (c : Chip) → acted false (Wires n) k 
 unfolding acted
 late_wiring n k c = refl
 
-pub refused_first : (o : Bool) (c : Chip) (rest : List ℕ) (k next : ℕ) → c.setup.part ≡ 0 → (turned o c rest (Refused k next)).last ≡ true
-refused_first o c rest k next z = ap (λ (p : ℕ). eqb p 0) z
+pub refused_first : (o : Bool) (c : Chip) (rest : List ℕ) (why : Refusal) (next : ℕ) → c.setup.part ≡ 0
+    → (turned o c rest (Refused why next)).last ≡ true
+refused_first o c rest why next z = ap (λ (p : ℕ). eqb p 0) z
 
 -- a record that is cut short is 9 and the last, and leaves the chip
 pub cut_last : (o : Bool) (c : Chip) (rest : List ℕ)

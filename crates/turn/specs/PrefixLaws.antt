@@ -5,12 +5,11 @@ use Rattle.std.proofs.Common.{ap, sym, ◌∙◌, subst, append-nil, arith, zero
 use Rattle.std.proofs.Common.{ltb-false, le-ltb}
 use Rattle.std.proofs.Math.ListN.{get_or-append}
 use Rattle.std.proofs.lemmas.List.{take-append-le, drop-append-le}
-use Rattle.records.specs.declared.Payload.{Payload}
-use Rattle.records.specs.declared.Payload.TheVariants.{Whole, Unfit}
+use Rattle.std.specs.Prelude.{Ok, Err}
 use Rattle.records.specs.declared.Read.{Read}
 use Rattle.records.specs.declared.Read.TheVariants.{Record, Refused, Cut}
 use Rattle.bits.specs.Numbers.{le16}
-use Rattle.records.specs.Record.{payload_of, as_read, read_of, counts_in}
+use Rattle.records.specs.Record.{Payload, payload_of, as_read, read_of, counts_in}
 use Rattle.records.specs.ReadingLaws.{Placed, placed}
 use Rattle.chip.specs.declared.Chip.{Chip}
 use Rattle.turn.specs.declared.Entry.{Entry}
@@ -97,8 +96,8 @@ turn_inside o c p l = turned_inside o c p (read_of c.setup.part p) (placed c.set
 
 -- ── a record alone: cut out of its stream, and whatever follows it there, it makes the same turn ──
 whole_as : (n : ℕ) (p : Payload) → IsWhole (as_read n p)
-whole_as n (Whole e) = tt
-whole_as n (Unfit k) = tt
+whole_as n (Ok e) = tt
+whole_as n (Err why) = tt
 
 alone_whole : (part : ℕ) (p : List ℕ) → length p ≡ 4 + le16 p 0 → IsWhole (read_of part p)
 unfolding read_of
@@ -114,8 +113,8 @@ Ends r (Refused k next) = (next ≡ 4 + le16 r 0) × (next ≤ length r)
 Ends r Cut = Unit
 
 ends_as : (r : List ℕ) (p : Payload) → 4 + le16 r 0 ≤ length r → Ends r (as_read (4 + le16 r 0) p)
-ends_as r (Whole e) h = (refl, h)
-ends_as r (Unfit k) h = (refl, h)
+ends_as r (Ok e) h = (refl, h)
+ends_as r (Err why) h = (refl, h)
 
 ends : (part : ℕ) (r : List ℕ) → Ends r (read_of part r)
 unfolding read_of

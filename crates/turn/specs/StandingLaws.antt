@@ -1,31 +1,27 @@
 -- Whether a chip stands: a first record that is read with success makes one, whose setup stays, but for the cells, and its part 1 to 3;
 -- else the first record's number is not 0. Assumes nothing.
-use Rattle.std.specs.Prelude.{◌≡◌, refl, Bool, true, false, cond, ◌&&◌, ◌≢◌, List, [], ◌∷◌, ℕ, zero, suc, ◌+◌, ◌-◌, ◌≤◌, eqb, ltb, leb}
-use Rattle.std.specs.Prelude.{length, get_or, take, drop}
+use Rattle.std.specs.Prelude.{◌≡◌, refl, Bool, true, false, cond, ◌&&◌, ◌≢◌, List, [], ◌∷◌, ℕ, zero, suc, ◌-◌, ◌≤◌, eqb, leb}
+use Rattle.std.specs.Prelude.{length, drop}
 use Rattle.std.proofs.Common.{ap, sym, ◌∙◌, subst, true≢false, arith, leb-true}
 use Rattle.events.specs.declared.Setup.{Setup as SetupValues}
 use Rattle.events.specs.declared.Counts.{Counts}
-use Rattle.events.specs.declared.Checked.{Checked}
-use Rattle.events.specs.declared.Checked.TheVariants.{Good, Bad}
 use Rattle.events.specs.declared.Event.{Event}
 use Rattle.events.specs.declared.Event.TheVariants.{Setup, Por, Boot, Scan, Temp, Count, Sense, Pin, Load, Xready, OnBus, Level, Ticks}
 use Rattle.events.specs.declared.Event.TheVariants.{Soak, Wires}
-use Rattle.events.specs.Setup.{setup_fits, checked_of, with_cells}
+use Rattle.events.specs.Setup.{setup_fits, with_cells}
 use Rattle.wiring.specs.Rows.{has_row, wired_with}
-use Rattle.wiring.specs.declared.Wiring.TheVariants.{With, NoRow}
+use Rattle.std.specs.Prelude.{Ok, Err}
+use Rattle.constants.specs.declared.refusal.Refusal.TheVariants.{NoRow}
 use Rattle.events.specs.Event.{unfit, meant_of, in_range, counts_fit}
-use Rattle.records.specs.declared.Payload.{Payload}
-use Rattle.records.specs.declared.Payload.TheVariants.{Whole, Unfit}
+use Rattle.constants.proofs.RefusalLaws.{no_zero}
 use Rattle.records.specs.declared.Read.{Read}
 use Rattle.records.specs.declared.Read.TheVariants.{Record, Refused, Cut}
-use Rattle.bits.specs.Numbers.{le16, bit_of}
-use Rattle.records.specs.Kind.{SETUP}
-use Rattle.records.specs.Record.{setup_good, checked_in, setup_in, payload_of, as_read, read_of, number_of, counts_beside}
-use Rattle.records.specs.ReadingLaws.{cond_by}
+use Rattle.bits.specs.Numbers.{bit_of}
+use Rattle.records.specs.Record.{setup_good, read_of, number_of, counts_beside}
 use Rattle.bits.specs.BoolLaws.{and_left, and_right}
 use Rattle.records.specs.SoundLaws.{IsSetup, first_setup, Meaning, wires_by, later_means}
 use Rattle.chip.specs.declared.Chip.{Chip}
-use Rattle.chip.specs.declared.Stepped.{Stepped}
+use Rattle.chip.specs.Answer.{Stepped}
 use Rattle.chip.specs.Chip.{numbered, in_ship, stepped_by}
 use Rattle.chip.proofs.RepeatLaws.{setup_as}
 use Rattle.turn.specs.Turn.{Turn, none, entry_of, born_of, wired_as, acted, turned, turn_of}
@@ -67,7 +63,7 @@ setup_stays o e k c m = ap (λ (s : Stepped). s.chip.setup) (acted_is o e k c m)
 
 -- ── the setup of a chip that stands stays, but for the number of cells ──
 wired_keeps : (o t : Bool) (n : ℕ) (c : Chip)
-    → with_cells 0 (cond o (wired_as (cond t (With (with_cells n c.setup)) NoRow) c) (numbered 2 c)).chip.setup ≡ with_cells 0 c.setup
+    → with_cells 0 (cond o (wired_as (cond t (Ok (with_cells n c.setup)) (Err NoRow)) c) (numbered 2 c)).chip.setup ≡ with_cells 0 c.setup
 wired_keeps true true n c = refl
 wired_keeps true false n c = refl
 wired_keeps false t n c = refl
@@ -153,54 +149,14 @@ first_setup_stays s v next q =
     ap (λ (c : Chip). with_cells 0 c.setup) (first_stands s v next q)
     ∙ setup-stands (length s - 1) true (in_ship v) (drop next s) (λ z. omega (arith, g.0))
 
--- refused, its number is not 0
-abbrev Numbered : Payload → Type 0
-Numbered (Whole e) = Unit
-Numbered (Unfit k) = k ≢ 0
-
-numbered_checked : (x : Checked) → Numbered (checked_in x)
-numbered_checked (Good v) = tt
-numbered_checked Bad = λ z. omega (arith, z)
-
-two : ◌≢◌ {A = ℕ} 2 0
-two z = omega (arith, z)
-
-payload_numbered : (kind : ℕ) (b : List ℕ) → Numbered (payload_of kind 0 b)
-unfolding payload_of setup_in
-payload_numbered kind b =
-    cond_by Numbered (eqb kind SETUP) _ (Unfit 2)
-    (λ k. cond_by Numbered (eqb (length b) 7) _ (Unfit 2)
-    (λ l. numbered_checked (checked_of (get_or b 0 0) (get_or b 1 0) (get_or b 2 0) (get_or b 3 0) (get_or b 4 0) (le16 b 5))) two)
-    two
-
-abbrev SaidWhy : Read → Type 0
-SaidWhy (Record e next) = Unit
-SaidWhy (Refused k next) = k ≢ 0
-SaidWhy Cut = Unit
-
-why_as : (n : ℕ) (p : Payload) → Numbered p → SaidWhy (as_read n p)
-why_as n (Whole e) h = tt
-why_as n (Unfit k) h = h
-
-why : (r : List ℕ) → SaidWhy (read_of 0 r)
-unfolding read_of
-why r = by (ltb (length r) 4) (ltb (length r - 4) (le16 r 0))
-  where
-    by : (t u : Bool) → SaidWhy (cond t Cut (cond u Cut (as_read (4 + le16 r 0) (payload_of (le16 r 2) 0 (take (le16 r 0) (drop 4 r))))))
-    by true u = tt
-    by false true = tt
-    by false false =
-        why_as (4 + le16 r 0) (payload_of (le16 r 2) 0 (take (le16 r 0) (drop 4 r)))
-        (payload_numbered (le16 r 2) (take (le16 r 0) (drop 4 r)))
-
 -- ── number 0 of the first record is a SETUP, and a chip ──
 pub record Made (s : List ℕ) : Type 0 where
   pub setup : SetupValues
   pub next : ℕ
   pub first : read_of 0 s ≡ Record (Setup setup) next
 
-made_by : (s : List ℕ) (x : Read) → read_of 0 s ≡ x → SaidWhy x → number_of x ≡ 0 → Made s
-made_by s (Record e next) q w h = by e q (first_setup s e next q)
+made_by : (s : List ℕ) (x : Read) → read_of 0 s ≡ x → number_of x ≡ 0 → Made s
+made_by s (Record e next) q h = by e q (first_setup s e next q)
   where
     by : (e : Event) → read_of 0 s ≡ Record e next → IsSetup e → Made s
     by (Setup v) q g = record { setup = v; next = next; first = q }
@@ -218,11 +174,11 @@ made_by s (Record e next) q w h = by e q (first_setup s e next q)
     by (Ticks v n) q g = absurd g
     by (Soak v n) q g = absurd g
     by (Wires n) q g = absurd g
-made_by s (Refused k next) q w h = absurd (w h)
-made_by s Cut q w h = absurd (omega (arith, h))
+made_by s (Refused why next) q h = absurd (no_zero why h)
+made_by s Cut q h = absurd (omega (arith, h))
 
 pub made : (s : List ℕ) → number_of (read_of 0 s) ≡ 0 → Made s
-made s h = made_by s (read_of 0 s) refl (why s) h
+made s h = made_by s (read_of 0 s) refl h
 
 -- A CHIP STANDS where the first record's number is 0, and its part stays 1 to 3
 pub chip_stands : (s : List ℕ) → number_of (read_of 0 s) ≡ 0 → (1 ≤ (last_chip s).setup.part) × ((last_chip s).setup.part ≤ 3)

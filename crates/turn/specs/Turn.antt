@@ -1,5 +1,5 @@
 -- CHIP P1 to P5: what a record makes of a chip, and the five bytes that it gives. Assumes nothing.
-use Rattle.std.specs.Prelude.{ℕ, List, Bool, true, false, cond, not, ◌&&◌, ◌||◌, eqb}
+use Rattle.std.specs.Prelude.{ℕ, List, Bool, true, false, cond, not, ◌&&◌, ◌||◌, eqb, Result, Ok, Err}
 use Rattle.constants.specs.Number.{DONE, BAD_KIND, CUT}
 use Rattle.events.specs.declared.Setup.{Setup as SetupValues}
 use Rattle.events.specs.declared.Counts.{Counts}
@@ -12,12 +12,12 @@ use Rattle.records.specs.declared.Read.TheVariants.{Record, Refused, Cut}
 use Rattle.events.specs.Setup.{standing}
 use Rattle.records.specs.Record.{read_of, counts_beside}
 use Rattle.wiring.specs.Rows.{wired_with, wired_number}
-use Rattle.wiring.specs.declared.Wiring.{Wiring}
-use Rattle.wiring.specs.declared.Wiring.TheVariants.{With, NoRow}
+use Rattle.constants.specs.Refusal.{number_of}
+use Rattle.constants.specs.declared.refusal.Refusal.{Refusal}
 use Rattle.bits.specs.Bit.{weighed}
 use Rattle.registers.specs.Read.{status_byte}
 use Rattle.chip.specs.declared.Chip.{Chip}
-use Rattle.chip.specs.declared.Stepped.{Stepped}
+use Rattle.chip.specs.Answer.{Stepped}
 use Rattle.chip.specs.Chip.{numbered, in_ship, stepped_by}
 use Rattle.chip.specs.Outward.{pins_of}
 use Rattle.turn.specs.declared.Entry.{Entry}
@@ -42,9 +42,9 @@ abbrev pub born_of : SetupValues → Stepped
 born_of v = numbered DONE (in_ship v)
 
 -- a wiring record makes the chip anew, with its cells, where it is taken (CHIP W1)
-abbrev pub wired_as : Wiring → Chip → Stepped
-wired_as (With u) c = born_of u
-wired_as NoRow c = numbered (wired_number NoRow) c
+abbrev pub wired_as : Result SetupValues Refusal → Chip → Stepped
+wired_as (Ok u) c = born_of u
+wired_as (Err why) c = numbered (wired_number (Err why)) c
 
 abbrev pub wires : Bool → ℕ → Chip → Stepped
 wires fresh n c = cond fresh (wired_as (wired_with c.setup n) c) (numbered BAD_KIND c)
@@ -78,7 +78,7 @@ turn s fresh next last = record { chip = s.chip; fresh = fresh; entry = entry_of
 abbrev pub turned : Bool → Chip → List ℕ → Read → Turn
 turned o c rest (Record e next) =
     turn (acted o e (counts_beside rest (Record e next)) c) (stays_fresh o c (acted o e (counts_beside rest (Record e next)) c)) next false
-turned o c rest (Refused k next) = turn (numbered k c) o next (eqb c.setup.part 0)
+turned o c rest (Refused why next) = turn (numbered (number_of why) c) o next (eqb c.setup.part 0)
 turned o c rest Cut = turn (numbered CUT c) o 0 true
 
 unfoldable pub turn_of : Bool → Chip → List ℕ → Turn

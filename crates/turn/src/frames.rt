@@ -1,20 +1,19 @@
 // How many records a stream has, and how far one leads that is not done.
 ghost use Rattle.std.specs.Prelude.{◌≡◌, length};
-ghost use Rattle.records.specs.Record.{number_of};
 ghost use Rattle.turn.specs.Frames.{frames, frames_of, frames_from};
-ghost use Rattle.turn.specs.Passed.{passed};
+ghost use Rattle.turn.specs.Passed.{answer_of, passed};
 
-use constants::number;
+use constants::refusal::Refusal;
 use records::Read;
 
-// The number of what was read: 0 for a record.
-pub fn number_of(read: Read) -> u8
-    ensures { result ≡ number_of read }
+// What a record that is not done is answered: why.
+pub fn answer_of(read: Read) -> Result<Option<u8>, Refusal>
+    ensures { result ≡ answer_of read }
 {
     match read {
-        Read::Record { event: _, next: _ } => number::DONE,
-        Read::Refused { number, next: _ } => number,
-        Read::Cut => number::CUT,
+        Read::Record { .. } => Ok(None),
+        Read::Refused { why, .. } => Err(why),
+        Read::Cut => Err(Refusal::CutShort),
     }
 }
 
@@ -23,8 +22,8 @@ pub fn passed(read: Read, part: u8, left: usize) -> usize
     ensures { result ≡ passed part left read }
 {
     match read {
-        Read::Record { event: _, next } => next,
-        Read::Refused { number: _, next } => { if part == 0 { left } else { next } }
+        Read::Record { next, .. } => next,
+        Read::Refused { next, .. } => { if part == 0 { left } else { next } }
         Read::Cut => left,
     }
 }
@@ -33,15 +32,14 @@ pub fn passed(read: Read, part: u8, left: usize) -> usize
 fn frames_in(s: &[u8]) -> usize
     ensures { result ≡ frames (length s.now) s.now }
 {
-    let mut at = 0;
+    let mut rest = s;
     let mut n = 0;
-    while at < s.len() {
-        let size = records::frame(&s[at..]);
-        n = n + 1;
-        if size == 0 {
+    while !rest.is_empty() {
+        n += 1;
+        let Some(size) = records::frame(rest) else {
             return n;
-        }
-        at = at + size;
+        };
+        rest = &rest[size..];
     }
     n
 }
@@ -50,7 +48,7 @@ fn frames_in(s: &[u8]) -> usize
 pub fn count(s: &[u8]) -> usize
     ensures { result ≡ frames_of s.now }
 {
-    if s.len() == 0 {
+    if s.is_empty() {
         return 0;
     }
     if records::first_number(s) != 0 {

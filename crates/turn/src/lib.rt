@@ -1,22 +1,22 @@
 // A record on a chip, as one call: plain on purpose, where `stream` is quick; and how many records a stream has.
 #![tactic(auto)]
 
-ghost use Rattle.std.specs.Prelude.{◌≡◌};
-ghost use Rattle.chip.specs.Chip.{numbered};
+ghost use Rattle.std.specs.Prelude.{◌≡◌, ◌||◌, ◌&&◌, not, eqb};
+ghost use Rattle.chip.specs.Answer.{as_step, number_in};
 ghost use Rattle.turn.specs.Turn.{none, entry_of, born_of, wires, acted, turn, turn_of};
 ghost use Rattle.turn.specs.Entries.{noted};
 ghost use Rattle.turn.specs.TurnedLaws.{as_turn};
 
 use chip::{Chip, Stepped};
-use constants::{number, size};
+use constants::refusal::Refusal;
+use constants::size;
 use events::{Counts, Event, Role, Setup};
 use records::Read;
-use wiring::Wiring;
 
 pub mod frames;
 
 // What a record gives.
-#[derive(Clone, Copy)]
+#[derive(Clone, Copy, Debug, Default, PartialEq, Eq)]
 pub struct Entry {
     pub number: u8,
     pub flag: u8,
@@ -52,54 +52,39 @@ pub fn no_chip() -> Chip
 
 // A wiring record, which is taken straight after SETUP alone.
 pub fn rewired(chip: Chip, fresh: bool, cells: u8) -> Stepped
-    ensures { result ≡ wires fresh cells chip }
+    ensures { as_step result ≡ wires fresh cells chip }
 {
     if !fresh {
-        return numbered(number::BAD_KIND, chip);
+        return chip.refused(Refusal::BadKind);
     }
     match wiring::wire(chip.setup, cells) {
-        Wiring::With(setup) => born(setup),
-        Wiring::NoRow => numbered(number::NO_ROW, chip),
+        Ok(setup) => born(setup),
+        Err(why) => chip.refused(why),
     }
 }
 
 // The chip that SETUP, or a wiring record, makes.
 pub fn born(setup: Setup) -> Stepped
-    ensures { result ≡ born_of setup }
+    ensures { as_step result ≡ born_of setup }
 {
-    numbered(number::DONE, chip::in_ship(setup))
-}
-
-// An answer with no bus byte.
-pub fn numbered(number: u8, chip: Chip) -> Stepped
-    ensures { result ≡ numbered number chip }
-{
-    Stepped {
-        chip,
-        number,
-        flag: false,
-        byte: 0,
-    }
+    chip::in_ship(setup).done()
 }
 
 fn entry_of(s: Stepped) -> Entry
-    ensures { result ≡ entry_of s }
+    ensures { result ≡ entry_of (as_step s) }
 {
-    let flag = bits::weigh(s.flag, 1);
-    let stat = s.chip.status();
-    let pins = s.chip.pins();
     Entry {
-        number: s.number,
-        flag,
-        byte: s.byte,
-        stat,
-        pins,
+        number: chip::number(s.answer),
+        flag: u8::from(chip::flag(s.answer)),
+        byte: chip::byte(s.answer),
+        stat: s.chip.status(),
+        pins: s.chip.pins(),
     }
 }
 
 // A record that was read, done: SETUP makes the chip, a wiring record makes it anew, every other event happens to it.
 fn act(chip: Chip, fresh: bool, event: Event, counts: Counts) -> Stepped
-    ensures { result ≡ acted fresh event counts chip }
+    ensures { as_step result ≡ acted fresh event counts chip }
 {
     match events::role_of(event) {
         Role::Makes(setup) => born(setup),
@@ -108,16 +93,21 @@ fn act(chip: Chip, fresh: bool, event: Event, counts: Counts) -> Stepped
     }
 }
 
+// Whether a wiring record may follow what met this part: SETUP meets none, and what is refused changes nothing.
+pub fn stays_fresh(fresh: bool, part: u8, answer: Result<Option<u8>, Refusal>) -> bool
+    ensures { result ≡ (eqb part 0 || (fresh && not (eqb (number_in answer) 0))) }
+{
+    part == 0 || (fresh && answer.is_err())
+}
+
 // A record that was done or refused, with its entry.
 pub fn told(step: Stepped, fresh: bool, next: usize, last: bool) -> Turned
-    ensures { as_turn result ≡ turn step fresh next last }
+    ensures { as_turn result ≡ turn (as_step step) fresh next last }
 {
-    let chip = step.chip;
-    let entry = entry_of(step);
     Turned {
-        chip,
+        chip: step.chip,
         fresh,
-        entry,
+        entry: entry_of(step),
         next,
         last,
     }
@@ -128,15 +118,19 @@ pub fn turn(chip: Chip, fresh: bool, rest: &[u8]) -> Turned
     ensures { as_turn result ≡ turn_of fresh chip rest.now }
 {
     match records::read_rest(rest, chip.setup.part) {
-        Read::Cut => told(numbered(number::CUT, chip), fresh, 0, true),
-        Read::Refused { number, next } => {
-            told(numbered(number, chip), fresh, next, chip.setup.part == 0)
+        Read::Cut => told(chip.refused(Refusal::CutShort), fresh, 0, true),
+        Read::Refused { why, next } => {
+            told(chip.refused(why), fresh, next, chip.setup.part == 0)
         }
         Read::Record { event, next } => {
             let counts = records::counts_in(event, &rest[size::HEADER..next]);
             let step = act(chip, fresh, event, counts);
-            let stays = (chip.setup.part == 0) | (fresh & (step.number != number::DONE));
-            told(step, stays, next, false)
+            told(
+                step,
+                stays_fresh(fresh, chip.setup.part, step.answer),
+                next,
+                false,
+            )
         }
     }
 }
@@ -146,11 +140,10 @@ pub fn put(out: &mut [u8], n: usize, e: Entry)
     ensures { out.new ≡ noted out.old n e }
 {
     if n < out.len() / size::ENTRY {
-        let at = size::ENTRY * n;
-        out[at] = e.number;
-        out[at + 1] = e.flag;
-        out[at + 2] = e.byte;
-        out[at + 3] = e.stat;
-        out[at + 4] = e.pins;
+        bits::bytes::put_bytes(
+            out,
+            size::ENTRY * n,
+            &[e.number, e.flag, e.byte, e.stat, e.pins],
+        );
     }
 }

@@ -1,13 +1,25 @@
 -- How many records bytes have: the loop over frames, by the laws of Counting.
-use Rattle.std.proofs.Common.{arith}
-use Rattle.turn.proofs.Counting.{count_cut, count_place, count_more}
+use Rattle.std.proofs.Common.{subst, sym, arith, List, ℕ, ◌+◌, ◌∙◌, ◌<◌, length}
+use borrow.Author.Tests.{eqb-false}
+use Rattle.turn.proofs.Runs.{rest_is}
+use Rattle.turn.proofs.Counting.{Counting, count_place, count_more}
 use Rattle.turn.proofs.frames.frames_in.Goals as goal
 
-pub returns-then-size-eq0 : goal.returns-then-size-eq0
-returns-then-size-eq0 c = count_cut c.args.s.now c.loop-at.at c.loop-at.n c.loop-at.invariant c.loop-at-test.true c.frame-size.result c.frame-size.ensures c.if-size-eq0.true
+pub slice_bounds-rest-count : goal.slice_bounds-rest-count
+slice_bounds-rest-count c =
+    let z = eqb-false (length c.loop-rest.rest.now) 0 (sym c.is_empty.ensures ∙ c.loop-rest-test.true) in
+    let h : 0 < length c.loop-rest.rest.now = omega (arith, z) in
+    (count_place c.args.s.now c.loop-rest.rest.now c.loop-rest.n c.loop-rest.invariant h _ (sym c.frame.ensures ∙ c.in-Some.is)).1
 
-pub overflow_add-at : goal.overflow_add-at
-overflow_add-at c = omega (arith, c.well_formed, count_place c.args.s.now c.loop-at.at c.loop-at.n c.loop-at.invariant c.loop-at-test.true c.frame-size.result c.frame-size.ensures c.if-size-eq0.false)
+pub slice_bounds-rest-start : goal.slice_bounds-rest-start
+slice_bounds-rest-start c =
+    let z = eqb-false (length c.loop-rest.rest.now) 0 (sym c.is_empty.ensures ∙ c.loop-rest-test.true) in
+    let h : 0 < length c.loop-rest.rest.now = omega (arith, z) in
+    (count_place c.args.s.now c.loop-rest.rest.now c.loop-rest.n c.loop-rest.invariant h _ (sym c.frame.ensures ∙ c.in-Some.is)).1
 
-pub loop-at-preserved : goal.loop-at-preserved
-loop-at-preserved c = count_more c.args.s.now c.loop-at.at c.loop-at.n c.loop-at.invariant c.loop-at-test.true c.frame-size.result c.frame-size.ensures c.if-size-eq0.false
+pub loop-rest-preserved : goal.loop-rest-preserved
+loop-rest-preserved c =
+    let z = eqb-false (length c.loop-rest.rest.now) 0 (sym c.is_empty.ensures ∙ c.loop-rest-test.true) in
+    let h : 0 < length c.loop-rest.rest.now = omega (arith, z) in
+    subst (λ (r : List ℕ). Counting c.args.s.now r (c.loop-rest.n + 1)) (sym (rest_is c.loop-rest.rest.now c.in-Some.size))
+    (count_more c.args.s.now c.loop-rest.rest.now c.loop-rest.n c.loop-rest.invariant h _ (sym c.frame.ensures ∙ c.in-Some.is))
