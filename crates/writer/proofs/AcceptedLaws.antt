@@ -10,7 +10,7 @@ use Rattle.ranges.specs.CountedLaws.{fit_is}
 use Rattle.events.specs.Setup.{standing}
 use Rattle.events.specs.FewLaws.{few_groups, few_inputs}
 use Rattle.writer.specs.Write.{part_for, value_refusal, refusal_for, Puts}
-use Rattle.writer.specs.declared.Wrote.{Wrote}
+use Rattle.writer.specs.Write.{Wrote}
 
 pub wanted_few : (part : ℕ) (e : Event) → counts_wanted (standing part) e ≤ 15
 wanted_few part (CodedSetup v) = omega arith

@@ -20,7 +20,7 @@ use Rattle.events.specs.declared.Event.TheVariants.{Soak, Wires}
 use Rattle.wiring.specs.Rows.{has_row}
 use Rattle.records.specs.Kind.{SETUP, POR, BOOT, SCAN, TEMP, COUNT, SENSE, PIN, LOAD, XREADY, START, OUT, IN, STOP, LEVEL, TICKS, SOAK}
 use Rattle.records.specs.Kind.{WIRES}
-use Rattle.records.specs.Record.{setup_good, checked_in, setup_in, counted_in, sense_of, repeat_of, ticks_of, soak_of, groups_at, inputs_at}
+use Rattle.records.specs.Record.{setup_good, checked_in, setup_in, sense_of, repeat_of, ticks_of, soak_of, groups_at, inputs_at}
 use Rattle.events.specs.Setup.{standing}
 use Rattle.records.specs.Record.{later_of, payload_of, read_of, counts_of, counts_in, counts_beside}
 use Rattle.records.specs.CountedLaws.{many_is, counts_taken}
@@ -28,8 +28,9 @@ use Rattle.events.specs.FewLaws.{few_groups, few_inputs}
 use Rattle.records.specs.ReadingLaws.{WholeAt, read_whole, later_by, cond_by}
 use Rattle.bits.specs.BoolLaws.{and_left}
 use Rattle.records.specs.SoundLaws.{bit_back, crc_back, IsSetup, first_setup, Meaning, is_wires, later_means}
-use Rattle.records.specs.declared.Payload.{Payload}
-use Rattle.records.specs.declared.Payload.TheVariants.{Whole, Unfit}
+use Rattle.records.specs.Record.{Payload}
+use Rattle.std.specs.Prelude.{Ok, Err}
+use Rattle.constants.specs.declared.refusal.Refusal.TheVariants.{BadKind, BadValue}
 use Rattle.records.specs.declared.Read.TheVariants.{Record}
 use Rattle.writer.specs.Write.{record_of, kind_for, payload_for, count_bytes, record_for, part_for, value_refusal}
 use Rattle.writer.specs.Write.{refusal_for}
@@ -41,8 +42,8 @@ use Rattle.writer.proofs.AcceptedLaws.{Accepted, not_refused}
 
 -- ── a payload's kind and bytes are those of its event ──
 abbrev Same : List ℕ → ℕ → Payload → Type 0
-Same b kind (Whole e) = (kind ≡ kind_for e) × (payload_for e (counts_in e b) ≡ b)
-Same b kind (Unfit k) = Unit
+Same b kind (Ok e) = (kind ≡ kind_for e) × (payload_for e (counts_in e b) ≡ b)
+Same b kind (Err k) = Unit
 
 module _ (b : List ℕ) (h : Bytes b) where
   counts_forth : (n : ℕ) → n ≤ 15 → length b ≡ 2 * n → count_bytes (counts_of b) ≡ b
@@ -54,32 +55,32 @@ module _ (b : List ℕ) (h : Bytes b) where
   switch_forth l f = ap (λ (x : ℕ). x ∷ []) (bit_back (get_or b 0 0) f) ∙ one_forth b l
 
   later_same : (part kind : ℕ) → Same b kind (later_of kind part b)
-  unfolding counted_in sense_of repeat_of counts_in
+  unfolding counts_in
   later_same part kind =
       later_by (Same b) part b
-      (sized POR 0 (Whole Por) (λ l. (refl, none_forth b l)))
-      (sized BOOT 0 (Whole Boot) (λ l. (refl, none_forth b l)))
-      (sized SCAN (2 * inputs_at part) (cond counts (Whole Scan) (Unfit 3))
-      (λ l. ranged SCAN counts (Whole Scan) (λ f. (refl, counts_forth (inputs_at part) (few_inputs (standing part)) l))))
-      (sized TEMP (2 * groups_at part) (cond counts (Whole Temp) (Unfit 3))
-      (λ l. ranged TEMP counts (Whole Temp) (λ f. (refl, counts_forth (groups_at part) (omega (arith, few_groups (standing part))) l))))
-      (sized COUNT 2 (Whole (Count (le16 b 0))) (λ l. (refl, two_forth b l h)))
-      (sized SENSE 4 (sense_of (le32 b 0)) (λ l. ranged SENSE (sense_fits value) (Whole (Sense value)) (λ f. (refl, four_forth b l h))))
-      (sized PIN 0 (Whole Pin) (λ l. (refl, none_forth b l)))
-      (sized LOAD 1 (cond bit (Whole (Load level)) (Unfit 3)) (λ l. ranged LOAD bit (Whole (Load level)) (λ f. (refl, switch_forth l f))))
-      (sized XREADY 0 (Whole Xready) (λ l. (refl, none_forth b l)))
-      (sized START 0 (Whole (OnBus Start)) (λ l. (refl, none_forth b l)))
-      (sized OUT 1 (Whole (OnBus (Out (get_or b 0 0)))) (λ l. (refl, one_forth b l)))
-      (sized IN 1 (cond bit (Whole (OnBus (In level))) (Unfit 3))
-      (λ l. ranged IN bit (Whole (OnBus (In level))) (λ f. (refl, switch_forth l f))))
-      (sized STOP 0 (Whole (OnBus Stop)) (λ l. (refl, none_forth b l)))
-      (sized LEVEL 1 (cond bit (Whole (Level level)) (Unfit 3))
-      (λ l. ranged LEVEL bit (Whole (Level level)) (λ f. (refl, switch_forth l f))))
+      (sized POR 0 (Ok Por) (λ l. (refl, none_forth b l)))
+      (sized BOOT 0 (Ok Boot) (λ l. (refl, none_forth b l)))
+      (sized SCAN (2 * inputs_at part) (cond counts (Ok Scan) (Err BadValue))
+      (λ l. ranged SCAN counts (Ok Scan) (λ f. (refl, counts_forth (inputs_at part) (few_inputs (standing part)) l))))
+      (sized TEMP (2 * groups_at part) (cond counts (Ok Temp) (Err BadValue))
+      (λ l. ranged TEMP counts (Ok Temp) (λ f. (refl, counts_forth (groups_at part) (omega (arith, few_groups (standing part))) l))))
+      (sized COUNT 2 (Ok (Count (le16 b 0))) (λ l. (refl, two_forth b l h)))
+      (sized SENSE 4 (sense_of (le32 b 0)) (λ l. ranged SENSE (sense_fits value) (Ok (Sense value)) (λ f. (refl, four_forth b l h))))
+      (sized PIN 0 (Ok Pin) (λ l. (refl, none_forth b l)))
+      (sized LOAD 1 (cond bit (Ok (Load level)) (Err BadValue)) (λ l. ranged LOAD bit (Ok (Load level)) (λ f. (refl, switch_forth l f))))
+      (sized XREADY 0 (Ok Xready) (λ l. (refl, none_forth b l)))
+      (sized START 0 (Ok (OnBus Start)) (λ l. (refl, none_forth b l)))
+      (sized OUT 1 (Ok (OnBus (Out (get_or b 0 0)))) (λ l. (refl, one_forth b l)))
+      (sized IN 1 (cond bit (Ok (OnBus (In level))) (Err BadValue))
+      (λ l. ranged IN bit (Ok (OnBus (In level))) (λ f. (refl, switch_forth l f))))
+      (sized STOP 0 (Ok (OnBus Stop)) (λ l. (refl, none_forth b l)))
+      (sized LEVEL 1 (cond bit (Ok (Level level)) (Err BadValue))
+      (λ l. ranged LEVEL bit (Ok (Level level)) (λ f. (refl, switch_forth l f))))
       (sized TICKS 6 (repeat_of ticks_of ticks_most (le32 b 0) (le16 b 4))
-      (λ l. ranged TICKS (ticks_fit ticks_most value (le16 b 4)) (Whole (Ticks value (le16 b 4))) (λ f. (refl, six_forth b l h))))
+      (λ l. ranged TICKS (ticks_fit ticks_most value (le16 b 4)) (Ok (Ticks value (le16 b 4))) (λ f. (refl, six_forth b l h))))
       (sized SOAK 8 (repeat_of soak_of soak_most (le32 b 0) (le32 b 4))
-      (λ l. ranged SOAK (ticks_fit soak_most value (le32 b 4)) (Whole (Soak value (le32 b 4))) (λ f. (refl, eight_forth b l h))))
-      (sized WIRES 1 (Whole (Wires (get_or b 0 0))) (λ l. (refl, one_forth b l)))
+      (λ l. ranged SOAK (ticks_fit soak_most value (le32 b 4)) (Ok (Soak value (le32 b 4))) (λ f. (refl, eight_forth b l h))))
+      (sized WIRES 1 (Ok (Wires (get_or b 0 0))) (λ l. (refl, one_forth b l)))
       (λ (k : ℕ). tt)
       kind
     where
@@ -95,11 +96,11 @@ module _ (b : List ℕ) (h : Bytes b) where
       value : ℤ
       value = signed32 (le32 b 0)
 
-      sized : (kind n : ℕ) (x : Payload) → (length b ≡ n → Same b kind x) → Same b kind (cond (eqb (length b) n) x (Unfit 2))
-      sized kind n x f = cond_by (Same b kind) (eqb (length b) n) x (Unfit 2) (λ l. f (eqb-true _ _ l)) tt
+      sized : (kind n : ℕ) (x : Payload) → (length b ≡ n → Same b kind x) → Same b kind (cond (eqb (length b) n) x (Err BadKind))
+      sized kind n x f = cond_by (Same b kind) (eqb (length b) n) x (Err BadKind) (λ l. f (eqb-true _ _ l)) tt
 
-      ranged : (kind : ℕ) (t : Bool) (x : Payload) → (t ≡ true → Same b kind x) → Same b kind (cond t x (Unfit 3))
-      ranged kind t x f = cond_by (Same b kind) t x (Unfit 3) f tt
+      ranged : (kind : ℕ) (t : Bool) (x : Payload) → (t ≡ true → Same b kind x) → Same b kind (cond t x (Err BadValue))
+      ranged kind t x f = cond_by (Same b kind) t x (Err BadValue) f tt
 
   first_same : (p c a g o f : ℕ) (t : Bool) → setup_fits p c a g f ≡ t → p ∷ c ∷ a ∷ g ∷ o ∷ bytes16 f ≡ b
       → Same b SETUP (checked_in (checked_of p c a g o f))
@@ -134,14 +135,13 @@ seven_forth (x ∷ b) l h = ap (λ (l : List ℕ). x ∷ l) (six b (omega arith)
     six (x ∷ b) l h = ap (λ (l : List ℕ). x ∷ l) (five b (omega arith) (byte_rest x b h))
 
 setup_same : (b : List ℕ) → Bytes b → Same b SETUP (setup_in b)
-unfolding setup_in
 setup_same b h =
-    cond_by (Same b SETUP) (eqb (length b) 7) _ (Unfit 2)
+    cond_by (Same b SETUP) (eqb (length b) 7) _ (Err BadKind)
     (λ l. first_same b h (get_or b 0 0) (get_or b 1 0) (get_or b 2 0) (get_or b 3 0) (get_or b 4 0) (le16 b 5) _ refl
     (seven_forth b (eqb-true _ _ l) h))
     tt
 
-first_of : (kind : ℕ) (b : List ℕ) (t : Bool) → eqb kind SETUP ≡ t → Bytes b → Same b kind (cond t (setup_in b) (Unfit 2))
+first_of : (kind : ℕ) (b : List ℕ) (t : Bool) → eqb kind SETUP ≡ t → Bytes b → Same b kind (cond t (setup_in b) (Err BadKind))
 first_of kind b true e h = subst (λ (k : ℕ). Same b k (setup_in b)) (sym (eqb-true kind SETUP e)) (setup_same b h)
 first_of kind b false e h = tt
 

@@ -12,24 +12,23 @@ use Rattle.bits.specs.Numbers.{within, bit_of, bits32, word_bytes}
 use Rattle.events.specs.Event.{count_most, ticks_most, soak_most, counts_fit}
 use Rattle.events.specs.declared.Setup.{Setup as SetupValues}
 use Rattle.events.specs.declared.Counts.{Counts}
-use Rattle.events.specs.declared.Checked.TheVariants.{Good}
 use Rattle.events.specs.declared.BusEvent.TheVariants.{Start, Out, In, Stop}
 use Rattle.events.specs.declared.Event.{Event}
 use Rattle.events.specs.declared.Event.TheVariants.{Setup, Por, Boot, Scan, Temp, Count, Sense, Pin, Load, Xready, OnBus, Level, Ticks}
 use Rattle.events.specs.declared.Event.TheVariants.{Soak, Wires}
 use Rattle.cell_counts.specs.Scan.{padded}
-use Rattle.records.specs.Record.{setup_good, checked_in, setup_in, counted_in, ticks_of, soak_of, groups_at, inputs_at, later_of}
+use Rattle.records.specs.Record.{setup_good, checked_in, counted_in, ticks_of, soak_of, groups_at, inputs_at, later_of}
 use Rattle.records.specs.Record.{payload_of}
 use Rattle.records.specs.Record.{as_read, read_of, no_counts, counts_of, counts_in, counts_beside, taken_from, taken_at}
 use Rattle.records.specs.CountedLaws.{many_is}
 use Rattle.records.specs.ReadingLaws.{taken_moved}
 use Rattle.bits.specs.BoolLaws.{and_left, and_right}
-use Rattle.records.specs.declared.Payload.TheVariants.{Whole}
+use Rattle.std.specs.Prelude.{Ok}
 use Rattle.records.specs.declared.Read.TheVariants.{Record}
 use Rattle.records.specs.declared.Taken.{Taken}
 use Rattle.writer.specs.Write.{record_of, kind_for, payload_for, count_bytes, record_for, value_refusal, refusal_for}
-use Rattle.writer.specs.Write.{written_of, Puts}
-use Rattle.writer.specs.declared.Wrote.TheVariants.{Done, Refused}
+use Rattle.writer.specs.Write.{Wrote, written_of, Puts}
+use Rattle.constants.specs.Answer.{gives, refuses}
 use Rattle.bits.specs.BytesLaws.{back16, back32, words_length, words_back, bit_same}
 use Rattle.writer.specs.BytesLaws.{sense_back, ticks_back}
 use Rattle.ranges.specs.CountedLaws.{fit_is}
@@ -85,11 +84,11 @@ setup_same v z =
         }
 
 checked_good : (v : SetupValues) → setup_good v ≡ true
-    → checked_of v.part (bit_of v.crc) v.address v.gain_code v.offset v.floor ≡ Good v
+    → checked_of v.part (bit_of v.crc) v.address v.gain_code v.offset v.floor ≡ Ok v
 unfolding checked_of
 checked_good v h =
     let f : setup_fits v.part (bit_of v.crc) v.address v.gain_code v.floor ≡ true = and_left _ (eqb v.cells 0) h in
-    simp f (ap Good
+    simp f (ap Ok
     (setup_same v
     (eqb-true v.cells 0 (and_right (setup_fits v.part (bit_of v.crc) v.address v.gain_code v.floor) _ h))))
 
@@ -107,13 +106,12 @@ module _ (k : Counts) (n : ℕ) (f : counts_fit n k ≡ true) (few : n ≤ 15) (
       let m : k.many ≡ n = (fit_is n k f).0 in
       words_length (take k.many k.of) ∙ ap (λ (i : ℕ). 2 * i) (length-take-le k.many k.of (omega arith) ∙ m)
 
-  counted_back : (e : Event) → within count_most (take k.many k.of) ≡ true → counted_in e n (count_bytes k) ≡ Whole e
-  unfolding counted_in
+  counted_back : (e : Event) → within count_most (take k.many k.of) ≡ true → counted_in e n (count_bytes k) ≡ Ok e
   counted_back e w = simp (eq-eqb (length (count_bytes k)) (2 * n) counts_size, words_back (take k.many k.of), w)
 
 payload_back : (e : Event) (k : Counts) (part : ℕ) → Accepted e k part → length k.of ≡ 15
-    → payload_of (kind_for e) (stands_for e part) (payload_for e k) ≡ Whole e
-unfolding payload_of later_of setup_in value_refusal
+    → payload_of (kind_for e) (stands_for e part) (payload_for e k) ≡ Ok e
+unfolding payload_of later_of value_refusal
 payload_back (Setup v) k part a l =
     ap checked_in
     (ap (checked_of v.part (bit_of v.crc) v.address v.gain_code v.offset) (back16 v.floor)
@@ -271,20 +269,20 @@ module _ (e : Event) (k : Counts) (part : ℕ) (ok : refusal_for e k part ≡ 0)
 -- said of the call: a buffer that was written begins with the record, and reading it gives the event, its counts and how many bytes were
 -- written
 wrote_by : (number : ℕ) (bytes old new : List ℕ) (n : ℕ) (t u : Bool) → eqb number 0 ≡ t → leb (length bytes) (length old) ≡ u
-    → Puts number bytes old (Done n) new
+    → Puts number bytes old (gives n) new
     → (number ≡ 0) × (n ≡ length bytes) × (new ≡ written_of bytes old)
 wrote_by number bytes old new n true true et eu w =
     (eqb-true _ _ et, done_is (simp (et, eu) at w.answer), simp (et, eu) at w.contents)
   where
-    done_is : {m : ℕ} → Done n ≡ Done m → n ≡ m
+    done_is : {m : ℕ} → gives n ≡ gives m → n ≡ m
     done_is q = cc
-wrote_by number bytes old new n true false et eu w = let q : Done n ≡ Refused 5 =
+wrote_by number bytes old new n true false et eu w = let q : ◌≡◌ {A = Wrote} (gives n) (refuses 5) =
     simp (et, eu) at w.answer in absurd (let z : ◌≡◌ {A = ℕ} 0 1 = cc in omega arith)
-wrote_by number bytes old new n false u et eu w = let q : Done n ≡ Refused number =
+wrote_by number bytes old new n false u et eu w = let q : gives n ≡ refuses number =
     simp et at w.answer in absurd (let z : ◌≡◌ {A = ℕ} 0 1 = cc in omega arith)
 
 pub wrote_reads : (e : Event) (k : Counts) (part : ℕ) (old new : List ℕ) (n : ℕ) → length k.of ≡ 15
-    → Puts (refusal_for e k part) (record_for e k) old (Done n) new
+    → Puts (refusal_for e k part) (record_for e k) old (gives n) new
     → taken_at (stands_for e part) new 0 ≡ record { read = Record e n; counts = k }
 wrote_reads e k part old new n fifteen w =
     let g : (refusal_for e k part ≡ 0) × (n ≡ length (record_for e k)) × (new ≡ written_of (record_for e k) old) =

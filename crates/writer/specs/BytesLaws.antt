@@ -11,7 +11,8 @@ use Rattle.events.specs.declared.Event.TheVariants.{Sense}
 use Rattle.records.specs.Record.{sense_of, repeat_of}
 use Rattle.records.specs.RangesLaws.{fits_pos, fits_neg, as_pos, as_neg}
 use Rattle.bits.specs.BoolLaws.{and_left}
-use Rattle.records.specs.declared.Payload.TheVariants.{Whole, Unfit}
+use Rattle.std.specs.Prelude.{Ok, Err}
+use Rattle.constants.specs.declared.refusal.Refusal.TheVariants.{BadValue}
 
 -- ── written, then read ──
 sense_most_lem : (n : ℕ) → not (ltb sense_most n) ≡ true → n ≤ 500000
@@ -25,21 +26,19 @@ value_back (negsuc n) h =
     let e : 4294967295 - (4294967295 - n) ≡ n = omega arith in
     as_neg (4294967295 - n) (omega arith) ∙ ap negsuc e
 
-pub sense_back : (z : ℤ) → sense_fits z ≡ true → sense_of (bits32 z) ≡ Whole (Sense z)
-unfolding sense_of
+pub sense_back : (z : ℤ) → sense_fits z ≡ true → sense_of (bits32 z) ≡ Ok (Sense z)
 sense_back z h =
-    ap (λ (z : ℤ). cond (sense_fits z) (Whole (Sense z)) (Unfit 3)) (value_back z h)
-    ∙ ap (λ (t : Bool). cond t (Whole (Sense z)) (Unfit 3)) h
+    ap (λ (z : ℤ). cond (sense_fits z) (Ok (Sense z)) (Err BadValue)) (value_back z h)
+    ∙ ap (λ (t : Bool). cond t (Ok (Sense z)) (Err BadValue)) h
 
 fit_value : (most : ℕ) (z : ℤ) (n : ℕ) → ticks_fit most z n ≡ true → sense_fits z ≡ true
 unfolding ticks_fit
 fit_value most z n h = and_left (sense_fits z) (leb 1 n) (and_left (sense_fits z && leb 1 n) (leb n most) h)
 
-pub ticks_back : (e : ℤ → ℕ → Event) (most : ℕ) (z : ℤ) (n : ℕ) → ticks_fit most z n ≡ true → repeat_of e most (bits32 z) n ≡ Whole (e z n)
-unfolding repeat_of
+pub ticks_back : (e : ℤ → ℕ → Event) (most : ℕ) (z : ℤ) (n : ℕ) → ticks_fit most z n ≡ true → repeat_of e most (bits32 z) n ≡ Ok (e z n)
 ticks_back e most z n h =
-    ap (λ (z : ℤ). cond (ticks_fit most z n) (Whole (e z n)) (Unfit 3)) (value_back z (fit_value most z n h))
-    ∙ ap (λ (t : Bool). cond t (Whole (e z n)) (Unfit 3)) h
+    ap (λ (z : ℤ). cond (ticks_fit most z n) (Ok (e z n)) (Err BadValue)) (value_back z (fit_value most z n h))
+    ∙ ap (λ (t : Bool). cond t (Ok (e z n)) (Err BadValue)) h
 
 signed_by : (u : ℕ) (t : Bool) → ltb u 2147483648 ≡ t → u < 2 ^ 32 → bits32 (signed32 u) ≡ u
 unfolding bits32

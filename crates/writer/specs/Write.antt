@@ -1,5 +1,5 @@
 -- CHIP R9 to R11: writing, with the numbers 1, 2, 3, 13 and 5. Assumes nothing.
-use Rattle.std.specs.Prelude.{◌≡◌, ℕ, ◌/◌, ◌%◌, List, [], ◌∷◌, ◌++◌, cond, ◌&&◌, length, take, drop, leb, eqb}
+use Rattle.std.specs.Prelude.{◌≡◌, ℕ, ◌/◌, ◌%◌, List, [], ◌∷◌, ◌++◌, cond, ◌&&◌, length, take, drop, leb, eqb, Result}
 use Rattle.constants.specs.Number.{DONE, BAD_SETUP, BAD_KIND, BAD_VALUE, NO_ROOM, NO_ROW}
 use Rattle.constants.specs.Range.{PART_MOST}
 use Rattle.bits.specs.Numbers.{within, bit_of, bytes16, bytes32, bits32, word_bytes}
@@ -18,8 +18,9 @@ use Rattle.records.specs.Kind.{SETUP, POR, BOOT, SCAN, TEMP, COUNT, SENSE, PIN, 
 use Rattle.records.specs.Kind.{WIRES}
 use Rattle.records.specs.Record.{setup_good}
 use Rattle.events.specs.Setup.{standing}
-use Rattle.writer.specs.declared.Wrote.{Wrote}
-use Rattle.writer.specs.declared.Wrote.TheVariants.{Done, Refused}
+use Rattle.constants.specs.Answer.{Said, gives, refuses}
+use Rattle.constants.specs.Refusal.{said_of}
+use Rattle.constants.specs.declared.refusal.Refusal.{Refusal}
 
 -- ── a record: the payload's length, its kind, the payload (CHIP R1) ──
 abbrev pub record_of : ℕ → List ℕ → List ℕ
@@ -114,20 +115,27 @@ refusal_for e k part =
     BAD_SETUP
 
 -- ── then 5; no other byte than the record's is written ──
+-- how many bytes, or the number of the refusal
+abbrev pub Wrote : Type 0
+Wrote = Said ℕ
+
+abbrev pub wrote : Result ℕ Refusal → Wrote
+wrote r = said_of (λ n. n) r
+
 -- bytes written at the start of a buffer
 abbrev pub written_of : List ℕ → List ℕ → List ℕ
 written_of bytes old = bytes ++ drop (length bytes) old
 
 pub record Writes (bytes old : List ℕ) (r : Wrote) (new : List ℕ) : Type 0 where
-  pub answer : r ≡ cond (leb (length bytes) (length old)) (Done (length bytes)) (Refused NO_ROOM)
+  pub answer : r ≡ cond (leb (length bytes) (length old)) (gives (length bytes)) (refuses NO_ROOM)
   pub contents : new ≡ cond (leb (length bytes) (length old)) (written_of bytes old) old
 
 -- an event that is refused with a number, 0 where it is not, and its bytes
 pub record Puts (number : ℕ) (bytes old : List ℕ) (r : Wrote) (new : List ℕ) : Type 0 where
-  pub answer : r ≡ cond (eqb number 0) (cond (leb (length bytes) (length old)) (Done (length bytes)) (Refused NO_ROOM)) (Refused number)
+  pub answer : r ≡ cond (eqb number 0) (cond (leb (length bytes) (length old)) (gives (length bytes)) (refuses NO_ROOM)) (refuses number)
   pub contents : new ≡ cond (eqb number 0) (cond (leb (length bytes) (length old)) (written_of bytes old) old) old
 
 -- the number of each answer (CHIP O4)
 abbrev pub number_of : Wrote → ℕ
-number_of (Done n) = DONE
-number_of (Refused k) = k
+number_of (gives n) = DONE
+number_of (refuses k) = k

@@ -1,150 +1,85 @@
-// Records, written: an event's record at a part, or the number it is refused with.
+// Records, written: an event's record at a part, or why it is refused.
 #![tactic(auto)]
 
-ghost use Rattle.std.specs.Prelude.{◌≡◌, ◌+◌, ◌*◌, ◌≤◌, [], ◌∷◌, ◌++◌, length, take};
+ghost use Rattle.std.specs.Prelude.{◌≡◌, ◌≤◌, ◌++◌, length, take};
+ghost use Rattle.constants.specs.Kind.{code_of};
 ghost use Rattle.events.specs.declared.Event.TheVariants.{Setup as SetupEvent, OnBus, Wires};
-ghost use Rattle.bits.specs.Numbers.{bit_of, bytes16, bytes32, word_bytes};
+ghost use Rattle.bits.specs.Numbers.{bits32, bytes32, word_bytes};
+ghost use Rattle.records.specs.Kind.{SOAK};
 ghost use Rattle.records.specs.Record.{setup_good, no_counts};
-ghost use Rattle.events.specs.Setup.{standing};
-ghost use Rattle.writer.specs.Write.{record_of, record_for, refusal_for, setup_bytes, Writes, Puts};
+ghost use Rattle.events.specs.Setup.{between, standing};
+ghost use Rattle.ranges.specs.Refusal.{refused_number};
+ghost use Rattle.writer.specs.Write.{record_of, record_for, refusal_for, setup_bytes, wrote, Writes, Puts};
 ghost use Rattle.writer.specs.CheckedLaws.{refusal_at};
 
-use bits::bytes::{bits_of, put_bytes, put_words};
-use constants::{kind, number, range, size};
+use bits::bytes::{put_bytes, put_words};
+use constants::kind::Kind;
+use constants::refusal::Refusal;
+use constants::{number, range, size};
 use events::{BusEvent, Counts, Event, Role, Setup};
 
-// What writing gives: how many bytes it wrote, or the number it is refused with.
-#[derive(Clone, Copy)]
-pub enum Wrote {
-    Done(usize),
-    Refused(u8),
-}
-
-fn bit_of(t: bool) -> u8
-    ensures { result ≡ bit_of t }
+// Whether there is such a part.
+fn part_fits(part: u8) -> bool
+    ensures { result ≡ between 1 3 part }
 {
-    if t { 1 } else { 0 }
+    (1..=range::PART_MOST).contains(&part)
 }
 
 // Whether a SETUP's values are in range.
+#[tactic(auto, using(crate::proofs::Refusals::good_is))]
 fn setup_good(v: Setup) -> bool
     ensures { result ≡ setup_good v }
 {
-    (1 <= v.part)
-        & (v.part <= range::PART_MOST)
-        & (range::ADDRESS_LEAST <= v.address)
-        & (v.address <= range::ADDRESS_MOST)
-        & (v.gain_code <= range::GAIN_CODE_MOST)
-        & (v.floor <= range::FLOOR_MOST)
-        & (v.cells == 0)
+    part_fits(v.part)
+        && (range::ADDRESS_LEAST..=range::ADDRESS_MOST).contains(&v.address)
+        && v.gain_code <= range::GAIN_CODE_MOST
+        && v.floor <= range::FLOOR_MOST
+        && v.cells == 0
 }
 
 // A record: its header, and its payload.
-fn write_bytes(out: &mut [u8], kind: u16, payload: &[u8]) -> Wrote
+fn write_bytes(out: &mut [u8], kind: Kind, payload: &[u8]) -> Result<usize, Refusal>
     requires { length payload.now ≤ 30 }
-    ensures { Writes (record_of kind payload.now) out.old result out.new }
+    ensures { Writes (record_of (code_of kind) payload.now) out.old (wrote result) out.new }
 {
     let n = payload.len();
     if out.len() < size::HEADER + n {
-        return Wrote::Refused(number::NO_ROOM);
+        return Err(Refusal::NoRoom);
     }
-    out[0] = (n % 256) as u8;
-    out[1] = (n / 256) as u8;
-    out[2] = (kind % 256) as u8;
-    out[3] = (kind / 256) as u8;
+    put_words(out, 0, &[n as u16, kind.code()]);
     put_bytes(out, size::HEADER, payload);
-    Wrote::Done(size::HEADER + n)
-}
-
-// A record whose payload is numbers of 2 bytes.
-fn write_words(out: &mut [u8], kind: u16, words: &[u16]) -> Wrote
-    requires { length words.now ≤ 15 }
-    ensures { Writes (record_of kind (word_bytes words.now)) out.old result out.new }
-{
-    let n = 2 * words.len();
-    let mut bytes = [0u8; size::PAYLOAD_MOST];
-    put_words(&mut bytes, 0, words);
-    write_bytes(out, kind, &bytes[..n])
-}
-
-// A record with no payload.
-fn write_bare(out: &mut [u8], kind: u16) -> Wrote
-    ensures { Writes (record_of kind []) out.old result out.new }
-{
-    let bytes = [0u8; 1];
-    write_bytes(out, kind, &bytes[..0])
-}
-
-// A record whose payload is a byte.
-fn write_byte(out: &mut [u8], kind: u16, b: u8) -> Wrote
-    ensures { Writes (record_of kind (b ∷ [])) out.old result out.new }
-{
-    let bytes = [b];
-    write_bytes(out, kind, &bytes)
-}
-
-// A record whose payload is a number of 2 bytes.
-fn write_word(out: &mut [u8], kind: u16, n: u16) -> Wrote
-    ensures { Writes (record_of kind (bytes16 n)) out.old result out.new }
-{
-    let words = [n];
-    write_words(out, kind, &words)
-}
-
-// A record whose payload is a number of 4 bytes.
-fn write_long(out: &mut [u8], kind: u16, u: u32) -> Wrote
-    ensures { Writes (record_of kind (bytes32 u)) out.old result out.new }
-{
-    let words = [(u % 65536) as u16, (u / 65536) as u16];
-    write_words(out, kind, &words)
-}
-
-// A record whose payload is a number of 4 bytes and one of 2.
-fn write_ticks(out: &mut [u8], kind: u16, u: u32, n: u16) -> Wrote
-    ensures { Writes (record_of kind (bytes32 u ++ bytes16 n)) out.old result out.new }
-{
-    let words = [(u % 65536) as u16, (u / 65536) as u16, n];
-    write_words(out, kind, &words)
-}
-
-// A record whose payload is two numbers of 4 bytes.
-fn write_soak(out: &mut [u8], kind: u16, u: u32, n: u32) -> Wrote
-    ensures { Writes (record_of kind (bytes32 u ++ bytes32 n)) out.old result out.new }
-{
-    let words = [
-        (u % 65536) as u16,
-        (u / 65536) as u16,
-        (n % 65536) as u16,
-        (n / 65536) as u16,
-    ];
-    write_words(out, kind, &words)
+    Ok(size::HEADER + n)
 }
 
 // SETUP's record.
-fn write_setup(out: &mut [u8], v: Setup) -> Wrote
-    ensures { Writes (record_of 0 (setup_bytes v)) out.old result out.new }
+fn write_setup(out: &mut [u8], v: Setup) -> Result<usize, Refusal>
+    ensures { Writes (record_of 0 (setup_bytes v)) out.old (wrote result) out.new }
 {
-    let crc = bit_of(v.crc);
-    let bytes = [
-        v.part,
-        crc,
-        v.address,
-        v.gain_code,
-        v.offset,
-        (v.floor % 256) as u8,
-        (v.floor / 256) as u8,
-    ];
-    write_bytes(out, kind::SETUP, &bytes)
+    let crc = u8::from(v.crc);
+    let [low, high] = v.floor.to_le_bytes();
+    let bytes = [v.part, crc, v.address, v.gain_code, v.offset, low, high];
+    write_bytes(out, Kind::Setup, &bytes)
 }
 
 // The record of an event with counts.
-fn write_counts(out: &mut [u8], kind: u16, counts: Counts) -> Wrote
+fn write_counts(out: &mut [u8], kind: Kind, counts: Counts) -> Result<usize, Refusal>
     requires { counts.many ≤ 15 }
-    ensures { Writes (record_of kind (word_bytes (take counts.many counts.of))) out.old result out.new }
+    ensures { Writes (record_of (code_of kind) (word_bytes (take counts.many counts.of))) out.old (wrote result) out.new }
 {
-    let n = counts.many as usize;
-    let of = counts.of;
-    write_words(out, kind, &of[..n])
+    let n = usize::from(counts.many);
+    let mut bytes = [0u8; size::PAYLOAD_MOST];
+    put_words(&mut bytes, 0, &counts.of[..n]);
+    write_bytes(out, kind, &bytes[..2 * n])
+}
+
+// SOAK's record.
+#[tactic(auto, unfolding(bits::specs::Numbers::bits32))]
+fn write_soak(out: &mut [u8], v: i32, n: u32) -> Result<usize, Refusal>
+    ensures { Writes (record_of SOAK (bytes32 (bits32 v) ++ bytes32 n)) out.old (wrote result) out.new }
+{
+    let [a, b, c, d] = v.to_le_bytes();
+    let [e, f, g, h] = n.to_le_bytes();
+    write_bytes(out, Kind::Soak, &[a, b, c, d, e, f, g, h])
 }
 
 // A part alone, as a setup.
@@ -163,50 +98,53 @@ fn standing_at(part: u8) -> Setup
 }
 
 // SETUP's own part, its counts and its values, in this order.
-fn setup_refusal(v: Setup, counts: Counts) -> u8
-    ensures { result ≡ refusal_for (SetupEvent v) counts 0 }
+#[tactic(auto, unfolding(crate::specs::Write::refusal_for, crate::specs::Write::value_refusal))]
+fn setup_refusal(v: Setup, counts: Counts) -> Result<(), Refusal>
+    ensures { refused_number result ≡ refusal_for (SetupEvent v) counts 0 }
 {
-    if (1 <= v.part) & (v.part <= range::PART_MOST) {
-        if ranges::counts_fit(0, counts) {
-            if setup_good(v) {
-                return number::DONE;
-            }
-            return number::BAD_SETUP;
-        }
-        return number::BAD_KIND;
+    if !part_fits(v.part) {
+        return Err(Refusal::BadSetup);
     }
-    number::BAD_SETUP
+    if !ranges::counts_fit(0, counts) {
+        return Err(Refusal::BadKind);
+    }
+    if !setup_good(v) {
+        return Err(Refusal::BadSetup);
+    }
+    Ok(())
 }
 
 // The part, the counts and the row of a wiring record, in this order.
-fn wires_refusal(cells: u8, counts: Counts, part: u8) -> u8
-    ensures { result ≡ refusal_for (Wires cells) counts part }
+#[tactic(auto, unfolding(crate::specs::Write::refusal_for, crate::specs::Write::value_refusal))]
+fn wires_refusal(cells: u8, counts: Counts, part: u8) -> Result<(), Refusal>
+    ensures { refused_number result ≡ refusal_for (Wires cells) counts part }
 {
-    if (1 <= part) & (part <= range::PART_MOST) {
-        if ranges::counts_fit(0, counts) {
-            if wiring::has_row(part, cells) {
-                return number::DONE;
-            }
-            return number::NO_ROW;
-        }
-        return number::BAD_KIND;
+    if !part_fits(part) {
+        return Err(Refusal::BadSetup);
     }
-    number::BAD_SETUP
+    if !ranges::counts_fit(0, counts) {
+        return Err(Refusal::BadKind);
+    }
+    if !wiring::has_row(part, cells) {
+        return Err(Refusal::NoRow);
+    }
+    Ok(())
 }
 
 // The part, and what another event is refused with where it stands.
-fn refusal_at(event: Event, counts: Counts, part: u8) -> u8
-    ensures { result ≡ refusal_at event counts part }
+#[tactic(auto, unfolding(crate::specs::CheckedLaws::refusal_at))]
+fn refusal_at(event: Event, counts: Counts, part: u8) -> Result<(), Refusal>
+    ensures { refused_number result ≡ refusal_at event counts part }
 {
-    if (1 <= part) & (part <= range::PART_MOST) {
-        return ranges::refusal(standing_at(part), event, counts);
+    if !part_fits(part) {
+        return Err(Refusal::BadSetup);
     }
-    number::BAD_SETUP
+    ranges::refusal(standing_at(part), event, counts)
 }
 
-// The number that an event is refused with at a part, or 0.
-fn refusal(event: Event, counts: Counts, part: u8) -> u8
-    ensures { result ≡ refusal_for event counts part }
+// Why an event is refused at a part, where it is.
+fn refusal(event: Event, counts: Counts, part: u8) -> Result<(), Refusal>
+    ensures { refused_number result ≡ refusal_for event counts part }
 {
     match events::role_of(event) {
         Role::Makes(setup) => setup_refusal(setup, counts),
@@ -215,49 +153,57 @@ fn refusal(event: Event, counts: Counts, part: u8) -> u8
     }
 }
 
-fn put_bus(event: BusEvent, out: &mut [u8]) -> Wrote
-    ensures { Writes (record_for (OnBus event) no_counts) out.old result out.new }
+#[tactic(auto, unfolding(crate::specs::Write::record_for))]
+fn put_bus(event: BusEvent, out: &mut [u8]) -> Result<usize, Refusal>
+    ensures { Writes (record_for (OnBus event) no_counts) out.old (wrote result) out.new }
 {
     match event {
-        BusEvent::Start => write_bare(out, kind::START),
-        BusEvent::Out(b) => write_byte(out, kind::OUT, b),
-        BusEvent::In(refused) => write_byte(out, kind::IN, bit_of(refused)),
-        BusEvent::Stop => write_bare(out, kind::STOP),
+        BusEvent::Start => write_bytes(out, Kind::Start, &[]),
+        BusEvent::Out(b) => write_bytes(out, Kind::Out, &[b]),
+        BusEvent::In(refused) => write_bytes(out, Kind::In, &[u8::from(refused)]),
+        BusEvent::Stop => write_bytes(out, Kind::Stop, &[]),
     }
 }
 
 // An event's record, in full.
-fn put_event(event: Event, counts: Counts, out: &mut [u8]) -> Wrote
+#[tactic(auto, unfolding(crate::specs::Write::record_for, bits::specs::Numbers::bits32))]
+fn put_event(event: Event, counts: Counts, out: &mut [u8]) -> Result<usize, Refusal>
     requires { counts.many ≤ 15 }
-    ensures { Writes (record_for event counts) out.old result out.new }
+    ensures { Writes (record_for event counts) out.old (wrote result) out.new }
 {
     match event {
         Event::Setup(setup) => write_setup(out, setup),
-        Event::Por => write_bare(out, kind::POR),
-        Event::Boot => write_bare(out, kind::BOOT),
-        Event::Scan => write_counts(out, kind::SCAN, counts),
-        Event::Temp => write_counts(out, kind::TEMP, counts),
-        Event::Count(n) => write_word(out, kind::COUNT, n),
-        Event::Sense(v) => write_long(out, kind::SENSE, bits_of(v)),
-        Event::Pin => write_bare(out, kind::PIN),
-        Event::Load(level) => write_byte(out, kind::LOAD, bit_of(level)),
-        Event::Xready => write_bare(out, kind::XREADY),
+        Event::Por => write_bytes(out, Kind::Por, &[]),
+        Event::Boot => write_bytes(out, Kind::Boot, &[]),
+        Event::Scan => write_counts(out, Kind::Scan, counts),
+        Event::Temp => write_counts(out, Kind::Temp, counts),
+        Event::Count(n) => write_bytes(out, Kind::Count, &n.to_le_bytes()),
+        Event::Sense(v) => write_bytes(out, Kind::Sense, &v.to_le_bytes()),
+        Event::Pin => write_bytes(out, Kind::Pin, &[]),
+        Event::Load(level) => write_bytes(out, Kind::Load, &[u8::from(level)]),
+        Event::Xready => write_bytes(out, Kind::Xready, &[]),
         Event::OnBus(bus) => put_bus(bus, out),
-        Event::Level(level) => write_byte(out, kind::LEVEL, bit_of(level)),
-        Event::Ticks(v, n) => write_ticks(out, kind::TICKS, bits_of(v), n),
-        Event::Soak(v, n) => write_soak(out, kind::SOAK, bits_of(v), n),
-        Event::Wires(cells) => write_byte(out, kind::WIRING, cells),
+        Event::Level(level) => write_bytes(out, Kind::Level, &[u8::from(level)]),
+        Event::Ticks(v, n) => {
+            let [a, b, c, d] = v.to_le_bytes();
+            let [low, high] = n.to_le_bytes();
+            write_bytes(out, Kind::Ticks, &[a, b, c, d, low, high])
+        }
+        Event::Soak(v, n) => write_soak(out, v, n),
+        Event::Wires(cells) => write_bytes(out, Kind::Wiring, &[cells]),
     }
 }
 
 // Writes an event's record at a part, SETUP's own for SETUP. It refuses with 1 (part not 1 to 3), 2 (counts not fitting it), 1, 3 or
 // 13 (a value out of range, no row for a number of cells), then 5 (no room), and writes no other byte than the record's.
-pub fn write_record(event: Event, counts: Counts, part: u8, out: &mut [u8]) -> Wrote
-    ensures { Puts (refusal_for event counts part) (record_for event counts) out.old result out.new }
+pub fn write_record(
+    event: Event,
+    counts: Counts,
+    part: u8,
+    out: &mut [u8],
+) -> Result<usize, Refusal>
+    ensures { Puts (refusal_for event counts part) (record_for event counts) out.old (wrote result) out.new }
 {
-    let number = refusal(event, counts, part);
-    if number != number::DONE {
-        return Wrote::Refused(number);
-    }
+    refusal(event, counts, part)?;
     put_event(event, counts, out)
 }
