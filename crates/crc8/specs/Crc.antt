@@ -3,6 +3,7 @@
 -- Assumes nothing: these are definitions.
 use Rattle.std.specs.Prelude.{ℕ, ◌+◌, ◌*◌, ◌/◌, ◌%◌, List, [], ◌∷◌, ◌++◌, cond, ltb, replicate}
 use Rattle.std.specs.Int.Bits.{bit_xor}
+use Rattle.std.specs.List.{fold}
 
 -- the divisor, x^8 + x^2 + x + 1
 abbrev pub divisor : ℕ
@@ -45,5 +46,4 @@ byte_on c b = turns (bit_xor c b)
 
 -- bytes more, on the CRC of the bytes before them
 abbrev pub crc_on : ℕ → List ℕ → ℕ
-crc_on c [] = c
-crc_on c (b ∷ s) = crc_on (byte_on c b) s
+crc_on c s = fold byte_on c s

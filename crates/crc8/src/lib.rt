@@ -16,28 +16,22 @@ fn by_seven(x: u16) -> u16
 fn crc_turns(c: u8) -> u8
     ensures { result ≡ turns c }
 {
-    let product = by_seven(c as u16);
+    let product = by_seven(u16::from(c));
     let over = by_seven(product / 256 % 4);
     ((product % 256 ^ over) % 256) as u8
 }
 
 // One byte taken into a running CRC.
+#[tactic(auto, unfolding(crate::specs::Crc::byte_on))]
 pub fn crc_byte(c: u8, b: u8) -> u8
     ensures { result ≡ byte_on c b }
 {
-    let x = c ^ b;
-    crc_turns(x)
+    crc_turns(c ^ b)
 }
 
 // The bytes of s taken into a running CRC: from 0, the CRC of s.
 pub fn crc_on(c: u8, s: &[u8]) -> u8
     ensures { result ≡ crc_on c s.now }
 {
-    let mut x = c;
-    let mut i = 0;
-    while i < s.len() {
-        x = crc_byte(x, s[i]);
-        i += 1;
-    }
-    x
+    s.iter().fold(c, |x, b| crc_byte(x, *b))
 }

@@ -16,13 +16,20 @@ loop-i-preserved c = let xs = c.args.counts in
     let i = c.loop-i.i in
     let v = c.loop-i.invariant in
     let b : Fits w16 (get_or xs i 0) = search rules in
-    let k : i < 15 = search rules in
-    let h : i < length xs = search rules in
-    (search rules, rw (v.1, padded_more 15 i xs k h), rw (v.2, total_more), omega arith, rw (v.4, some_more), rw (c.is_under-under.ensures, v.5, some_more))
+    let l : length xs ≡ 15 = search rules in
+    let k : i < 15 = omega arith in
+    let h : i < length xs = omega arith in
+    record {
+      cells = rw (v.cells, padded_more 15 i xs k h);
+      sum = rw (v.sum, c.from-sum.ensures, total_more);
+      few = omega arith;
+      over = rw (v.over, some_more);
+      under = rw (c.is_under-under.ensures, v.under, some_more);
+    }
 
 pub returns : goal.returns
 returns c = let v = c.loop-i.invariant in
     let l : length c.args.counts ≡ 15 = search rules in
     let e : c.loop-i.i ≡ min c.args.inputs 15 = omega arith in
     let t : take c.loop-i.i c.args.counts ≡ take c.args.inputs c.args.counts = ap (λ m. take m c.args.counts) e ∙ take_min c.args.inputs 15 c.args.counts l in
-    seen c.args.most c.args.floor c.args.least _ _ _ _ _ v.1 v.2 v.4 v.5 ∙ ap (looked_at c.args.most c.args.floor c.args.least) t
+    seen c.args.most c.args.floor c.args.least _ _ _ _ _ v.cells v.sum v.over v.under ∙ ap (looked_at c.args.most c.args.floor c.args.least) t

@@ -8,4 +8,4 @@ joined : (x p o : ℕ) → p ≡ by_seven x → o ≡ by_seven (p / 256 % 4) →
 joined x p o e f = ap₂ (λ (a b : ℕ). bit_xor (a % 256) b % 256) e (f ∙ ap (λ (a : ℕ). by_seven (a / 256 % 4)) e)
 
 pub returns : goal.returns
-returns c = joined c.args.c _ _ c.by_seven-product.ensures c.by_seven-over.ensures ∙ spread_is c.args.c (omega (arith, c.well_formed))
+returns c = joined c.args.c _ _ (c.by_seven-product.ensures ∙ ap by_seven c.from.ensures) c.by_seven-over.ensures ∙ spread_is c.args.c (omega (arith, c.well_formed))
