@@ -8,6 +8,8 @@ use lib.ListN.{length, take, drop, length-append, length-drop, drop_of_length-le
 use lib.Seq.{sets, sets-eq, length-sets, take_at, drop-append-add, drop-drop, take-nil, take-append-le}
 use lib.Dec.{eqb, leb}
 use borrow.Author.Tests.{leb-true, leb-false}
+use Rattle.constants.specs.Refusal.{number_of as refusal_number}
+use Rattle.constants.specs.declared.refusal.Refusal.{Refusal}
 use Rattle.records.specs.Record.{read_of, number_of}
 use Rattle.records.specs.declared.Read.{Read}
 use Rattle.records.specs.declared.Read.TheVariants.{Record, Refused, Cut}
@@ -206,15 +208,15 @@ module _ (o₀ : Bool) (c₀ : Chip) (s old out : List ℕ) (o : Bool) (chip : C
     abbrev refused : ℕ → ℕ → Bool → Turn
     refused k next b = turn (numbered k chip) o next b
 
-    refused_is : (k next : ℕ) (b : Bool) → Refused k next ≡ read_of chip.setup.part here → eqb chip.setup.part 0 ≡ b → refused k next b ≡ turn_of o chip here
+    refused_is : (why : Refusal) (next : ℕ) (b : Bool) → Refused why next ≡ read_of chip.setup.part here → eqb chip.setup.part 0 ≡ b → refused (refusal_number why) next b ≡ turn_of o chip here
     unfolding turn_of
-    refused_is k next b q e = ap (refused k next) (sym e) ∙ ap (turned o chip here) q
+    refused_is why next b q e = ap (refused (refusal_number why) next) (sym e) ∙ ap (turned o chip here) q
 
-    refused_goes : (k next : ℕ) → Refused k next ≡ read_of chip.setup.part here → new ≡ noted out n (entry_of (numbered k chip)) → (b : Bool) → eqb chip.setup.part 0 ≡ b
+    refused_goes : (why : Refusal) (next : ℕ) → Refused why next ≡ read_of chip.setup.part here → new ≡ noted out n (entry_of (numbered (refusal_number why) chip)) → (b : Bool) → eqb chip.setup.part 0 ≡ b
         → Going o₀ c₀ s old new o chip (at + cond b (length here) next) (n + 1)
-    refused_goes k next q w true e =
-        subst (λ (a : ℕ). Going o₀ c₀ s old new o chip a (n + 1)) (omega (arith, room)) (going_stop h (refused k next true) (refused_is k next true q e) new w refl)
-    refused_goes k next q w false e = going_more h (refused k next false) (refused_is k next false q e) new w refl
+    refused_goes why next q w true e =
+        subst (λ (a : ℕ). Going o₀ c₀ s old new o chip a (n + 1)) (omega (arith, room)) (going_stop h (refused (refusal_number why) next true) (refused_is why next true q e) new w refl)
+    refused_goes why next q w false e = going_more h (refused (refusal_number why) next false) (refused_is why next false q e) new w refl
 
     cut_is : Cut ≡ read_of chip.setup.part here → turn (numbered 9 chip) o 0 true ≡ turn_of o chip here
     unfolding turn_of
@@ -223,15 +225,15 @@ module _ (o₀ : Bool) (c₀ : Chip) (s old out : List ℕ) (o : Bool) (chip : C
     pub going_skip : (x : Read) → x ≡ read_of chip.setup.part here → Skipped x → new ≡ noted out n (entry_of (numbered (number_of x) chip))
         → Going o₀ c₀ s old new o chip (at + passed chip.setup.part (length here) x) (n + 1)
     going_skip (Record e next) q k w = absurd k
-    going_skip (Refused number next) q k w = refused_goes number next q w (eqb chip.setup.part 0) refl
+    going_skip (Refused why next) q k w = refused_goes why next q w (eqb chip.setup.part 0) refl
     going_skip Cut q k w =
         subst (λ (a : ℕ). Going o₀ c₀ s old new o chip a (n + 1)) (omega (arith, room)) (going_stop h (turn (numbered 9 chip) o 0 true) (cut_is q) new w refl)
 
     -- it goes on, and stays within the bytes
     pub passes : (x : Read) → x ≡ read_of chip.setup.part here → Skipped x → (0 < passed chip.setup.part (length here) x) × (at + passed chip.setup.part (length here) x ≤ length s)
     passes (Record e next) q k = absurd k
-    passes (Refused number next) q k =
-        let p : Placed (length here) (Refused number next) = subst (Placed (length here)) (sym q) (placed chip.setup.part here) in
+    passes (Refused why next) q k =
+        let p : Placed (length here) (Refused why next) = subst (Placed (length here)) (sym q) (placed chip.setup.part here) in
         by (eqb chip.setup.part 0) p
       where
         by : (b : Bool) → (4 ≤ next) × (next ≤ length here) → (0 < cond b (length here) next) × (at + cond b (length here) next ≤ length s)

@@ -1,35 +1,33 @@
 -- What is known of an event or a record that was taken apart, put to use: a record that was read needs no second check. Assumes nothing.
 use mathlib.Core.Path.{◌≡◌, refl, ap, sym, ◌∙◌, subst}
 use mathlib.Core.Bool.{Bool, true, false, cond, not, ◌&&◌, ◌||◌}
-use mathlib.Core.Logic.{⊎_elim}
-use mathlib.Core.List.{List, [], ◌∷◌}
+use Rattle.std.specs.Prelude.{Option, Result}
+use mathlib.Core.List.{List}
 use Prim.Native.Nat.{ℕ}
 use native.Mathlib.Omega.{arith}
 use lib.Dec.{eqb}
 use borrow.Author.Tests.{eqb-true, eqb-false, eq-eqb}
-use types.Run.{OneOf}
-use denote.Enum.Declared.{tag_of}
 use Rattle.events.specs.declared.Counts.{Counts}
 use Rattle.events.specs.declared.BusEvent.{BusEvent}
 use Rattle.events.specs.Role.{role_of, by_role}
 use Rattle.events.specs.declared.Role.TheVariants.{Happens}
 use Rattle.events.specs.declared.Event.{Event}
-use Rattle.events.specs.declared.Event.TheVariants.{Setup, Por, Boot, Scan, Temp, Count, Sense, Pin, Load, Xready, OnBus, Level, Ticks}
-use Rattle.events.specs.declared.Event.TheVariants.{Soak, Wires}
+use Rattle.events.specs.declared.Event.TheVariants.{Scan, Sense, OnBus}
 use Rattle.events.specs.Event.{Event as Happening, Boot as Booted, Scan as Scanned, Sense as Ticked, OnBus as Signalled, Level as Leveled}
 use Rattle.events.specs.Event.{Meant, means, ticks, unfit, fits, in_range, event_of, meant_of, counts_fit, counts_wanted}
-use Rattle.events.specs.contracts.Event.{the_type as event_type}
-use Rattle.records.specs.declared.Read.TheVariants.{Record}
-use Rattle.records.specs.Record.{read_of, counts_beside}
+use Rattle.records.specs.declared.Read.{Read}
+use Rattle.records.specs.declared.Read.TheVariants.{Record, Refused, Cut}
+use Rattle.records.specs.Record.{read_of, number_of, counts_beside}
+use Rattle.turn.specs.Passed.{answer_of}
 use Rattle.events.specs.Setup.{inputs}
 use lib.ListN.{take}
 use lib.IntN.{ℤ}
 use Rattle.records.specs.SoundLaws.{first_setup, no_setup, no_wires, Meaning, later_means}
 use Rattle.chip.specs.declared.Chip.{Chip}
-use Rattle.chip.specs.declared.Stepped.{Stepped}
+use Rattle.chip.specs.Answer.{Stepped, Heard, stepped_with}
+use Rattle.constants.specs.declared.refusal.Refusal.{Refusal}
 use Rattle.protection.specs.declared.Judged.{Judged}
 use Rattle.protection.specs.Judged.{tick_judged}
-use Rattle.chip.specs.declared.Heard.{Heard}
 use Rattle.chip.specs.Parts.{raised_by, heard_of, landed, told, tick_parts, still_tick, bus_parts}
 use Rattle.chip.proofs.Modes.{in_normal}
 use Rattle.chip.specs.Calm.{Calmed}
@@ -40,14 +38,12 @@ use Rattle.registers.specs.Judging.{pulled_by_level}
 use Rattle.registers.specs.LevelLaws.{Calm}
 use Rattle.chip.specs.Chip.{numbered, with_normal, with_bus, with_registers, with_runs, settled, normally, asleep, happened, stepped}
 use Rattle.chip.specs.Chip.{ticked, stepped_as, stepped_by, happened_as, happened_by}
-use Rattle.stream_run.specs.Stream.{unanswered, answer_of, answer_heard, face_of, entry_with, saying}
+use Rattle.stream_run.specs.Stream.{face_of, entry_with}
 use Rattle.turn.specs.Turn.{entry_of, acted, stays_fresh, turn, turned, turn_of}
-use Rattle.stream_run.specs.declared.Answer.{Answer}
 use Rattle.turn.specs.declared.Entry.{Entry}
 use Rattle.turn.proofs.Cases.{acted_as_lem}
 use Rattle.stream_run.specs.declared.Face.{Face}
-use Rattle.stream_run.specs.Often.{often, awake_work, registers_moved}
-use Rattle.stream_run.specs.declared.Work.TheVariants.{Other}
+use Rattle.stream_run.specs.Often.{often, registers_moved}
 
 -- what is in range steps as it happens
 step_is : (e : Happening) (c : Chip) → fits e ≡ true → stepped e c ≡ happened e c
@@ -95,24 +91,6 @@ as_event xs c q h = h ∙ ap (λ (e : Event). happened_by e xs c) (sym q)
 pub often_is : {s : Stepped} (op : Bool) (c : Chip) (r : List ℕ) (e e' : Event) (next : ℕ) (xs : List ℕ) → read_of c.setup.part r ≡ Record e next → e ≡ e' → often e' ≡ true
     → xs ≡ (counts_beside r (Record e next)).of → s ≡ happened_by e' xs c → s ≡ acted op e (counts_beside r (Record e next)) c
 often_is op c r e e' next xs q t o b h = other_is op c r e next xs q (other_often e (ap often t ∙ o)) b (as_event xs c t h)
-
--- what is seldom done is other work
-pub seldom_work : (e : Event) → OneOf (0 ∷ 1 ∷ 2 ∷ 4 ∷ 5 ∷ 7 ∷ 8 ∷ 9 ∷ 11 ∷ 12 ∷ 13 ∷ 14 ∷ []) (tag_of event_type e) → Other ≡ awake_work e
-seldom_work (Setup v) o = refl
-seldom_work Por o = refl
-seldom_work Boot o = refl
-seldom_work Scan o = absurd (⊎_elim (λ h. omega arith) (⊎_elim (λ h. omega arith) (⊎_elim (λ h. omega arith) (⊎_elim (λ h. omega arith) (⊎_elim (λ h. omega arith) (⊎_elim (λ h. omega arith) (⊎_elim (λ h. omega arith) (⊎_elim (λ h. omega arith) (⊎_elim (λ h. omega arith) (⊎_elim (λ h. omega arith) (⊎_elim (λ h. omega arith) (λ h. omega arith))))))))))) o)
-seldom_work Temp o = refl
-seldom_work (Count n) o = refl
-seldom_work (Sense v) o = absurd (⊎_elim (λ h. omega arith) (⊎_elim (λ h. omega arith) (⊎_elim (λ h. omega arith) (⊎_elim (λ h. omega arith) (⊎_elim (λ h. omega arith) (⊎_elim (λ h. omega arith) (⊎_elim (λ h. omega arith) (⊎_elim (λ h. omega arith) (⊎_elim (λ h. omega arith) (⊎_elim (λ h. omega arith) (⊎_elim (λ h. omega arith) (λ h. omega arith))))))))))) o)
-seldom_work Pin o = refl
-seldom_work (Load l) o = refl
-seldom_work Xready o = refl
-seldom_work (OnBus b) o = absurd (⊎_elim (λ h. omega arith) (⊎_elim (λ h. omega arith) (⊎_elim (λ h. omega arith) (⊎_elim (λ h. omega arith) (⊎_elim (λ h. omega arith) (⊎_elim (λ h. omega arith) (⊎_elim (λ h. omega arith) (⊎_elim (λ h. omega arith) (⊎_elim (λ h. omega arith) (⊎_elim (λ h. omega arith) (⊎_elim (λ h. omega arith) (λ h. omega arith))))))))))) o)
-seldom_work (Level l) o = refl
-seldom_work (Ticks v n) o = refl
-seldom_work (Soak v n) o = refl
-seldom_work (Wires n) o = refl
 
 -- in SHIP
 off : (a t : Bool) → (a && t) ≡ false → t ≡ true → a ≡ false
@@ -171,8 +149,16 @@ boots c k h = h ∙ sym (by c.normal refl)
     by false e = settles (numbered 0 (with_normal true c)) k
 
 -- an entry of what was answered and what the chip shows
-pub entry_is : {e : Entry} {a : Answer} {f : Face} (s : Stepped) → e ≡ entry_with a f → a ≡ answer_of s → f ≡ face_of s.chip → e ≡ entry_of s
-entry_is {e} {a} {f} s h p q = h ∙ ap (λ (a : Answer). entry_with a f) p ∙ ap (entry_with (answer_of s)) q
+pub entry_is : {e : Entry} {f : Face} (a : Result (Option ℕ) Refusal) (c : Chip) → e ≡ entry_with a f → f ≡ face_of c → e ≡ entry_of (stepped_with a c)
+entry_is a c h q = h ∙ ap (entry_with a) q
+
+pub refused_entry : {e : Entry} {f : Face} (x : Read) (c : Chip) → e ≡ entry_with (answer_of x) f → f ≡ face_of c → e ≡ entry_of (numbered (number_of x) c)
+refused_entry x c h q = h ∙ ap (entry_with (answer_of x)) q ∙ by x
+  where
+    by : (x : Read) → entry_with (answer_of x) (face_of c) ≡ entry_of (numbered (number_of x) c)
+    by (Record e next) = refl
+    by (Refused why next) = refl
+    by Cut = refl
 
 -- a record that was read and done
 pub done_turn : (o : Bool) (c : Chip) (rest : List ℕ) (e : Event) (next : ℕ) (s : Stepped) → read_of c.setup.part rest ≡ Record e next
@@ -192,11 +178,11 @@ closes o c r e e' next s q t f z =
     by false false h n m = refl
 
 -- ── what each arm of the loop comes to, in NORMAL; the outside level does something after a store alone ──
-pub scan_arm : (c : Chip) (xs : List ℕ) (d : Chip) → Calmed c → c.normal ≡ true → d ≡ (normally (Scanned (take (inputs c.setup) xs)) c).chip → saying (unanswered 0) d ≡ happened_by Scan xs c
-scan_arm c xs d m a h = in_normal (Scanned (take (inputs c.setup) xs)) c a (ap (saying (unanswered 0)) h ∙ calm_scan (take (inputs c.setup) xs) c m)
+pub scan_arm : (c : Chip) (xs : List ℕ) (d : Chip) → Calmed c → c.normal ≡ true → d ≡ (normally (Scanned (take (inputs c.setup) xs)) c).chip → numbered 0 d ≡ happened_by Scan xs c
+scan_arm c xs d m a h = in_normal (Scanned (take (inputs c.setup) xs)) c a (ap (numbered 0) h ∙ calm_scan (take (inputs c.setup) xs) c m)
 
 pub tick_arm : (c : Chip) (v : ℤ) (xs : List ℕ) (j : Judged) (d : Chip) → Calmed c → c.normal ≡ true → j ≡ tick_judged c.registers.settings v c.runs → d ≡ raised_by j.risen (with_runs j.runs c)
-    → saying (unanswered 0) d ≡ happened_by (Sense v) xs c
+    → numbered 0 d ≡ happened_by (Sense v) xs c
 tick_arm c v xs j d m a hj h =
     in_normal (Ticked v) c a
     (ap (numbered 0) (h ∙ calm_tick j.risen j.runs c m) ∙ ap (λ (j : Judged). settled (numbered 0 (raised_by j.risen (with_runs j.runs c)))) hj ∙ ap settled (tick_parts v c))
@@ -207,6 +193,9 @@ still_arm c v j hj n =
     subst (λ (j : Judged). with_runs j.runs c ≡ raised_by j.risen (with_runs j.runs c)) (sym hj)
     (sym (still_tick c.registers.settings v c.runs (with_runs (tick_judged c.registers.settings v c.runs).runs c) (subst (λ (j : Judged). (j.risen.scd || j.risen.ocd) ≡ false) hj n)))
 
+abbrev pub heard_with : Heard → Chip → Stepped
+heard_with h d = record { chip = d; number = 0; flag = h.flag; byte = h.byte }
+
 pub bus_arm : (c : Chip) (b : BusEvent) (xs : List ℕ) (h : Heard) (d : Chip) → c.normal ≡ true → h ≡ heard_of b c → d ≡ landed h.store (with_bus h.bus c)
-    → saying (answer_heard h) d ≡ happened_by (OnBus b) xs c
-bus_arm c b xs h d a hh hd = in_normal (Signalled b) c a (ap (saying (answer_heard h)) hd ∙ ap (λ (h : Heard). told h c) hh ∙ bus_parts b c)
+    → heard_with h d ≡ happened_by (OnBus b) xs c
+bus_arm c b xs h d a hh hd = in_normal (Signalled b) c a (ap (heard_with h) hd ∙ ap (λ (h : Heard). told h c) hh ∙ bus_parts b c)

@@ -5,7 +5,7 @@ use Rattle.constants.specs.Number.{DONE, ASLEEP}
 use Rattle.events.specs.declared.Event.{Event}
 use Rattle.registers.specs.declared.Registers.{Registers}
 use Rattle.chip.specs.declared.Chip.{Chip}
-use Rattle.chip.specs.declared.Stepped.{Stepped}
+use Rattle.chip.specs.Answer.{Stepped}
 use Rattle.chip.specs.Chip.{numbered, with_registers}
 use Rattle.stream_run.specs.declared.Work.{Work}
 use Rattle.stream_run.specs.declared.Work.TheVariants.{Scans, Ticks, Hears, Other}
@@ -40,7 +40,7 @@ own_arm Other = false
 abbrev pub often : Event → Bool
 often e = own_arm (awake_work e)
 
-unfoldable pub work_of : Bool → Event → Work
+abbrev pub work_of : Bool → Event → Work
 work_of a e = cond a (awake_work e) Other
 
 -- an event that moves registers alone, to these; number 4 in SHIP
@@ -55,7 +55,6 @@ Sorted a e (Hears b) = (a ≡ true) × (e ≡ OnBus b)
 Sorted a e Other = (a && often e) ≡ false
 
 pub sorted : (a : Bool) (e : Event) → Sorted a e (work_of a e)
-unfolding work_of
 sorted false e = refl
 sorted true (Setup v) = refl
 sorted true Por = refl
@@ -75,14 +74,11 @@ sorted true (Wires n) = refl
 
 -- .. and the work by the mode and the case
 pub work_normal : (a : Bool) (e f : Event) → a ≡ true → e ≡ f → awake_work f ≡ work_of a e
-unfolding work_of
 work_normal a e f h q = sym (ap (λ (b : Bool). cond b (awake_work e) Other) h ∙ ap awake_work q)
 
 pub work_asleep : (a : Bool) (e : Event) → a ≡ false → Other ≡ work_of a e
-unfolding work_of
 work_asleep a e h = sym (ap (λ (b : Bool). cond b (awake_work e) Other) h)
 
 pub work_other : (a : Bool) (e : Event) → Other ≡ awake_work e → Other ≡ work_of a e
-unfolding work_of
 work_other true e h = h
 work_other false e h = refl

@@ -5,24 +5,25 @@ ghost use Rattle.std.specs.Prelude.{◌≡◌, ◌+◌, ◌*◌, ◌<◌, ◌^�
 ghost use Rattle.records.specs.Record.{read_of, counts_beside};
 ghost use Rattle.records.specs.declared.Read.TheVariants.{Record};
 ghost use Rattle.turn.specs.Turn.{acted};
-ghost use Rattle.stream_run.specs.Stream.{face_of, answer_of, unanswered, answer_heard, entry_with, Ran};
+ghost use Rattle.stream_run.specs.Stream.{face_of, entry_with, Ran};
 ghost use Rattle.turn.specs.Entries.{noted};
 ghost use Rattle.registers.specs.State.{with_outside_level};
 ghost use Rattle.registers.specs.Judging.{pulled_by_level};
+ghost use Rattle.chip.specs.Answer.{as_step};
 ghost use Rattle.chip.specs.Chip.{numbered, with_normal, happened, happened_by};
 ghost use Rattle.chip.specs.Calm.{Calmed};
 ghost use Rattle.events.specs.Event.{Temp};
 ghost use Rattle.events.specs.Setup.{groups};
 ghost use Rattle.stream_run.specs.Often.{often, work_of, registers_moved};
 
-use bus::Store;
-use chip::{Chip, Heard, Stepped};
-use constants::{number, size, weight};
+use chip::{Chip, Stepped};
+use constants::refusal::Refusal;
+use constants::{size, weight};
 use events::{BusEvent, Event, Role};
 use records::Read;
 use registers::Registers;
-use turn::frames::{number_of, passed};
-use turn::{Entry, born, numbered, rewired};
+use turn::frames::{answer_of, passed};
+use turn::{Entry, born, rewired, stays_fresh};
 
 pub mod end;
 
@@ -42,14 +43,6 @@ pub struct Left {
     pub fresh: bool,
 }
 
-// What a record is answered: its number, and for an OUT or IN that is done the flag and the byte.
-#[derive(Clone, Copy)]
-pub struct Answer {
-    pub number: u8,
-    pub flag: bool,
-    pub byte: u8,
-}
-
 // What an event is to the loop: what is often done in NORMAL has an arm of its own, which moves only what it has to.
 #[derive(Clone, Copy)]
 pub enum Work {
@@ -63,113 +56,40 @@ pub enum Work {
 fn face_of(chip: Chip) -> Face
     ensures { result ≡ face_of chip }
 {
-    let registers = chip.registers;
-    let shown = registers.shown;
     let stat = chip.status();
-    let pins = bits::weigh(stat != 0, weight::PIN_ALERT)
-        + bits::weigh(shown.chg_on, weight::PIN_CHG)
-        + bits::weigh(shown.dsg_on, weight::PIN_DSG);
-    Face { stat, pins }
-}
-
-fn unanswered(number: u8) -> Answer
-    ensures { result ≡ unanswered number }
-{
-    Answer {
-        number,
-        flag: false,
-        byte: 0,
+    let shown = chip.registers.shown;
+    Face {
+        stat,
+        pins: bits::weigh(stat != 0, weight::PIN_ALERT)
+            + bits::weigh(shown.chg_on, weight::PIN_CHG)
+            + bits::weigh(shown.dsg_on, weight::PIN_DSG),
     }
 }
 
-fn answer_of(s: Stepped) -> Answer
-    ensures { result ≡ answer_of s }
-{
-    Answer {
-        number: s.number,
-        flag: s.flag,
-        byte: s.byte,
-    }
-}
-
-fn answer_heard(heard: Heard) -> Answer
-    ensures { result ≡ answer_heard heard }
-{
-    Answer {
-        number: 0,
-        flag: heard.flag,
-        byte: heard.byte,
-    }
-}
-
-fn entry_of(answer: Answer, face: Face) -> Entry
+fn entry_of(answer: Result<Option<u8>, Refusal>, face: Face) -> Entry
     ensures { result ≡ entry_with answer face }
 {
-    let flag = bits::weigh(answer.flag, 1);
     Entry {
-        number: answer.number,
-        flag,
-        byte: answer.byte,
+        number: chip::number(answer),
+        flag: u8::from(chip::flag(answer)),
+        byte: chip::byte(answer),
         stat: face.stat,
         pins: face.pins,
     }
 }
 
-// Each case by itself: the compiler then goes from a record's kind straight to its arm in the loop.
+// Each case of the bus by itself: the compiler then goes from a record's kind straight to its arm in the loop.
 fn work_of(normal: bool, event: Event) -> Work
     ensures { result ≡ work_of normal event }
 {
     match event {
-        Event::Scan => { if normal { Work::Scans } else { Work::Other } }
-        Event::Sense(value) => {
-            if normal {
-                Work::Ticks(value)
-            } else {
-                Work::Other
-            }
-        }
-        Event::OnBus(bus) => match bus {
-            BusEvent::Start => {
-                if normal {
-                    Work::Hears(BusEvent::Start)
-                } else {
-                    Work::Other
-                }
-            }
-            BusEvent::Out(byte) => {
-                if normal {
-                    Work::Hears(BusEvent::Out(byte))
-                } else {
-                    Work::Other
-                }
-            }
-            BusEvent::In(nack) => {
-                if normal {
-                    Work::Hears(BusEvent::In(nack))
-                } else {
-                    Work::Other
-                }
-            }
-            BusEvent::Stop => {
-                if normal {
-                    Work::Hears(BusEvent::Stop)
-                } else {
-                    Work::Other
-                }
-            }
-        },
-        Event::Setup(_)
-        | Event::Por
-        | Event::Boot
-        | Event::Temp
-        | Event::Count(_)
-        | Event::Pin
-        | Event::Load(_)
-        | Event::Xready
-        | Event::Level(_)
-        | Event::Ticks(_, _)
-        | Event::Soak(_, _)
-        | Event::Wires(_) => Work::Other,
+        Event::Scan if normal => Work::Scans,
+        Event::Sense(value) if normal => Work::Ticks(value),
+        Event::OnBus(BusEvent::Start) if normal => Work::Hears(BusEvent::Start),
+        Event::OnBus(BusEvent::Out(byte)) if normal => Work::Hears(BusEvent::Out(byte)),
+        Event::OnBus(BusEvent::In(nack)) if normal => Work::Hears(BusEvent::In(nack)),
+        Event::OnBus(BusEvent::Stop) if normal => Work::Hears(BusEvent::Stop),
+        _ => Work::Other,
     }
 }
 
@@ -177,64 +97,60 @@ fn work_of(normal: bool, event: Event) -> Work
 fn seldom(chip: Chip, event: Event, counts: [u16; 15]) -> Stepped
     requires event_value { (chip.normal && often event) ≡ false }
     requires calmed { Calmed chip }
-    ensures { result ≡ happened_by event counts chip }
+    ensures { as_step result ≡ happened_by event counts chip }
 {
-    let registers = chip.registers;
     match event {
-        Event::Setup(_) => numbered(number::BAD_KIND, chip),
+        Event::Setup(_) | Event::Wires(_) => chip.refused(Refusal::BadKind),
         Event::Por => chip.por(),
         Event::Boot => roused(chip),
-        Event::Scan => numbered(number::ASLEEP, chip),
+        Event::Scan | Event::Sense(_) => chip.refused(Refusal::Asleep),
         Event::Temp => heated(chip, counts),
-        Event::Count(cc) => registers_moved(chip, registers.coulombs(cc)),
-        Event::Sense(_) => numbered(number::ASLEEP, chip),
-        Event::Pin => registers_moved(chip, registers.pulled()),
-        Event::Load(level) => registers_moved(chip, registers.loaded(level)),
-        Event::Xready => registers_moved(chip, registers.unready()),
+        Event::Count(cc) => registers_moved(chip, chip.registers.coulombs(cc)),
+        Event::Pin => registers_moved(chip, chip.registers.pulled()),
+        Event::Load(level) => registers_moved(chip, chip.registers.loaded(level)),
+        Event::Xready => registers_moved(chip, chip.registers.unready()),
         Event::OnBus(bus) => chip.doze(bus),
-        Event::Level(level) => registers_moved(chip, leveled(registers, level)),
-        Event::Ticks(value, repeat) => chip.ticked(value, repeat as u32),
+        Event::Level(level) => registers_moved(chip, leveled(chip.registers, level)),
+        Event::Ticks(value, repeat) => chip.ticked(value, u32::from(repeat)),
         Event::Soak(value, repeat) => chip.ticked(value, repeat),
-        Event::Wires(_) => numbered(number::BAD_KIND, chip),
     }
 }
 
 // BOOT.
 fn roused(mut chip: Chip) -> Stepped
-    ensures { result ≡ numbered 0 (with_normal true chip) }
+    ensures { as_step result ≡ numbered 0 (with_normal true chip) }
 {
     chip.normal = true;
-    numbered(number::DONE, chip)
+    chip.done()
 }
 
 // The registers moved, in NORMAL.
 fn registers_moved(mut chip: Chip, registers: Registers) -> Stepped
-    ensures { result ≡ registers_moved registers chip }
+    ensures { as_step result ≡ registers_moved registers chip }
 {
     if !chip.normal {
-        return numbered(number::ASLEEP, chip);
+        return chip.refused(Refusal::Asleep);
     }
     chip.registers = registers;
-    numbered(number::DONE, chip)
+    chip.done()
 }
 
 // The outside level, kept and looked at.
 fn leveled(registers: Registers, level: bool) -> Registers
     ensures { result ≡ pulled_by_level (with_outside_level level registers) }
 {
-    let registers = registers.leveled(level);
-    registers.pulled_by_level()
+    registers.leveled(level).pulled_by_level()
 }
 
 // TEMP, whose counts the reader has judged.
 fn heated(chip: Chip, counts: [u16; 15]) -> Stepped
     requires { Calmed chip }
-    ensures { result ≡ happened (Temp (take (groups chip.setup) counts)) chip }
+    ensures { as_step result ≡ happened (Temp (take (groups chip.setup) counts)) chip }
 {
     if !chip.normal {
-        return numbered(number::ASLEEP, chip);
+        return chip.refused(Refusal::Asleep);
     }
-    numbered(number::DONE, chip.warmed(counts))
+    chip.warmed(counts).done()
 }
 
 // The counts beside an event that was read.
@@ -242,8 +158,7 @@ fn counted(part: u8, event: Event, rest: &[u8], next: usize) -> [u16; 15]
     requires { read_of part rest.now ≡ Record event next }
     ensures { result ≡ (counts_beside rest.now (Record event next)).of }
 {
-    let counts = records::counts_in(event, &rest[size::HEADER..next]);
-    counts.of
+    records::counts_in(event, &rest[size::HEADER..next]).of
 }
 
 // A record that was read, done: SETUP makes the chip, a wiring record makes it anew, every other event happens to it.
@@ -251,14 +166,13 @@ fn act(chip: Chip, fresh: bool, event: Event, rest: &[u8], next: usize) -> Stepp
     requires rest_value { read_of chip.setup.part rest.now ≡ Record event next }
     requires event_value { (chip.normal && often event) ≡ false }
     requires calmed { Calmed chip }
-    ensures { result ≡ acted fresh event (counts_beside rest.now (Record event next)) chip }
+    ensures { as_step result ≡ acted fresh event (counts_beside rest.now (Record event next)) chip }
 {
     match events::role_of(event) {
         Role::Makes(setup) => born(setup),
         Role::Rewires(cells) => rewired(chip, fresh, cells),
         Role::Happens => {
-            let setup = chip.setup;
-            let counts = counted(setup.part, event, rest, next);
+            let counts = counted(chip.setup.part, event, rest, next);
             seldom(chip, event, counts)
         }
     }
@@ -294,14 +208,14 @@ pub fn run_from(mut chip: Chip, mut fresh: bool, s: &[u8], out: &mut [u8]) -> Le
             let rest = &s[at..];
             let read = records::read_rest(rest, chip.setup.part);
             let Read::Record { event, next } = read else {
-                note(out, n, entry_of(unanswered(number_of(read)), face));
-                n = n + 1;
-                at = at + passed(read, chip.setup.part, rest.len());
+                note(out, n, entry_of(answer_of(read), face));
+                n += 1;
+                at += passed(read, chip.setup.part, rest.len());
                 continue 'stream;
             };
             let open = fresh;
             fresh = false;
-            let mut answer = unanswered(number::DONE);
+            let mut answer = Ok(None);
             match work_of(chip.normal, event) {
                 Work::Scans => {
                     chip = chip.scanned(counted(chip.setup.part, event, rest, next));
@@ -309,35 +223,32 @@ pub fn run_from(mut chip: Chip, mut fresh: bool, s: &[u8], out: &mut [u8]) -> Le
                 }
                 Work::Ticks(value) => {
                     let judged = chip.sensed(value);
-                    let runs = judged.runs;
-                    chip.runs = runs;
-                    if judged.risen.scd | judged.risen.ocd {
+                    chip.runs = judged.runs;
+                    if judged.risen.scd || judged.risen.ocd {
                         chip = chip.raised(judged.risen);
                         face = face_of(chip);
                     }
                 }
                 Work::Hears(signal) => {
                     let heard = chip.heard(signal);
-                    let bus = heard.bus;
-                    chip.bus = bus;
-                    answer = answer_heard(heard);
-                    let store = heard.store;
-                    if let Store::At(place, value) = store {
-                        chip = chip.wrote(place, value);
+                    chip.bus = heard.bus;
+                    answer = Ok(heard.byte);
+                    if let Some(write) = heard.store {
+                        chip = chip.wrote(write.at, write.value);
                         face = face_of(chip);
                     }
                 }
                 Work::Other => {
                     let step = act(chip, open, event, rest, next);
-                    fresh = (chip.setup.part == 0) | (open & (step.number != number::DONE));
+                    fresh = stays_fresh(open, chip.setup.part, step.answer);
                     chip = step.chip;
-                    answer = answer_of(step);
+                    answer = step.answer;
                     face = face_of(chip);
                 }
             }
             note(out, n, entry_of(answer, face));
-            n = n + 1;
-            at = at + next;
+            n += 1;
+            at += next;
         }
     }
     Left { chip, fresh }

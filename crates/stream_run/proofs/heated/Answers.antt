@@ -10,8 +10,8 @@ use Rattle.stream_run.proofs.Steps.{in_sleep}
 use Rattle.stream_run.proofs.heated.Goals as goal
 
 pub returns-then-not-chip : goal.returns-then-not-chip
-returns-then-not-chip c = in_sleep (Temp _) c.args.chip (not-true _ c.if-not-chip.true) c.numbered.ensures
+returns-then-not-chip c = in_sleep (Temp _) c.args.chip (not-true _ c.if-not-chip.true) c.refused.ensures
 
 pub returns : goal.returns
 returns c = let e = Temp (take (groups c.args.chip.setup) c.args.counts) in
-    in_normal e c.args.chip (not-false _ c.if-not-chip.false) (c.numbered-2.ensures ∙ ap (numbered 0) c.warmed.ensures ∙ sym (settles (normally e c.args.chip) c.requires))
+    in_normal e c.args.chip (not-false _ c.if-not-chip.false) (c.done.ensures ∙ ap (numbered 0) c.warmed.ensures ∙ sym (settles (normally e c.args.chip) c.requires))

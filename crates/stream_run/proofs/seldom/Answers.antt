@@ -1,6 +1,7 @@
 -- What happens to a chip in SHIP, or seldom, by its case.
 use Rattle.std.proofs.Common.{refl}
-use Rattle.events.specs.Event.{Count, Pin, Load, Xready}
+use Rattle.std.proofs.Math.Logic.{⊎_elim}
+use Rattle.events.specs.Event.{Count, Pin, Load, Xready, Scan as Scanned, Sense as Sensed}
 use Rattle.registers.specs.State.{with_load_level}
 use Rattle.registers.specs.Judging.{coulombs, pulled, unready}
 use Rattle.registers.specs.LevelLaws.{pulled_calm, unready_calm, coulombs_calm}
@@ -11,13 +12,14 @@ pub returns-in-Boot : goal.returns-in-Boot
 returns-in-Boot c = as_event c.args.counts c.args.chip c.in-Boot.is (boots c.args.chip c.requires.calmed c.roused.ensures)
 
 pub returns-in-Scan : goal.returns-in-Scan
-returns-in-Scan c = as_event c.args.counts c.args.chip c.in-Scan.is (in_sleep _ c.args.chip (sleeping c.args.chip c.args.event _ c.requires.event_value c.in-Scan.is refl) c.numbered-in-Scan.ensures)
+returns-in-Scan c =
+    ⊎_elim
+    (λ h. as_event c.args.counts c.args.chip h (in_sleep (Scanned _) c.args.chip (sleeping c.args.chip c.args.event _ c.requires.event_value h refl) c.refused-in-Scan.ensures))
+    (λ p. as_event c.args.counts c.args.chip p.1 (in_sleep (Sensed p.0) c.args.chip (sleeping c.args.chip c.args.event _ c.requires.event_value p.1 refl) c.refused-in-Scan.ensures))
+    c.in-Scan.is
 
 pub returns-in-Count : goal.returns-in-Count
 returns-in-Count c = let n = c.in-Count.cc in as_event c.args.counts c.args.chip c.in-Count.is (moves (Count n) c.args.chip (coulombs n c.args.chip.registers) refl refl (coulombs_calm n c.args.chip.registers c.requires.calmed) (moved_to c.args.chip c.coulombs.ensures c.registers_moved.ensures))
-
-pub returns-in-Sense : goal.returns-in-Sense
-returns-in-Sense c = as_event c.args.counts c.args.chip c.in-Sense.is (in_sleep _ c.args.chip (sleeping c.args.chip c.args.event _ c.requires.event_value c.in-Sense.is refl) c.numbered-in-Sense.ensures)
 
 pub returns-in-Pin : goal.returns-in-Pin
 returns-in-Pin c = as_event c.args.counts c.args.chip c.in-Pin.is (moves Pin c.args.chip (pulled c.args.chip.registers) refl refl (pulled_calm c.args.chip.registers) (moved_to c.args.chip c.pulled.ensures c.registers_moved-in-Pin.ensures))
