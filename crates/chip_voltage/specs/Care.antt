@@ -9,13 +9,6 @@ use Rattle.bleed.specs.Excess.{proposed}
 use Rattle.smart_battery.specs.declared.Pack.{Pack}
 use Rattle.chip.specs.declared.Chip.{Chip}
 use Rattle.chip_voltage.specs.Voltage.{linked_counts}
-use Rattle.chip_voltage.specs.declared.services.Proposal.{Proposal}
-use Rattle.chip_voltage.specs.declared.services.Proposal.TheVariants.{Is, No}
-
--- what each answer says
-abbrev pub said_proposal : Proposal → Said Choice
-said_proposal (Is c) = gives c
-said_proposal (No n) = refuses n
 
 -- the counts now in the cell registers, and the inputs that have a cell connected (CHIP W7)
 abbrev pub cells_of : Chip → List ℕ

@@ -1,15 +1,15 @@
 -- CHIP E2 is by CHIP W7: of a chip, the bit of an input is up exactly where the part has the input and it is
 -- connected. Inputs are counted from 0, as bleed has them. Assumes nothing.
-use Rattle.std.specs.Prelude.{◌≡◌, refl, Bool, true, false, ◌&&◌, cond, List, [], ◌∷◌, ℕ, zero, suc, ◌+◌, ◌*◌, ◌/◌, ◌%◌, ◌^◌, ◌<◌, eqb, leb}
-use Rattle.std.specs.Prelude.{ltb, length, get_or}
-use Rattle.std.proofs.Common.{sym, ap, ap₂, ◌∙◌, mul-one, mul_assoc, arith, eqb-true, lt-ltb, le-ltb}
+use Rattle.std.specs.Prelude.{◌≡◌, Bool, true, false, ◌&&◌, cond, ℕ, zero, suc, ◌+◌, ◌*◌, ◌/◌, ◌%◌, ◌^◌, ◌<◌, eqb, leb}
+use Rattle.std.specs.Prelude.{ltb, get_or}
+use Rattle.std.proofs.Common.{sym, ap, ap₂, ◌∙◌, arith, lt-ltb, le-ltb}
 use Rattle.std.proofs.Math.Nat.{div-div-eq-div-mul, pow-succ', zero-div}
 use Rattle.std.proofs.Math.Dec.{leb-suc-suc}
 use Rattle.events.specs.Setup.{inputs}
 use Rattle.bits.specs.Bit.{bit}
 use Rattle.wiring.specs.Rows.{bits, connected, linked_bits}
-use Rattle.bleed.proofs.BestLaws.{left_of, right_of}
-use Rattle.bleed.specs.Excess.{weights, linked_at, may_bleed}
+use Rattle.bleed.proofs.Excess.{weight_is}
+use Rattle.bleed.specs.Excess.{linked_at, may_bleed}
 use Rattle.chip.specs.declared.Chip.{Chip}
 use Rattle.chip_voltage.specs.Care.{cells_of, linked_of}
 
@@ -37,23 +37,6 @@ bit_is such j (suc k) (suc i) =
     let e : i + suc j ≡ suc i + j = omega arith in
     higher_bit (such j) (bits such (suc j) k) i ∙ bit_is such (suc j) k i
     ∙ ap₂ (λ (t : Bool) (n : ℕ). t && such n) (sym (leb-suc-suc (suc i) k)) e
-
--- ── the weights are the powers of two ──
-doubles : ℕ → List ℕ → Bool
-doubles w [] = true
-doubles w (v ∷ vs) = eqb v w && doubles (w * 2) vs
-
-weight : (vs : List ℕ) (w i : ℕ) → doubles w vs ≡ true → i < length vs → get_or vs i 0 ≡ w * 2 ^ i
-unfolding doubles
-weight [] w i e h = absurd (omega arith)
-weight (v ∷ vs) w zero e h = eqb-true v w (left_of (eqb v w) (doubles (w * 2) vs) e) ∙ sym (mul-one w)
-weight (v ∷ vs) w (suc i) e h =
-    weight vs (w * 2) i (right_of (eqb v w) (doubles (w * 2) vs) e) (omega arith)
-    ∙ mul_assoc w 2 (2 ^ i) ∙ ap (λ (x : ℕ). w * x) (sym (pow-succ' 2 i))
-
-weight_is : (i : ℕ) → i < 15 → get_or weights i 0 ≡ 2 ^ i
-unfolding doubles
-weight_is i h = let e : 1 * 2 ^ i ≡ 2 ^ i = omega arith in weight weights 1 i refl h ∙ e
 
 -- ── of a chip ──
 pub linked_is : (c : Chip) (i : ℕ) → i < 15

@@ -18,32 +18,12 @@ use Rattle.bleed.specs.declared.Choice.{Choice}
 use Rattle.bleed.specs.Choice.{excess_in, near, low, may_in, chosen, allowed, total}
 use Rattle.bleed.proofs.BestLaws.{Best as BleedBest, chosen_best, right_of}
 use Rattle.bleed.specs.Excess.{linked_at, lowest, may_bleed, excess_at, excesses_over, excesses, proposed}
+use Rattle.bleed.proofs.Excess.{fifteen}
 use Rattle.bleed.proofs.ReadingsLaws.{Has, lowest_below_lem, lowest_is, none_zero}
 use Rattle.chip.specs.declared.Chip.{Chip}
 use Rattle.chip_voltage.specs.Care.{cells_of, linked_of, proposal_said}
 use Rattle.chip_voltage.specs.ConnectedLaws.{linked_is, bled_is}
 use Rattle.chip_voltage.specs.Proposes.{names, sum_of, Allowed, Best, count_of, is_linked, Lowest, may_of, Proposes}
-
--- ── to know something of all fifteen inputs ──
-fifteen : (P : ℕ → Type 0) → P 0 → P 1 → P 2 → P 3 → P 4 → P 5 → P 6 → P 7 → P 8 → P 9 → P 10 → P 11 → P 12 → P 13 → P 14
-    → (i : ℕ) → i < 15 → P i
-fifteen P a b c d e f g h j k l m n o p zero z = a
-fifteen P a b c d e f g h j k l m n o p (suc zero) z = b
-fifteen P a b c d e f g h j k l m n o p (suc (suc zero)) z = c
-fifteen P a b c d e f g h j k l m n o p (suc (suc (suc zero))) z = d
-fifteen P a b c d e f g h j k l m n o p (suc (suc (suc (suc zero)))) z = e
-fifteen P a b c d e f g h j k l m n o p (suc (suc (suc (suc (suc zero))))) z = f
-fifteen P a b c d e f g h j k l m n o p (suc (suc (suc (suc (suc (suc zero)))))) z = g
-fifteen P a b c d e f g h j k l m n o p (suc (suc (suc (suc (suc (suc (suc zero))))))) z = h
-fifteen P a b c d e f g h j k l m n o p (suc (suc (suc (suc (suc (suc (suc (suc zero)))))))) z = j
-fifteen P a b c d e f g h j k l m n o p (suc (suc (suc (suc (suc (suc (suc (suc (suc zero))))))))) z = k
-fifteen P a b c d e f g h j k l m n o p (suc (suc (suc (suc (suc (suc (suc (suc (suc (suc zero)))))))))) z = l
-fifteen P a b c d e f g h j k l m n o p (suc (suc (suc (suc (suc (suc (suc (suc (suc (suc (suc zero))))))))))) z = m
-fifteen P a b c d e f g h j k l m n o p (suc (suc (suc (suc (suc (suc (suc (suc (suc (suc (suc (suc zero)))))))))))) z = n
-fifteen P a b c d e f g h j k l m n o p (suc (suc (suc (suc (suc (suc (suc (suc (suc (suc (suc (suc (suc zero))))))))))))) z = o
-fifteen P a b c d e f g h j k l m n o p (suc (suc (suc (suc (suc (suc (suc (suc (suc (suc (suc (suc (suc (suc zero)))))))))))))) z = p
-fifteen P a b c d e f g h j k l m n o p (suc (suc (suc (suc (suc (suc (suc (suc (suc (suc (suc (suc (suc (suc (suc i))))))))))))))) z =
-    absurd (omega (arith, z))
 
 -- ── Bools ──
 none_of_four : (a b c d : Bool) → (a || b || c || d) ≡ false → (a ≡ false) × (b ≡ false) × (c ≡ false) × (d ≡ false)

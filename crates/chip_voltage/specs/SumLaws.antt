@@ -1,8 +1,8 @@
 -- The reading's total is the sum of the voltages that the cells are asked for one by one. Assumes nothing.
-use Rattle.std.specs.Prelude.{◌≡◌, Bool, true, false, cond, List, [], ◌∷◌, ◌++◌, map, ℤ, pos, ◌+ℤ◌, length, get_or, take}
+use Rattle.std.specs.Prelude.{◌≡◌, Bool, true, false, cond, List, [], ◌∷◌, ◌++◌, map, ℤ, pos, ◌+ℤ◌, length, get_or, take, Ok}
 use Rattle.std.proofs.Math.Path.{refl}
 use Rattle.std.proofs.Common.{sym, ap, ap₂, subst, ◌∙◌, append-nil, arith, take-suc}
-use Prim.Native.Nat.{ℕ, zero, suc, ◌+◌, ◌-◌, ◌<◌, ◌≤◌}
+use Prim.Native.Nat.{ℕ, zero, suc, ◌-◌, ◌<◌, ◌≤◌}
 use Rattle.std.proofs.Math.Seq.{take-length}
 use Rattle.events.specs.declared.Setup.{Setup}
 use Rattle.wiring.specs.Rows.{wired_inputs, pack_cells, input_of, connected}
@@ -15,7 +15,6 @@ use Rattle.values.specs.declared.Reading.{Reading as ReadingValues}
 use Rattle.values.specs.Double.{IsDouble}
 use Rattle.values.specs.Forecast.{fold, total_of}
 use Rattle.chip.specs.declared.Chip.{Chip}
-use Rattle.chip_voltage.specs.declared.ForecastAnswer.TheVariants.{Is}
 use Rattle.chip_voltage.specs.Voltage.{linked_counts, voltage_said, Forecasts}
 use Rattle.chip_voltage.specs.VoltageLaws.{apart_said, cell_said_lem, cell_holds}
 
@@ -114,7 +113,7 @@ module _ (c : Chip) (on : c.normal ≡ true) where
       (sums (pack_cells u) (omega arith))
 
   -- so a reading's total is a double equal to that sum
-  pub reading_comes : (r : ReadingValues) → Forecasts c (Is r)
+  pub reading_comes : (r : ReadingValues) → Forecasts c (Ok r)
       → IsDouble r.total (total_of u.gain_code u.offset (length (linked_counts c)) (linked_counts c))
       × Comes c (pack_cells u) (total_of u.gain_code u.offset (length (linked_counts c)) (linked_counts c))
   reading_comes r f = (f.1.total, total_comes)

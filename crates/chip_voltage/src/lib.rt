@@ -2,84 +2,65 @@
 #![tactic(auto)]
 
 ghost use Rattle.std.specs.Prelude.{◌≡◌};
+ghost use Rattle.values.specs.Said.{said_voltage};
 ghost use Rattle.wiring.specs.Rows.{linked_bits};
-ghost use Rattle.chip_voltage.specs.Voltage.{said_cell, voltage_said, Forecasts};
+ghost use Rattle.chip_voltage.specs.Voltage.{awake, voltage_said, Forecasts};
 
 use chip::Chip;
+use constants::refusal::Refusal;
 use values::{Microvolts, RawCount, Reading};
 
 pub mod row;
 pub mod services;
 
-#[derive(Clone, Copy)]
-pub enum CellAnswer {
-    Is(Microvolts),
-    // Number 4.
-    Asleep,
-    // Number 6.
-    NoCell,
-    // Number 10.
-    NotConnected,
-}
-
-#[derive(Clone, Copy)]
-pub enum ForecastAnswer {
-    Is(Reading),
-    // Number 4.
-    Asleep,
-    // Number 10: no cell is connected.
-    NotConnected,
+// A sleeping chip refuses.
+fn awake(chip: Chip) -> Result<(), Refusal>
+    ensures { result ≡ awake chip }
+{
+    if !chip.normal {
+        return Err(Refusal::Asleep);
+    }
+    Ok(())
 }
 
 // The voltage of a cell of the pack, 1 to as many as it has: as the part has inputs where there is no wiring record.
-pub fn voltage(chip: Chip, cell: u8) -> CellAnswer
-    ensures { said_cell result ≡ voltage_said cell chip }
+#[tactic(auto, unfolding(crate::specs::Voltage::voltage_said))]
+pub fn voltage(chip: Chip, cell: u8) -> Result<Microvolts, Refusal>
+    ensures { said_voltage result ≡ voltage_said cell chip }
 {
-    if !chip.normal {
-        return CellAnswer::Asleep;
-    }
-    let cells = wiring::cells(chip.setup);
-    if (cell < 1) | (cells < cell) {
-        return CellAnswer::NoCell;
+    awake(chip)?;
+    if !(1..=wiring::cells(chip.setup)).contains(&cell) {
+        return Err(Refusal::NoCell);
     }
     let input = wiring::input_of(chip.setup, cell);
     let count = chip.registers.measured.cell(chip.setup, input - 1);
     if !wiring::converts(chip.setup, count) {
-        return CellAnswer::NotConnected;
+        return Err(Refusal::NotConnected);
     }
-    CellAnswer::Is(values::cell_microvolts(
-        chip.setup.gain_code,
-        chip.setup.offset,
-        RawCount(count),
-    ))
+    Ok(values::cell_microvolts(chip.setup.gain_code, chip.setup.offset, RawCount(count)))
 }
 
 // The connected inputs, input 1 the lowest bit, by the counts in the registers.
 pub fn linked(chip: Chip) -> u16
     ensures { result ≡ linked_bits chip.setup chip.registers.measured.cells }
 {
-    let cells = chip.registers.measured.cells;
-    wiring::linked(chip.setup, cells)
+    wiring::linked(chip.setup, chip.registers.measured.cells)
 }
 
 // Forecasting's reading, of the connected cells.
-pub fn forecast(chip: Chip) -> ForecastAnswer
+pub fn forecast(chip: Chip) -> Result<Reading, Refusal>
     ensures { Forecasts chip result }
 {
-    if !chip.normal {
-        return ForecastAnswer::Asleep;
-    }
-    let cells = chip.registers.measured.cells;
-    let pack = wiring::link(chip.setup, cells);
+    awake(chip)?;
+    let pack = wiring::link(chip.setup, chip.registers.measured.cells);
     if pack.many == 0 {
-        return ForecastAnswer::NotConnected;
+        return Err(Refusal::NotConnected);
     }
-    let counts = pack.of;
-    ForecastAnswer::Is(values::forecast(
+    Ok(values::forecast(
         chip.setup.gain_code,
         chip.setup.offset,
         pack.many,
-        counts,
+        pack.of,
         chip.registers.measured.cc,
     ))
 }

@@ -31,4 +31,6 @@ total_of k held looked h l =
 
 pub returns : goal.returns
 returns c = let k = c.args.chip in
-    c.microvolts_by.ensures ∙ total_of k c.link-held.result c.look-looked.result c.link-held.ensures c.look-looked.ensures
+    c.microvolts_by.ensures
+    ∙ ap (λ (n : ℕ). microvolts_by k.setup.gain_code k.setup.offset n c.look-looked.result.sum) c.from.ensures
+    ∙ total_of k c.link-held.result c.look-looked.result c.link-held.ensures c.look-looked.ensures
