@@ -12,8 +12,8 @@ use Rattle.events.specs.Event.{Event, Por, Boot, Pin, Xready, Scan, Temp, Count,
 use Rattle.bus.specs.declared.Phase.{Phase}
 use Rattle.bus.specs.declared.Phase.TheVariants.{Idle, Address, Pointing, Writing, Checking, Reading, Summing}
 use Rattle.bus.specs.declared.Line.{Line}
-use Rattle.bus.specs.declared.Store.{Store}
-use Rattle.bus.specs.declared.Store.TheVariants.{Nothing, At}
+use Rattle.bus.specs.Bus.{Store}
+use Rattle.std.specs.Prelude.{Some, None}
 use Rattle.bus.specs.Bus.{with_line, idle_bus, out_in, outed, addressed, fed, in_line, taken}
 use Rattle.settings.specs.Write.{ships}
 use Rattle.registers.specs.declared.Registers.{Registers}
@@ -62,12 +62,12 @@ in_bare u l (Summing k) nack = refl
 
 stored_bare : (l : Line) (t : Store) (c : Chip) → bared (stored l t c) ≡ bared (stored l t (bared c))
 unfolding stored_at cellbal_with groups
-stored_bare l Nothing c = refl
-stored_bare l (At a v) c = by (ships a v c.registers.settings)
+stored_bare l None c = refl
+stored_bare l (Some w) c = by (ships w.at w.value c.registers.settings)
   where
     by : (b : Bool)
-        → bared (cond b (in_ship c.setup) (accepted l a v c))
-        ≡ bared (cond b (in_ship (calibrated 0 0 c.setup)) (accepted l a v (bared c)))
+        → bared (cond b (in_ship c.setup) (accepted l w.at w.value c))
+        ≡ bared (cond b (in_ship (calibrated 0 0 c.setup)) (accepted l w.at w.value (bared c)))
     by true = refl
     by false = refl
 

@@ -9,8 +9,9 @@ use Rattle.std.proofs.Math.Logic.Iff
 use Rattle.events.specs.declared.Setup.{Setup}
 use Rattle.events.specs.declared.BusEvent.{BusEvent}
 use Rattle.events.specs.Event.{Event, Por, Boot, Pin, Xready, Scan, Temp, Count, Sense, Load, OnBus, Level, fits}
-use Rattle.events.specs.Fault.{Fault}
-use Rattle.limits.specs.Rule.{Rule, rule, opinion}
+use Rattle.events.specs.declared.Fault.{Fault}
+use Rattle.limits.specs.declared.Rule.{Rule}
+use Rattle.limits.specs.Rule.{rule, opinion}
 use Rattle.chip.specs.declared.Chip.{Chip}
 use Rattle.chip.specs.Chip.{in_ship, next}
 use Rattle.chip.specs.Core.{Core, core_of, bare, core_next}

@@ -7,7 +7,8 @@ use Rattle.std.proofs.Math.Logic.{◌∨₁◌}
 use Rattle.events.specs.declared.Setup.{Setup as SetupValues}
 use Rattle.events.specs.declared.Event.TheVariants.{Setup}
 use Rattle.events.specs.Event.{Event}
-use Rattle.events.specs.Fault.{Fault, Ov, Uv, Scd, Ocd}
+use Rattle.events.specs.declared.Fault.{Fault}
+use Rattle.events.specs.declared.Fault.TheVariants.{Ov, Uv, Scd, Ocd}
 use Rattle.bits.specs.Bit.{bit, weighed}
 use Rattle.records.specs.declared.Read.TheVariants.{Record}
 use Rattle.records.specs.Record.{read_of}

@@ -7,7 +7,7 @@ use mathlib.Core.List.{List, [], ◌∷◌}
 use Rattle.std.proofs.Math.Logic.{◌∨₁◌}
 use Rattle.events.specs.declared.Setup.{Setup}
 use Rattle.events.specs.Event.{Event}
-use Rattle.events.specs.Fault.{Fault}
+use Rattle.events.specs.declared.Fault.{Fault}
 use Rattle.registers.specs.Fault.{bit_of}
 use Rattle.demands.specs.Demand.{judges, wrote, clears, chip, up, Accepted, core, Due}
 use Rattle.demands.proofs.Aside.{is_done, refuses}

@@ -1,7 +1,7 @@
 -- CHIP H8 of the bytes: drop the records of spoiled writes from a stream, and the entries of what is left are the entries that those
 -- records had in the full stream; and after each of them the chip is the same but for the bus's phase: registers, pointer, runs and outside
 -- level. Assumes nothing.
-use Rattle.std.specs.Prelude.{◌≡◌, Bool, not, cond, ◌||◌, ◌&&◌, ◌≢◌, ℕ, zero, suc, ◌+◌, ◌-◌, ltb, length, drop}
+use Rattle.std.specs.Prelude.{◌≡◌, Bool, not, cond, ◌||◌, ◌&&◌, ◌≢◌, ℕ, zero, suc, ◌-◌, ltb, length, drop}
 use Rattle.std.proofs.Math.Path.{refl, ap, ap₂, subst}
 use Rattle.std.proofs.Common.{sym, ◌∙◌, arith}
 use Rattle.std.proofs.Math.Bool.{true, false}
@@ -25,7 +25,7 @@ use Rattle.registers.specs.Write.{shown_with, cellbal_with}
 use Rattle.limits.specs.Rule.{rule, over, under}
 use Rattle.bus.specs.declared.Phase.TheVariants.{Idle}
 use Rattle.chip.specs.declared.Chip.{Chip}
-use Rattle.chip.specs.declared.Stepped.{Stepped}
+use Rattle.chip.specs.Answer.{Stepped}
 use Rattle.chip.specs.Chip.{in_ship, stored_at, happened, stepped}
 use Rattle.chip.proofs.Calm.{ship_calm}
 use Rattle.turn.specs.declared.Entry.{Entry}

@@ -25,13 +25,14 @@ use Rattle.bus.specs.declared.Phase.{Phase}
 use Rattle.bus.specs.declared.Phase.TheVariants.{Idle, Address, Writing, Checking}
 use Rattle.bus.specs.Bus.{outed, taken, byte_given, owing}
 use Rattle.wiring.specs.Rows.{has_row, wired_with}
-use Rattle.wiring.specs.declared.Wiring.TheVariants.{With, NoRow}
+use Rattle.std.specs.Prelude.{Ok, Err}
+use Rattle.constants.specs.declared.refusal.Refusal.TheVariants.{NoRow}
 use Rattle.records.specs.declared.Read.{Read}
 use Rattle.records.specs.declared.Read.TheVariants.{Record, Refused, Cut}
 use Rattle.records.specs.Record.{read_of, counts_in, counts_beside}
 use Rattle.bits.specs.BoolLaws.{and_left, and_right}
 use Rattle.chip.specs.declared.Chip.{Chip}
-use Rattle.chip.specs.declared.Stepped.{Stepped}
+use Rattle.chip.specs.Answer.{Stepped}
 use Rattle.chip.specs.Chip.{numbered, answered, in_ship, on_bus, settled, normally, asleep, happened, stepped, next, ticking, stepped_as}
 use Rattle.chip.specs.Calm.{Calmed}
 use Rattle.chip.proofs.Calm.{ship_calm}
@@ -164,8 +165,8 @@ abbrev pub Still : Bool → Chip → Type 0
 Still o c = o ≡ true → c.normal ≡ false
 
 wires_still : (o t : Bool) (u : SetupValues) (c : Chip)
-    → ((cond o (wired_as (cond t (With u) NoRow) c) (numbered 2 c)).number ≡ 0 → ⊥)
-    → (cond o (wired_as (cond t (With u) NoRow) c) (numbered 2 c)).chip ≡ c
+    → ((cond o (wired_as (cond t (Ok u) (Err NoRow)) c) (numbered 2 c)).number ≡ 0 → ⊥)
+    → (cond o (wired_as (cond t (Ok u) (Err NoRow)) c) (numbered 2 c)).chip ≡ c
 wires_still true true u c h = absurd (h refl)
 wires_still true false u c h = refl
 wires_still false t u c h = refl

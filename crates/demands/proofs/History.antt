@@ -8,7 +8,7 @@ use Prim.Native.Nat.{min}
 use Rattle.std.proofs.Math.Nat.{min-zero}
 use Rattle.events.specs.declared.Setup.{Setup}
 use Rattle.events.specs.Event.{Event, fits}
-use Rattle.events.specs.Fault.{Fault}
+use Rattle.events.specs.declared.Fault.{Fault}
 use Rattle.protection.specs.Streak.{last_all, streak}
 use Rattle.protection.specs.Fault.{run_of}
 use Rattle.limits.specs.Rule.{cap, rule, opinion}

@@ -10,11 +10,13 @@ use Rattle.events.specs.declared.Setup.{Setup}
 use Rattle.events.specs.declared.BusEvent.{BusEvent}
 use Rattle.events.specs.declared.BusEvent.TheVariants.{Start, Stop, Out, In}
 use Rattle.events.specs.Event.{Event, Por, Boot, Pin, Xready, Scan, Temp, Count, Sense, Load, OnBus, Level}
-use Rattle.events.specs.Fault.{Fault, Ov, Uv, Scd, Ocd}
+use Rattle.events.specs.declared.Fault.{Fault}
+use Rattle.events.specs.declared.Fault.TheVariants.{Ov, Uv, Scd, Ocd}
 use Rattle.bits.specs.Bit.{bit}
-use Rattle.bus.specs.declared.Store.{Store}
+use Rattle.bus.specs.Bus.{Store}
 use Rattle.bus.specs.declared.Outed.{Outed}
-use Rattle.bus.specs.declared.Store.TheVariants.{Nothing, At}
+use Rattle.bus.specs.Bus.{At}
+use Rattle.std.specs.Prelude.{Some, None}
 use Rattle.bus.specs.Bus.{outed}
 use Rattle.registers.specs.declared.Status.{Status}
 use Rattle.registers.specs.declared.Shown.{Shown}
@@ -43,8 +45,8 @@ bit_at (fault_bit k) t = bit_of k t
 
 -- a one written to the bit
 abbrev pub clears_at : StatusBit → Store → Bool
-clears_at b Nothing = false
-clears_at b (At a v) = eqb a 0x00 && bit_at b (status_of v)
+clears_at b None = false
+clears_at b (Some w) = eqb w.at 0x00 && bit_at b (status_of w.value)
 
 -- ── what the latch asks of one event: as in Latch, of any bit; `hld`: the outside level may hold it up ──
 pub record Latched (clr hld on u d u' d' : Bool) : Type 0 where
@@ -95,7 +97,7 @@ thinner true false false true false h = refl
 thinner true false false false true h = refl
 thinner true false false false false h = refl
 
-raises : {b : StatusBit} → Other b → (l on : Bool) (r : Fault → Bool) (s : Shown) → Latching b Nothing l on s (raised r s)
+raises : {b : StatusBit} → Other b → (l on : Bool) (r : Fault → Bool) (s : Shown) → Latching b None l on s (raised r s)
 unfolding Latching
 raises ready l on r s = kept refl refl (λ x. x)
 raises xready l on r s =
@@ -105,7 +107,7 @@ raises ovrd l on r s =
 
 -- PIN, XREADY and COUNT
 puts_off : {b : StatusBit} → Other b → (l on : Bool) (s : Shown)
-    → Latching b Nothing l on s (overridden s) × Latching b Nothing l on s (readied s) × Latching b Nothing l on s (counting s)
+    → Latching b None l on s (overridden s) × Latching b None l on s (readied s) × Latching b None l on s (counting s)
 unfolding Latching
 puts_off ready l on s = (kept refl refl (λ x. x), kept refl refl (λ x. x), rose refl refl refl)
 puts_off xready l on s = (kept refl refl (λ x. and-false s.status.xready), rose refl refl refl, kept refl refl (λ x. x))
@@ -183,7 +185,7 @@ module _ {b : StatusBit} (other : Other b) where
   stays_as w c n = same b w c.registers.outside_level c.normal c.registers.shown n
 
   judged_keeps : (e : Event) (c : Chip)
-      → Latching b Nothing c.registers.outside_level c.normal c.registers.shown
+      → Latching b None c.registers.outside_level c.normal c.registers.shown
       (raised (risen c.setup.floor c.registers.settings c.runs e) c.registers.shown)
   judged_keeps e c =
       raises other c.registers.outside_level c.normal (risen c.setup.floor c.registers.settings c.runs e)
@@ -202,33 +204,33 @@ module _ {b : StatusBit} (other : Other b) where
       (sym t) (writes other x v c.registers.outside_level c.normal c.registers.shown))
 
   bus_keeps : (e : BusEvent) (c : Chip) → c.normal ≡ true → Holds b (OnBus e) c (on_bus e c).chip
-  bus_keeps Start c a = stays_as Nothing c refl
-  bus_keeps Stop c a = stays_as Nothing c refl
+  bus_keeps Start c a = stays_as None c refl
+  bus_keeps Stop c a = stays_as None c refl
   bus_keeps (Out v) c a =
       let o : Outed = outed c.setup c.bus.line v in
       subst (λ w. Latching b w (stored o.line o.store c).registers.outside_level (stored o.line o.store c).normal
-      c.registers.shown (stored o.line o.store c).registers.shown) (sym (when_true c.normal o.store Nothing a))
+      c.registers.shown (stored o.line o.store c).registers.shown) (sym (when_true c.normal o.store None a))
       (store_keeps c o)
-  bus_keeps (In nack) c a = stays_as Nothing c refl
+  bus_keeps (In nack) c a = stays_as None c refl
 
   normal_keeps : (e : Event) (c : Chip) → c.normal ≡ true → Holds b e c (normally e c).chip
-  normal_keeps Por c a = darkens other Nothing false c.registers.shown
-  normal_keeps Boot c a = stays_as Nothing c refl
+  normal_keeps Por c a = darkens other None false c.registers.shown
+  normal_keeps Boot c a = stays_as None c refl
   normal_keeps Pin c a =
-      by_cond (Latching b Nothing c.registers.outside_level c.normal c.registers.shown) (alert c.registers.shown.status)
+      by_cond (Latching b None c.registers.outside_level c.normal c.registers.shown) (alert c.registers.shown.status)
       c.registers.shown (overridden c.registers.shown)
-      (λ h. stays_as Nothing c refl) (λ h. (puts_off other c.registers.outside_level c.normal c.registers.shown).0)
+      (λ h. stays_as None c refl) (λ h. (puts_off other c.registers.outside_level c.normal c.registers.shown).0)
   normal_keeps Xready c a = (puts_off other c.registers.outside_level c.normal c.registers.shown).1
   normal_keeps (Scan xs) c a = judged_keeps (Scan xs) c
-  normal_keeps (Temp xs) c a = stays_as Nothing c refl
+  normal_keeps (Temp xs) c a = stays_as None c refl
   normal_keeps (Count n) c a =
-      by_cond (Latching b Nothing c.registers.outside_level c.normal c.registers.shown)
+      by_cond (Latching b None c.registers.outside_level c.normal c.registers.shown)
       (c.registers.settings.cc_en || c.registers.shown.cc_oneshot) (counting c.registers.shown) c.registers.shown
-      (λ h. (puts_off other c.registers.outside_level c.normal c.registers.shown).2) (λ h. stays_as Nothing c refl)
+      (λ h. (puts_off other c.registers.outside_level c.normal c.registers.shown).2) (λ h. stays_as None c refl)
   normal_keeps (Sense v) c a = judged_keeps (Sense v) c
-  normal_keeps (Load l) c a = stays_as Nothing c refl
+  normal_keeps (Load l) c a = stays_as None c refl
   normal_keeps (OnBus e) c a = bus_keeps e c a
-  normal_keeps (Level l) c a = same b Nothing l c.normal c.registers.shown refl
+  normal_keeps (Level l) c a = same b None l c.normal c.registers.shown refl
 
   other_keeps : (e : Event) (c : Chip) → Holds b e c (next e c)
   other_keeps e c =
@@ -244,8 +246,8 @@ module _ {b : StatusBit} (other : Other b) where
 
 -- the four faults' bits, by Latch
 same_clears : (k : Fault) (w : Store) → clears_at (fault_bit k) w ≡ clears k w
-same_clears k Nothing = refl
-same_clears k (At a v) = refl
+same_clears k None = refl
+same_clears k (Some w) = refl
 
 fault_keeps : (k : Fault) (e : Event) (c : Chip) → Holds (fault_bit k) e c (next e c)
 unfolding Latching Keeps

@@ -10,8 +10,8 @@ use Rattle.events.specs.declared.Setup.{Setup}
 use Rattle.events.specs.declared.BusEvent.{BusEvent}
 use Rattle.events.specs.declared.BusEvent.TheVariants.{Start, Stop, Out, In}
 use Rattle.events.specs.Event.{Event, Por, Boot, Pin, Xready, Scan, Temp, Count, Sense, Load, OnBus, Level, fits}
-use Rattle.bus.specs.declared.Store.{Store}
-use Rattle.bus.specs.declared.Store.TheVariants.{Nothing, At}
+use Rattle.bus.specs.Bus.{Store, At}
+use Rattle.std.specs.Prelude.{None}
 use Rattle.bus.specs.Bus.{outed}
 use Rattle.registers.specs.declared.Status.{Status}
 use Rattle.registers.specs.declared.Shown.{Shown}
@@ -21,7 +21,7 @@ use Rattle.registers.specs.Write.{status_of, without, driven, shown_with}
 use Rattle.registers.specs.Fault.{overridden, counting}
 use Rattle.registers.specs.Judging.{pulled_at}
 use Rattle.chip.specs.declared.Chip.{Chip}
-use Rattle.chip.specs.declared.Stepped.{Stepped}
+use Rattle.chip.specs.Answer.{Stepped}
 use Rattle.chip.specs.Chip.{with_normal, stored_at, stored, on_bus, watched, normally, next}
 use Rattle.chip.specs.Core.{core_of}
 use Rattle.chip.proofs.MovesLaws.{normal_is, next_by, stored_by, asleep_by}
@@ -253,7 +253,7 @@ module _ (u : Setup) where
       of_chip : wrote (chip u past).setup (core_of (chip u past)) (OnBus (Out b)) ≡ At 0x00 v
       of_chip = (λ i. wrote (setup_is u past i) (core_is u past i) (OnBus (Out b))) ∙ w
 
-      by : (a : Bool) (t : Store) → cond a t Nothing ≡ At 0x00 v → (a ≡ true) × (t ≡ At 0x00 v)
+      by : (a : Bool) (t : Store) → cond a t None ≡ At 0x00 v → (a ≡ true) × (t ≡ At 0x00 v)
       by true t h = (refl, h)
       by false t h = (cc, cc)
 

@@ -10,8 +10,8 @@ use Rattle.events.specs.declared.BusEvent.{BusEvent}
 use Rattle.events.specs.declared.BusEvent.TheVariants.{Start, Stop, Out, In}
 use Rattle.events.specs.Setup.{groups}
 use Rattle.events.specs.Event.{Event, Por, Boot, Pin, Xready, Scan, Temp, Count, Sense, Load, OnBus, Level, fits}
-use Rattle.bus.specs.declared.Store.{Store}
-use Rattle.bus.specs.declared.Store.TheVariants.{Nothing, At}
+use Rattle.bus.specs.Bus.{Store, At}
+use Rattle.std.specs.Prelude.{None}
 use Rattle.bus.specs.declared.Outed.{Outed}
 use Rattle.bus.specs.Bus.{outed}
 use Rattle.cell_counts.specs.Scan.{total, padded}
@@ -120,7 +120,7 @@ module _ (c : Chip) where
   bus_by Start a = awakes _ _ c.normal a refl
   bus_by Stop a = awakes _ _ c.normal a refl
   bus_by (Out b) a =
-      subst (λ w. By (OnBus (Out b)) w (on_bus (Out b) c).chip) (sym (when_true c.normal o.store Nothing a))
+      subst (λ w. By (OnBus (Out b)) w (on_bus (Out b) c).chip) (sym (when_true c.normal o.store None a))
       (stored_by (By (OnBus (Out b)) o.store) o.line o.store c
       (λ t. awakes _ _ c.normal a
       (sym (ap (λ w. moved c.setup (OnBus (Out b)) w c.registers.shown.cc_oneshot c.registers) t)))
@@ -166,7 +166,7 @@ module _ (c : Chip) where
   normal_by (Level l) f a = awakes _ _ c.normal a (rw f refl)
 
   -- an event out of range, or one that the chip does not hear, moves nothing
-  unmoved : (e : Event) (w : Store) → w ≡ Nothing → fits e ≡ false
+  unmoved : (e : Event) (w : Store) → w ≡ None → fits e ≡ false
       → moved c.setup e w c.registers.shown.cc_oneshot c.registers ≡ with_shown dark c.registers
   unmoved e w n f = ap (λ t. moved c.setup e t c.registers.shown.cc_oneshot c.registers) n ∙ simp (f, and-false)
 

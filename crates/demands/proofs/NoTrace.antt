@@ -10,7 +10,7 @@ use Rattle.events.specs.Event.{Event, Por, Boot, Pin, Xready, Scan, Temp, Count,
 use Rattle.bus.specs.declared.Phase.TheVariants.{Idle, Address, Writing, Checking}
 use Rattle.bus.specs.Bus.{checked, outed, taken, byte_given, owing, refuses, stores}
 use Rattle.chip.specs.declared.Chip.{Chip}
-use Rattle.chip.specs.declared.Stepped.{Stepped}
+use Rattle.chip.specs.Answer.{Stepped}
 use Rattle.chip.specs.Chip.{numbered, answered, in_ship, sent, on_bus, settled, stepped, next}
 use Rattle.chip.specs.Calm.{Calmed}
 use Rattle.chip.proofs.Calm.{ship_calm, calm_next, settles}

@@ -7,7 +7,7 @@ use Rattle.std.specs.Int.Signed.{lt_z}
 use Rattle.events.specs.declared.Setup.{Setup}
 use Rattle.events.specs.Event.{Event, Scan, Sense, fits, sense_fits}
 use Rattle.bits.specs.Numbers.{within}
-use Rattle.events.specs.Fault.{Ov, Uv, Scd, Ocd}
+use Rattle.events.specs.declared.Fault.TheVariants.{Ov, Uv, Scd, Ocd}
 use Rattle.bits.specs.Bit.{bit}
 use Rattle.cell_counts.specs.Scan.{some_above, some_between}
 use Rattle.limits.specs.Rule.{rule, over, under, beyond, scd_limit, ocd_limit}

@@ -7,9 +7,9 @@ use Rattle.events.specs.declared.Setup.{Setup}
 use Rattle.events.specs.declared.BusEvent.{BusEvent}
 use Rattle.events.specs.declared.BusEvent.TheVariants.{Start, Stop, Out, In}
 use Rattle.events.specs.Event.{Event, Por, Boot, Pin, Xready, Scan, Temp, Count, Sense, Load, OnBus, Level, fits}
-use Rattle.events.specs.Fault.{Fault}
-use Rattle.bus.specs.declared.Store.{Store}
-use Rattle.bus.specs.declared.Store.TheVariants.{Nothing, At}
+use Rattle.events.specs.declared.Fault.{Fault}
+use Rattle.bus.specs.Bus.{Store, At}
+use Rattle.std.specs.Prelude.{None}
 use Rattle.bus.specs.declared.Outed.{Outed}
 use Rattle.bus.specs.Bus.{outed}
 use Rattle.registers.specs.declared.Shown.{Shown}
@@ -42,21 +42,21 @@ write_heard a v b en s = by (eqb a 0) (eqb a 5) refl refl
     by false false i j = simp (i, j, and-true)
 
 -- PIN, XREADY, COUNT, and what judges
-pin_heard : (f en : Bool) (s : Shown) → fits Pin ≡ true → pulled_at true s ≡ heard Pin Nothing en (λ k. false) s
+pin_heard : (f en : Bool) (s : Shown) → fits Pin ≡ true → pulled_at true s ≡ heard Pin None en (λ k. false) s
 pin_heard f en s h = by (alert s.status) refl
   where
-    by : (t : Bool) → alert s.status ≡ t → pulled_at true s ≡ heard Pin Nothing en (λ k. false) s
+    by : (t : Bool) → alert s.status ≡ t → pulled_at true s ≡ heard Pin None en (λ k. false) s
     by true e = simp (h, e, and-true)
     by false e = simp (h, e, and-true)
 
-xready_heard : (en : Bool) (s : Shown) → fits Xready ≡ true → readied s ≡ heard Xready Nothing en (λ k. false) s
+xready_heard : (en : Bool) (s : Shown) → fits Xready ≡ true → readied s ≡ heard Xready None en (λ k. false) s
 xready_heard en s h = simp (h, and-true)
 
 count_heard : (n : ℕ) (en : Bool) (s : Shown) → fits (Count n) ≡ true
-    → cond (en || s.cc_oneshot) (counting s) s ≡ heard (Count n) Nothing en (λ k. false) s
+    → cond (en || s.cc_oneshot) (counting s) s ≡ heard (Count n) None en (λ k. false) s
 count_heard n en s h = by en s.cc_oneshot refl
   where
-    by : (c t : Bool) → s.cc_oneshot ≡ t → cond (c || s.cc_oneshot) (counting s) s ≡ heard (Count n) Nothing c (λ k. false) s
+    by : (c t : Bool) → s.cc_oneshot ≡ t → cond (c || s.cc_oneshot) (counting s) s ≡ heard (Count n) None c (λ k. false) s
     by true t e = simp (h, and-true)
     by false true e = simp (h, e, and-true)
     by false false e =
@@ -64,7 +64,7 @@ count_heard n en s h = by en s.cc_oneshot refl
         (ap (λ (t : Bool). record { status = s.status; cc_oneshot = t; dsg_on = s.dsg_on; chg_on = s.chg_on }) e)
 
 judged_heard : (e : Event) (en : Bool) (r : Fault → Bool) (s : Shown) → is 0x05 e ≡ false → is 0x07 e ≡ false → is 0x09 e ≡ false
-    → raised r s ≡ heard e Nothing en r s
+    → raised r s ≡ heard e None en r s
 judged_heard e en r s five seven nine = simp (five, seven, nine, and-true)
 
 -- the level looked at once more does nothing where it has been looked at
@@ -95,15 +95,15 @@ module _ (c : Chip) where
   awake_shows e w s a h = h ∙ sym (when_true c.normal (hears e w) dark a)
 
   plain : (e : Event) → c.normal ≡ true → is 0x05 e ≡ false → is 0x07 e ≡ false → is 0x09 e ≡ false → ((k : Fault) → rises e k ≡ false)
-      → c.registers.shown ≡ cond c.normal (hears e Nothing) dark
-  plain e a five seven nine none = awake_shows e Nothing c.registers.shown a (simp (five, seven, nine, none, and-true))
+      → c.registers.shown ≡ cond c.normal (hears e None) dark
+  plain e a five seven nine none = awake_shows e None c.registers.shown a (simp (five, seven, nine, none, and-true))
 
   bus_shows : (b : BusEvent) → fits (OnBus b) ≡ true → c.normal ≡ true
       → Shows (OnBus b) (wrote c.setup (core_of c) (OnBus b)) (on_bus b c).chip
   bus_shows Start f a = plain (OnBus Start) a refl refl refl (λ k. simp f)
   bus_shows Stop f a = plain (OnBus Stop) a refl refl refl (λ k. simp f)
   bus_shows (Out b) f a =
-      subst (λ w. Shows (OnBus (Out b)) w (on_bus (Out b) c).chip) (sym (when_true c.normal o.store Nothing a))
+      subst (λ w. Shows (OnBus (Out b)) w (on_bus (Out b) c).chip) (sym (when_true c.normal o.store None a))
       (stored_by (Shows (OnBus (Out b)) o.store) o.line o.store c
       (λ t. plain (OnBus (Out b)) a refl refl refl (λ k. simp f) ∙ ap (λ w. cond c.normal (hears (OnBus (Out b)) w) dark) (sym t))
       (λ x y t h. refl)
@@ -118,18 +118,18 @@ module _ (c : Chip) where
   normal_shows : (e : Event) → fits e ≡ true → c.normal ≡ true → Shows e (wrote c.setup (core_of c) e) (normally e c).chip
   normal_shows Por f a = refl
   normal_shows Boot f a = plain Boot a refl refl refl (λ k. simp f)
-  normal_shows Pin f a = awake_shows Pin Nothing _ a (pin_heard true c.registers.settings.cc_en c.registers.shown f ∙ (simp f))
+  normal_shows Pin f a = awake_shows Pin None _ a (pin_heard true c.registers.settings.cc_en c.registers.shown f ∙ (simp f))
   normal_shows Xready f a =
-      awake_shows Xready Nothing _ a (xready_heard c.registers.settings.cc_en c.registers.shown f ∙ (simp f))
+      awake_shows Xready None _ a (xready_heard c.registers.settings.cc_en c.registers.shown f ∙ (simp f))
   normal_shows (Scan xs) f a =
-      awake_shows (Scan xs) Nothing _ a
+      awake_shows (Scan xs) None _ a
       (judged_heard (Scan xs) c.registers.settings.cc_en (risen c.setup.floor c.registers.settings c.runs (Scan xs))
       c.registers.shown refl refl refl ∙ (simp f))
   normal_shows (Temp xs) f a = plain (Temp xs) a refl refl refl (λ k. simp f)
   normal_shows (Count n) f a =
-      awake_shows (Count n) Nothing _ a (count_heard n c.registers.settings.cc_en c.registers.shown f ∙ (simp f))
+      awake_shows (Count n) None _ a (count_heard n c.registers.settings.cc_en c.registers.shown f ∙ (simp f))
   normal_shows (Sense v) f a =
-      awake_shows (Sense v) Nothing _ a
+      awake_shows (Sense v) None _ a
       (judged_heard (Sense v) c.registers.settings.cc_en (risen c.setup.floor c.registers.settings c.runs (Sense v))
       c.registers.shown refl refl refl ∙ (simp f))
   normal_shows (Load l) f a = plain (Load l) a refl refl refl (λ k. simp f)
@@ -145,7 +145,7 @@ module _ (c : Chip) where
   ends_by false true s t h p = absurd (true≢false (h refl))
   ends_by false false s t h p = p
 
-  unheard : (e : Event) (w : Store) → w ≡ Nothing → fits e ≡ false → hears e w ≡ c.registers.shown
+  unheard : (e : Event) (w : Store) → w ≡ None → fits e ≡ false → hears e w ≡ c.registers.shown
   unheard e w n f = ap (λ t. hears e t) n ∙ simp (f, and-false, and-true)
 
   -- the level is 0 where the event ships
@@ -157,7 +157,7 @@ module _ (c : Chip) where
       (moved c.setup e (wrote c.setup (core_of c) e) c.registers.shown.cc_oneshot c.registers) reset
       ).outside_level) z
 
-  booted : hears Boot Nothing ≡ c.registers.shown
+  booted : hears Boot None ≡ c.registers.shown
   booted = simp (and-true, and-false)
 
   next_shows : (e : Event) → Calmed c → (c.normal ≡ false → c.registers ≡ reset) → Ends e (wrote c.setup (core_of c) e) (next e c)

@@ -12,14 +12,16 @@ use Rattle.events.specs.declared.Event.TheVariants.{Setup, Wires}
 use Rattle.events.specs.Setup.{with_cells}
 use Rattle.events.specs.Event.{Event, Meant, unfit, counts_fit, meant_of, in_range}
 use Rattle.wiring.specs.Rows.{has_row, wired_with}
-use Rattle.wiring.specs.declared.Wiring.TheVariants.{With, NoRow}
+use Rattle.std.specs.Prelude.{Ok, Err}
+use Rattle.constants.specs.declared.refusal.Refusal.TheVariants.{NoRow}
 use Rattle.records.specs.declared.Read.{Read}
+use Rattle.constants.specs.Refusal.{number_of}
 use Rattle.records.specs.declared.Read.TheVariants.{Record, Refused, Cut}
 use Rattle.records.specs.Record.{read_of, counts_beside}
 use Rattle.records.specs.SoundLaws.{first_setup, Meaning, is_wires, wires_by, later_means}
 use Rattle.registers.specs.Read.{status_byte}
 use Rattle.chip.specs.declared.Chip.{Chip}
-use Rattle.chip.specs.declared.Stepped.{Stepped}
+use Rattle.chip.specs.Answer.{Stepped}
 use Rattle.chip.specs.Chip.{numbered, in_ship, stepped_as}
 use Rattle.chip.specs.Outward.{pins_of}
 use Rattle.turn.specs.declared.Entry.{Entry}
@@ -41,7 +43,7 @@ both_true false b h = absurd (true≢false (sym h))
 
 -- a wiring record, by its place and its row: it makes the chip anew with its cells, or is refused
 abbrev wired_by : Bool → Bool → ℕ → Chip → Stepped
-wired_by o t m c = cond o (wired_as (cond t (With (with_cells m c.setup)) NoRow) c) (numbered 2 c)
+wired_by o t m c = cond o (wired_as (cond t (Ok (with_cells m c.setup)) (Err NoRow)) c) (numbered 2 c)
 
 wired_as_lem : (o t : Bool) (n m : ℕ) (u : SetupValues) (c : Chip) → (o ≡ true → c ≡ in_ship u)
     → (wired_by o t m (celled n c) ≡ celled_in (wired_by o t m (celled n c)).chip.setup.cells (wired_by o t m c))
@@ -68,7 +70,7 @@ module _ (u : SetupValues) where
   -- what the record at the start of r is answered, once SETUP was read as u and the past was heard
   abbrev pub answer_to : Bool → List ℕ → Read → List Event → Stepped
   answer_to o r (Record e next) past = answered o e (counts_beside r (Record e next)) past
-  answer_to o r (Refused k next) past = numbered k (chip u past)
+  answer_to o r (Refused why next) past = numbered (number_of why) (chip u past)
   answer_to o r Cut past = numbered 9 (chip u past)
 
   -- whether the next record may be a wiring record

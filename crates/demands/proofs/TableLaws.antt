@@ -10,8 +10,8 @@ use Rattle.events.specs.declared.BusEvent.{BusEvent}
 use Rattle.events.specs.declared.BusEvent.TheVariants.{Start, Stop, Out, In}
 use Rattle.events.specs.Event.{Event, Por, Boot, Pin, Xready, Scan, Temp, Count, Sense, Load, OnBus, Level, fits}
 use Rattle.bus.specs.declared.Phase.TheVariants.{Reading}
-use Rattle.bus.specs.declared.Store.{Store}
-use Rattle.bus.specs.declared.Store.TheVariants.{Nothing}
+use Rattle.bus.specs.Bus.{Store}
+use Rattle.std.specs.Prelude.{None}
 use Rattle.bus.specs.declared.Outed.{Outed}
 use Rattle.bus.specs.Bus.{outed, in_byte, byte_given}
 use Rattle.settings.specs.State.{reset_settings}
@@ -21,7 +21,7 @@ use Rattle.registers.specs.declared.Registers.{Registers}
 use Rattle.registers.specs.State.{reset}
 use Rattle.registers.specs.Read.{cellbal_byte, control_byte, half, word_at, fixed_byte, read_at}
 use Rattle.chip.specs.declared.Chip.{Chip}
-use Rattle.chip.specs.declared.Stepped.{Stepped}
+use Rattle.chip.specs.Answer.{Stepped}
 use Rattle.chip.specs.Chip.{reads, on_bus, normally, asleep, stepped, next}
 use Rattle.chip.specs.Core.{Core, core_of}
 use Rattle.chip.proofs.MovesLaws.{normal_is, next_by, stored_by}
@@ -101,7 +101,7 @@ module _ (c : Chip) where
   bus_modes Start a = refl
   bus_modes Stop a = refl
   bus_modes (Out b) a =
-      subst (λ w. Modes (OnBus (Out b)) w (on_bus (Out b) c).chip) (sym (when_true c.normal o.store Nothing a))
+      subst (λ w. Modes (OnBus (Out b)) w (on_bus (Out b) c).chip) (sym (when_true c.normal o.store None a))
       (stored_by (Modes (OnBus (Out b)) o.store) o.line o.store c
       (λ t. ap (λ w. mode_by (OnBus (Out b)) w c.registers.settings c.normal) (sym t))
       (λ x y t h. (simp h) ∙ ap (λ w. mode_by (OnBus (Out b)) w c.registers.settings c.normal) (sym t))
@@ -124,7 +124,7 @@ module _ (c : Chip) where
   normal_modes (OnBus b) f a = bus_modes b a
   normal_modes (Level l) f a = refl
 
-  asleep_modes : (e : Event) → fits e ≡ true → c.normal ≡ false → Modes e Nothing (asleep e c).chip
+  asleep_modes : (e : Event) → fits e ≡ true → c.normal ≡ false → Modes e None (asleep e c).chip
   asleep_modes Por f a = simp f
   asleep_modes Boot f a = simp f
   asleep_modes Pin f a = refl

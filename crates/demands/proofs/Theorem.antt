@@ -8,11 +8,13 @@ use Rattle.std.proofs.Math.Logic.Iff
 use Rattle.events.specs.declared.Setup.{Setup}
 use Rattle.events.specs.declared.BusEvent.{BusEvent}
 use Rattle.events.specs.Event.{Event, OnBus, fits}
-use Rattle.events.specs.Fault.{Fault, Ov, Uv, Scd, Ocd}
+use Rattle.events.specs.declared.Fault.{Fault}
+use Rattle.events.specs.declared.Fault.TheVariants.{Ov, Uv, Scd, Ocd}
 use Rattle.registers.specs.State.{dark}
 use Rattle.registers.specs.Fault.{bit_of}
 use Rattle.protection.specs.StreakLaws.{last_all_is}
-use Rattle.limits.specs.Rule.{Rule, rule, opinion}
+use Rattle.limits.specs.declared.Rule.{Rule}
+use Rattle.limits.specs.Rule.{rule, opinion}
 use Rattle.protection.specs.Runs.{some_opinion}
 use Rattle.chip.specs.declared.Chip.{Chip}
 use Rattle.chip.specs.Chip.{next}

@@ -5,11 +5,12 @@ use Rattle.std.proofs.Common.{sym, ap₂, ◌∙◌, arith}
 use Rattle.std.proofs.Math.Path.{ap}
 use Rattle.events.specs.declared.Setup.{Setup}
 use Rattle.events.specs.Event.{Event, Sense, fits, sense_fits}
-use Rattle.events.specs.Fault.{Fault, Ov, Uv, Scd, Ocd}
+use Rattle.events.specs.declared.Fault.{Fault}
+use Rattle.events.specs.declared.Fault.TheVariants.{Ov, Uv, Scd, Ocd}
 use Rattle.protection.specs.Streak.{last_all}
 use Rattle.limits.specs.Rule.{rule, beyond, opinion}
 use Rattle.protection.specs.TablesLaws.{need_fair}
-use Rattle.chip.specs.declared.Stepped.{Stepped}
+use Rattle.chip.specs.Answer.{Stepped}
 use Rattle.chip.specs.Core.{Core}
 use Rattle.chip.proofs.MovesLaws.{normal_is}
 use Rattle.demands.specs.Demand.{of_cells, judges, chip, up, core, standing, Awake, Accepted, verdicts, delay}

@@ -8,8 +8,8 @@ use Rattle.events.specs.declared.BusEvent.TheVariants.{Start, Stop, Out, In}
 use Rattle.events.specs.Event.{OnBus, fits}
 use Rattle.settings.specs.Write.{settings_with}
 use Rattle.bus.specs.declared.Line.{Line}
-use Rattle.bus.specs.declared.Store.{Store}
-use Rattle.bus.specs.declared.Store.TheVariants.{Nothing, At}
+use Rattle.bus.specs.Bus.{Store}
+use Rattle.std.specs.Prelude.{Some, None}
 use Rattle.bus.specs.Bus.{outed}
 use Rattle.registers.specs.declared.Status.{Status}
 use Rattle.registers.specs.declared.Registers.{Registers}
@@ -34,18 +34,18 @@ either a b =
 
 -- the store of a bus event in NORMAL, and the ones that it writes to SYS_STAT
 abbrev pub store_of : BusEvent → Chip → Store
-store_of Start c = Nothing
-store_of Stop c = Nothing
+store_of Start c = None
+store_of Stop c = None
 store_of (Out b) c = (outed c.setup c.bus.line b).store
-store_of (In nack) c = Nothing
+store_of (In nack) c = None
 
 abbrev pub ones_of : Store → Status
-ones_of Nothing = no_status
-ones_of (At a v) = status_of v
+ones_of None = no_status
+ones_of (Some w) = status_of w.value
 
 abbrev pub is_clearing : Store → Bool
-is_clearing Nothing = true
-is_clearing (At a v) = eqb a 0x00
+is_clearing None = true
+is_clearing (Some w) = eqb w.at 0x00
 
 unfoldable pub ran : Chip → List BusEvent → Chip
 ran c [] = c
@@ -106,8 +106,8 @@ Lowers s c d = (d.registers ≡ lowered s c.registers) × (d.normal ≡ c.normal
 
 store_lowers : (l : Line) (t : Store) (c : Chip) → is_clearing t ≡ true → Lowers (ones_of t) c (stored l t c)
 unfolding settings_with shown_with cellbal_with stored_at
-store_lowers l Nothing c h = (lowered_none c.registers, refl, refl)
-store_lowers l (At a v) c h = rw (eqb-true a 0x00 h) (refl, refl, refl)
+store_lowers l None c h = (lowered_none c.registers, refl, refl)
+store_lowers l (Some w) c h = rw (eqb-true w.at 0x00 h) (refl, refl, refl)
 
 bus_lowers : (b : BusEvent) (c : Chip) → is_clearing (store_of b c) ≡ true → Lowers (ones_of (store_of b c)) c (on_bus b c).chip
 bus_lowers Start c h = (lowered_none c.registers, refl, refl)

@@ -7,9 +7,10 @@ use Rattle.events.specs.declared.Setup.{Setup}
 use Rattle.events.specs.declared.BusEvent.{BusEvent}
 use Rattle.events.specs.declared.BusEvent.TheVariants.{Start, Stop, Out, In}
 use Rattle.events.specs.Event.{Event, Por, Boot, Pin, Xready, Scan, Temp, Count, Sense, Load, OnBus, Level, fits}
-use Rattle.events.specs.Fault.{Fault, Ov, Uv, Scd, Ocd}
-use Rattle.bus.specs.declared.Store.{Store}
-use Rattle.bus.specs.declared.Store.TheVariants.{Nothing, At}
+use Rattle.events.specs.declared.Fault.{Fault}
+use Rattle.events.specs.declared.Fault.TheVariants.{Ov, Uv, Scd, Ocd}
+use Rattle.bus.specs.Bus.{Store}
+use Rattle.std.specs.Prelude.{Some, None}
 use Rattle.bus.specs.Bus.{outed}
 use Rattle.settings.specs.declared.Settings.{Settings}
 use Rattle.bits.specs.Bit.{bit}
@@ -45,25 +46,25 @@ judges k (Level l) = false
 
 -- the accepted store that an event makes: with CRC on at the CRC byte, else at the data byte
 abbrev pub wrote : Setup → Core → Event → Store
-wrote u c Por = Nothing
-wrote u c Boot = Nothing
-wrote u c Pin = Nothing
-wrote u c Xready = Nothing
-wrote u c (Scan xs) = Nothing
-wrote u c (Temp xs) = Nothing
-wrote u c (Count n) = Nothing
-wrote u c (Sense v) = Nothing
-wrote u c (Load l) = Nothing
-wrote u c (OnBus Start) = Nothing
-wrote u c (OnBus Stop) = Nothing
-wrote u c (OnBus (Out b)) = cond c.normal (outed u c.line b).store Nothing
-wrote u c (OnBus (In nack)) = Nothing
-wrote u c (Level l) = Nothing
+wrote u c Por = None
+wrote u c Boot = None
+wrote u c Pin = None
+wrote u c Xready = None
+wrote u c (Scan xs) = None
+wrote u c (Temp xs) = None
+wrote u c (Count n) = None
+wrote u c (Sense v) = None
+wrote u c (Load l) = None
+wrote u c (OnBus Start) = None
+wrote u c (OnBus Stop) = None
+wrote u c (OnBus (Out b)) = cond c.normal (outed u c.line b).store None
+wrote u c (OnBus (In nack)) = None
+wrote u c (Level l) = None
 
 -- a one written to the bit of k in SYS_STAT; a one written to its drive in SYS_CTRL2
 abbrev pub clears : Fault → Store → Bool
-clears k Nothing = false
-clears k (At a v) = eqb a 0x00 && bit_of k (status_of v)
+clears k None = false
+clears k (Some w) = eqb w.at 0x00 && bit_of k (status_of w.value)
 
 abbrev pub asks : Fault → ℕ → Bool
 asks Ov v = bit v 1
@@ -72,8 +73,8 @@ asks Scd v = bit v 2
 asks Ocd v = bit v 2
 
 abbrev pub enables : Fault → Store → Bool
-enables k Nothing = false
-enables k (At a v) = eqb a 0x05 && asks k v
+enables k None = false
+enables k (Some w) = eqb w.at 0x05 && asks k w.value
 
 -- host traffic
 abbrev pub traffic : List BusEvent → List Event

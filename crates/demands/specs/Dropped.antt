@@ -7,12 +7,13 @@ use Rattle.events.specs.declared.Event.{Event as Coded}
 use Rattle.events.specs.declared.Event.TheVariants.{Setup, Por, Boot, Scan, Temp, Count, Sense, Pin, Load, Xready, OnBus, Level, Ticks}
 use Rattle.events.specs.declared.Event.TheVariants.{Soak, Wires}
 use Rattle.records.specs.declared.Read.{Read}
+use Rattle.constants.specs.Refusal.{number_of}
 use Rattle.records.specs.declared.Read.TheVariants.{Record, Refused, Cut}
 use Rattle.bits.specs.Numbers.{le16}
 use Rattle.records.specs.Record.{read_of, counts_beside}
 use Rattle.bus.specs.declared.Phase.TheVariants.{Idle}
 use Rattle.chip.specs.declared.Chip.{Chip}
-use Rattle.chip.specs.declared.Stepped.{Stepped}
+use Rattle.chip.specs.Answer.{Stepped}
 use Rattle.chip.specs.Chip.{numbered}
 use Rattle.turn.specs.declared.Entry.{Entry}
 use Rattle.turn.specs.Turn.{entry_of, acted}
@@ -52,7 +53,7 @@ sort_in Cut = for_chips
 -- what it is answered, and whether a wiring record may follow
 abbrev pub answer_in : Bool → Chip → List ℕ → Read → Stepped
 answer_in o c r (Record e next) = acted o e (counts_beside r (Record e next)) c
-answer_in o c r (Refused k next) = numbered k c
+answer_in o c r (Refused why next) = numbered (number_of why) c
 answer_in o c r Cut = numbered 9 c
 
 abbrev pub fresh_in : Bool → Read → ℕ → Bool

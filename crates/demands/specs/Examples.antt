@@ -13,7 +13,7 @@ use Rattle.registers.specs.Write.{shown_with, cellbal_with}
 use Rattle.registers.specs.Read.{status_byte, read_at, control_byte, cellbal_byte, half, word_at, fixed_byte}
 use Rattle.limits.specs.Rule.{rule, over, under, beyond}
 use Rattle.chip.specs.declared.Chip.{Chip}
-use Rattle.chip.specs.declared.Stepped.{Stepped}
+use Rattle.chip.specs.Answer.{Stepped}
 use Rattle.chip.specs.Chip.{stored_at, in_ship, happened, stepped, next}
 use Rattle.demands.specs.Checked.{ran}
 

@@ -6,11 +6,13 @@ use Rattle.events.specs.declared.Setup.{Setup}
 use Rattle.events.specs.declared.BusEvent.{BusEvent}
 use Rattle.events.specs.declared.BusEvent.TheVariants.{Start, Stop, Out, In}
 use Rattle.events.specs.Event.{Event, Por, Boot, Pin, Xready, Scan, Temp, Count, Sense, Load, OnBus, Level, fits}
-use Rattle.events.specs.Fault.{Fault, Ov, Uv, Scd, Ocd}
+use Rattle.events.specs.declared.Fault.{Fault}
+use Rattle.events.specs.declared.Fault.TheVariants.{Ov, Uv, Scd, Ocd}
 use Rattle.registers.specs.Fault.{bit_of, drive_of, raised, overridden, readied, counting}
-use Rattle.bus.specs.declared.Store.{Store}
+use Rattle.bus.specs.Bus.{Store}
 use Rattle.bus.specs.declared.Outed.{Outed}
-use Rattle.bus.specs.declared.Store.TheVariants.{Nothing, At}
+use Rattle.bus.specs.Bus.{At}
+use Rattle.std.specs.Prelude.{None}
 use Rattle.bus.specs.Bus.{outed}
 use Rattle.registers.specs.declared.Status.{Status}
 use Rattle.registers.specs.declared.Shown.{Shown}
@@ -131,7 +133,7 @@ darkens Scd x w s = ended refl refl refl
 darkens Ocd x w s = ended refl refl refl
 
 raises : (k : Fault) (x : Event) (on : Bool) (r : Fault → Bool) (s : Shown) → (judges k x ≡ false → r k ≡ false)
-    → Keeps k x Nothing on s (raised r s)
+    → Keeps k x None on s (raised r s)
 unfolding Keeps
 raises Ov x on r s n = rose (r Ov) (r Ov) refl refl refl (λ h. h) n
 raises Uv x on r s n = rose (r Uv) (r Uv || r Scd || r Ocd) refl refl refl (λ h. search (or_left, or_right)) n
@@ -140,7 +142,7 @@ raises Ocd x on r s n = rose (r Ocd) (r Uv || r Scd || r Ocd) refl refl refl (λ
 
 -- PIN, XREADY and COUNT
 puts_off : (k : Fault) (x : Event) (on : Bool) (s : Shown)
-    → Keeps k x Nothing on s (overridden s) × Keeps k x Nothing on s (readied s) × Keeps k x Nothing on s (counting s)
+    → Keeps k x None on s (overridden s) × Keeps k x None on s (readied s) × Keeps k x None on s (counting s)
 unfolding Keeps
 puts_off Ov x on s = (put_off refl refl refl, put_off refl refl refl, left refl refl refl)
 puts_off Uv x on s = (put_off refl refl refl, put_off refl refl refl, left refl refl refl)
@@ -204,7 +206,7 @@ module _ (k : Fault) (e : Event) (c : Chip) where
   stays_as : (w : Store) → clears k w ≡ false → Keeps k e w c.normal c.registers.shown c.registers.shown
   stays_as w n = same k e w c.normal c.registers.shown n
 
-  judged_keeps : Keeps k e Nothing c.normal c.registers.shown
+  judged_keeps : Keeps k e None c.normal c.registers.shown
       (raised (risen c.setup.floor c.registers.settings c.runs e) c.registers.shown)
   judged_keeps =
       raises k e c.normal (risen c.setup.floor c.registers.settings c.runs e) c.registers.shown (unjudged k e c)
@@ -219,38 +221,38 @@ module _ (k : Fault) (e : Event) (c : Chip) where
       (writes k e x v c.normal c.registers.shown))
 
 bus_keeps : (k : Fault) (b : BusEvent) (c : Chip) → c.normal ≡ true → Holds k (OnBus b) c (on_bus b c).chip
-bus_keeps k Start c a = stays_as k (OnBus Start) c Nothing refl
-bus_keeps k Stop c a = stays_as k (OnBus Stop) c Nothing refl
+bus_keeps k Start c a = stays_as k (OnBus Start) c None refl
+bus_keeps k Stop c a = stays_as k (OnBus Stop) c None refl
 bus_keeps k (Out b) c a =
     subst (λ w. Keeps k (OnBus (Out b)) w (stored o.line o.store c).normal c.registers.shown
     (stored o.line o.store c).registers.shown)
-    (sym (when_true c.normal o.store Nothing a)) (store_keeps k (OnBus (Out b)) c o)
+    (sym (when_true c.normal o.store None a)) (store_keeps k (OnBus (Out b)) c o)
   where
     o : Outed
     o = outed c.setup c.bus.line b
-bus_keeps k (In nack) c a = stays_as k (OnBus (In nack)) c Nothing refl
+bus_keeps k (In nack) c a = stays_as k (OnBus (In nack)) c None refl
 
 normal_keeps : (k : Fault) (e : Event) (c : Chip) → c.normal ≡ true → Holds k e c (normally e c).chip
-normal_keeps k Por c a = darkens k Por Nothing c.registers.shown
-normal_keeps k Boot c a = stays_as k Boot c Nothing refl
+normal_keeps k Por c a = darkens k Por None c.registers.shown
+normal_keeps k Boot c a = stays_as k Boot c None refl
 normal_keeps k Pin c a =
-    by_cond (Keeps k Pin Nothing c.normal c.registers.shown) (alert c.registers.shown.status) c.registers.shown
+    by_cond (Keeps k Pin None c.normal c.registers.shown) (alert c.registers.shown.status) c.registers.shown
     (overridden c.registers.shown)
-    (λ h. stays_as k Pin c Nothing refl) (λ h. (puts_off k Pin c.normal c.registers.shown).0)
+    (λ h. stays_as k Pin c None refl) (λ h. (puts_off k Pin c.normal c.registers.shown).0)
 normal_keeps k Xready c a = (puts_off k Xready c.normal c.registers.shown).1
 normal_keeps k (Scan xs) c a = judged_keeps k (Scan xs) c
-normal_keeps k (Temp xs) c a = stays_as k (Temp xs) c Nothing refl
+normal_keeps k (Temp xs) c a = stays_as k (Temp xs) c None refl
 normal_keeps k (Count n) c a =
-    by_cond (Keeps k (Count n) Nothing c.normal c.registers.shown)
+    by_cond (Keeps k (Count n) None c.normal c.registers.shown)
     (c.registers.settings.cc_en || c.registers.shown.cc_oneshot) (counting c.registers.shown) c.registers.shown
-    (λ h. (puts_off k (Count n) c.normal c.registers.shown).2) (λ h. stays_as k (Count n) c Nothing refl)
+    (λ h. (puts_off k (Count n) c.normal c.registers.shown).2) (λ h. stays_as k (Count n) c None refl)
 normal_keeps k (Sense v) c a = judged_keeps k (Sense v) c
-normal_keeps k (Load l) c a = stays_as k (Load l) c Nothing refl
+normal_keeps k (Load l) c a = stays_as k (Load l) c None refl
 normal_keeps k (OnBus b) c a = bus_keeps k b c a
-normal_keeps k (Level l) c a = stays_as k (Level l) c Nothing refl
+normal_keeps k (Level l) c a = stays_as k (Level l) c None refl
 
 -- in SHIP, and out of range, nothing is written
-pub wrote_asleep : (u : Setup) (c : Core) (e : Event) → c.normal ≡ false → wrote u c e ≡ Nothing
+pub wrote_asleep : (u : Setup) (c : Core) (e : Event) → c.normal ≡ false → wrote u c e ≡ None
 wrote_asleep u c Por a = refl
 wrote_asleep u c Boot a = refl
 wrote_asleep u c Pin a = refl
@@ -266,7 +268,7 @@ wrote_asleep u c (OnBus (Out b)) a = rw a
 wrote_asleep u c (OnBus (In nack)) a = refl
 wrote_asleep u c (Level l) a = refl
 
-pub wrote_unfit : (u : Setup) (c : Core) (e : Event) → fits e ≡ false → wrote u c e ≡ Nothing
+pub wrote_unfit : (u : Setup) (c : Core) (e : Event) → fits e ≡ false → wrote u c e ≡ None
 unfolding fits
 wrote_unfit u c Por f = refl
 wrote_unfit u c Boot f = refl

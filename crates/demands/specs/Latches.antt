@@ -2,7 +2,7 @@
 -- OVRD_ALERT and XREADY put off both. A write of a one lowers a bit, but OVRD_ALERT only where the outside level is 0 (CHIP L3). The
 -- laws stand in proofs/Latches. Assumes nothing.
 use Rattle.std.specs.Prelude.{Bool, false, ◌||◌}
-use Rattle.events.specs.Fault.{Fault}
+use Rattle.events.specs.declared.Fault.{Fault}
 use Rattle.registers.specs.declared.Shown.{Shown}
 use Rattle.registers.specs.Fault.{drive_of}
 

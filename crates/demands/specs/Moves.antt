@@ -5,10 +5,11 @@ use Rattle.events.specs.declared.Setup.{Setup}
 use Rattle.events.specs.declared.BusEvent.TheVariants.{Start, Stop, Out, In}
 use Rattle.events.specs.Setup.{groups}
 use Rattle.events.specs.Event.{Event, Por, Boot, Pin, Xready, Scan, Temp, Count, Sense, Load, OnBus, Level, fits}
-use Rattle.events.specs.Fault.{Fault, Ov, Uv, Scd, Ocd}
+use Rattle.events.specs.declared.Fault.{Fault}
+use Rattle.events.specs.declared.Fault.TheVariants.{Ov, Uv, Scd, Ocd}
 use Rattle.bits.specs.Bit.{bit}
-use Rattle.bus.specs.declared.Store.{Store}
-use Rattle.bus.specs.declared.Store.TheVariants.{Nothing, At}
+use Rattle.bus.specs.Bus.{Store}
+use Rattle.std.specs.Prelude.{Some, None}
 use Rattle.cell_counts.specs.Scan.{total, padded}
 use Rattle.settings.specs.declared.Settings.{Settings}
 use Rattle.registers.specs.declared.Status.{Status}
@@ -70,12 +71,12 @@ is k e = eqb (kind_of e) k && fits e
 
 -- ── an accepted write: at this address, and the byte ──
 abbrev pub at : ℕ → Store → Bool
-at k Nothing = false
-at k (At a v) = eqb a k
+at k None = false
+at k (Some w) = eqb w.at k
 
 abbrev pub value : Store → ℕ
-value Nothing = 0
-value (At a v) = v
+value None = 0
+value (Some w) = w.value
 
 -- the settings: the bits that each register has; pair (0,1) is kept while (0,0) is held, every other pair leaves (0,0)
 abbrev pub put : Store → Settings → Settings

@@ -1,13 +1,12 @@
 -- CHIP R2 and R7 of an older reader, which knows the kinds up to some number only: every newer kind is unknown to it, so it refuses it with
 -- 2 and passes over it by its length. Assumes nothing.
-use Rattle.std.specs.Prelude.{Bool, false, cond, List, [], ◌∷◌, ℕ, zero, suc, ◌+◌, ◌-◌, eqb, leb, ltb, length, take, drop}
-use Rattle.records.specs.declared.Payload.{Payload}
-use Rattle.records.specs.declared.Payload.TheVariants.{Unfit}
+use Rattle.std.specs.Prelude.{Bool, false, cond, List, [], ◌∷◌, ℕ, zero, suc, ◌+◌, ◌-◌, eqb, leb, ltb, length, take, drop, Err}
+use Rattle.constants.specs.declared.refusal.Refusal.TheVariants.{BadKind}
 use Rattle.records.specs.declared.Read.{Read}
 use Rattle.records.specs.declared.Read.TheVariants.{Cut}
 use Rattle.bits.specs.Numbers.{le16}
 use Rattle.records.specs.Frame.{frame_of}
-use Rattle.records.specs.Record.{payload_of, as_read}
+use Rattle.records.specs.Record.{Payload, payload_of, as_read}
 use Rattle.chip.specs.declared.Chip.{Chip}
 use Rattle.turn.specs.declared.Entry.{Entry}
 use Rattle.turn.specs.Turn.{Turn, none, turned}
@@ -15,7 +14,7 @@ use Rattle.turn.specs.Turn.{Turn, none, turned}
 -- by the newest kind that it knows
 module _ (newest : ℕ) where
   unfoldable pub payload_older : ℕ → ℕ → List ℕ → Payload
-  payload_older kind part b = cond (leb kind newest) (payload_of kind part b) (Unfit 2)
+  payload_older kind part b = cond (leb kind newest) (payload_of kind part b) (Err BadKind)
 
   unfoldable pub read_older : ℕ → List ℕ → Read
   read_older part r =

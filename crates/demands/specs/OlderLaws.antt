@@ -1,11 +1,12 @@
 -- What an older reader gives of a stream: our entries, up to the first record of a kind that is newer than it; that record it refuses with
 -- 2, its chip as it was. Assumes nothing.
 use Rattle.std.specs.Prelude.{◌≡◌, refl, Bool, true, List, [], ◌∷◌, ℕ, zero, suc, ◌+◌, ◌-◌, ◌<◌, ◌≤◌, eqb, leb, ltb, length, take, drop}
+use Rattle.std.specs.Prelude.{Err}
 use Rattle.std.proofs.Math.Path.{sym, ap}
 use Rattle.std.proofs.Common.{subst, ◌∙◌, arith}
 use Rattle.std.proofs.Math.Bool.{false, cond}
 use borrow.Author.Tests.{ne_eqb, lt-leb, le-ltb}
-use Rattle.records.specs.declared.Payload.TheVariants.{Unfit}
+use Rattle.constants.specs.declared.refusal.Refusal.TheVariants.{BadKind}
 use Rattle.records.specs.declared.Read.{Read}
 use Rattle.records.specs.declared.Read.TheVariants.{Record, Refused, Cut}
 use Rattle.bits.specs.Numbers.{le16}
@@ -25,7 +26,7 @@ module _ (newest : ℕ) where
   same_read part r h =
       ap (λ (t : Bool). cond (ltb (length r) 4) Cut
       (cond (ltb (length r - 4) (le16 r 0)) Cut
-      (as_read (4 + le16 r 0) (cond t (payload_of (le16 r 2) part (take (le16 r 0) (drop 4 r))) (Unfit 2))))) h
+      (as_read (4 + le16 r 0) (cond t (payload_of (le16 r 2) part (take (le16 r 0) (drop 4 r))) (Err BadKind))))) h
 
   same_turn : (o : Bool) (c : Chip) (r : List ℕ) → leb (le16 r 2) newest ≡ true → turn_older newest o c r ≡ turn_of o c r
   unfolding turn_older turn_of
@@ -33,7 +34,7 @@ module _ (newest : ℕ) where
 
   -- a record of a newer kind: 2, and passed over
   pub newer_refused : (part : ℕ) (r : List ℕ) → newest < le16 r 2 → 4 + le16 r 0 ≤ length r
-      → read_older newest part r ≡ Refused 2 (4 + le16 r 0)
+      → read_older newest part r ≡ Refused BadKind (4 + le16 r 0)
   unfolding read_older payload_older
   newer_refused part r h l =
       simp (

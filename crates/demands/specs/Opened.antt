@@ -9,12 +9,12 @@ use Rattle.events.specs.declared.BusEvent.TheVariants.{Start, Stop, Out, In}
 use Rattle.events.specs.Event.{Event, Por, Boot, Pin, Xready, Scan, Temp, Count, Sense, Load, OnBus, Level, fits}
 use Rattle.bus.specs.declared.Phase.{Phase}
 use Rattle.bus.specs.declared.Line.{Line}
-use Rattle.bus.specs.declared.Store.{Store}
+use Rattle.bus.specs.Bus.{Store}
 use Rattle.bus.specs.declared.Outed.{Outed}
 use Rattle.bus.specs.declared.Phase.TheVariants.{Idle, Address, Pointing, Writing, Checking, Reading, Summing}
 use Rattle.bus.specs.Bus.{addressed, fed, checked, out_in, outed, goes, refuses, stores}
 use Rattle.chip.specs.declared.Chip.{Chip}
-use Rattle.chip.specs.declared.Stepped.{Stepped}
+use Rattle.chip.specs.Answer.{Stepped}
 use Rattle.chip.specs.Chip.{numbered, in_ship, stored, on_bus, watched, settled, normally, asleep, happened, stepped, next}
 use Rattle.chip.proofs.MovesLaws.{normal_is, stored_by}
 use Rattle.chip.specs.Calm.{Calmed}

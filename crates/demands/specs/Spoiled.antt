@@ -11,7 +11,7 @@ use Rattle.settings.specs.Write.{settings_with}
 use Rattle.registers.specs.Write.{shown_with, cellbal_with}
 use Rattle.limits.specs.Rule.{rule, over, under}
 use Rattle.chip.specs.declared.Chip.{Chip}
-use Rattle.chip.specs.declared.Stepped.{Stepped}
+use Rattle.chip.specs.Answer.{Stepped}
 use Rattle.chip.specs.Chip.{with_bus, in_ship, stored_at, happened, stepped, next}
 
 -- ── what is dropped ──

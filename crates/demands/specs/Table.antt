@@ -5,7 +5,7 @@ use Rattle.events.specs.declared.Setup.{Setup}
 use Rattle.events.specs.Setup.{groups, inputs}
 use Rattle.events.specs.Event.{Event}
 use Rattle.bits.specs.Bit.{bit}
-use Rattle.bus.specs.declared.Store.{Store}
+use Rattle.bus.specs.Bus.{Store}
 use Rattle.settings.specs.declared.Settings.{Settings}
 use Rattle.registers.specs.declared.Status.{Status}
 use Rattle.registers.specs.declared.Shown.{Shown}

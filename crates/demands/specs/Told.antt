@@ -7,7 +7,8 @@ use Rattle.events.specs.declared.Setup.{Setup}
 use Rattle.events.specs.declared.BusEvent.{BusEvent}
 use Rattle.events.specs.declared.BusEvent.TheVariants.{Start, Stop, Out, In}
 use Rattle.events.specs.Event.{Event, Por, Boot, Pin, Xready, Scan, Temp, Count, Sense, Load, OnBus, Level, fits}
-use Rattle.events.specs.Fault.{Fault, Ov, Uv, Scd, Ocd}
+use Rattle.events.specs.declared.Fault.{Fault}
+use Rattle.events.specs.declared.Fault.TheVariants.{Ov, Uv, Scd, Ocd}
 use Rattle.registers.specs.Fault.{bit_of, raised}
 use Rattle.bus.specs.Bus.{outed}
 use Rattle.registers.specs.declared.Shown.{Shown}
@@ -15,7 +16,8 @@ use Rattle.registers.specs.LevelLaws.{level_bit}
 use Rattle.protection.specs.Streak.{last_all, streak, bumps}
 use Rattle.protection.specs.StreakLaws.{bumps-streak}
 use Rattle.protection.specs.Fault.{run_of, runs_of}
-use Rattle.limits.specs.Rule.{Rule, cap, rule, opinion}
+use Rattle.limits.specs.declared.Rule.{Rule}
+use Rattle.limits.specs.Rule.{cap, rule, opinion}
 use Rattle.protection.specs.Runs.{some_opinion, run_after, risen}
 use Rattle.protection.specs.TablesLaws.{run_tells}
 use Rattle.chip.specs.declared.Chip.{Chip}

@@ -22,15 +22,15 @@ use Rattle.events.specs.Event.{means, ticks, unfit, meant_of}
 use Rattle.bus.specs.declared.Phase.{Phase}
 use Rattle.bus.specs.declared.Phase.TheVariants.{Idle, Address, Pointing, Writing, Checking, Reading, Summing}
 use Rattle.bus.specs.declared.Line.{Line}
-use Rattle.bus.specs.declared.Store.{Store}
-use Rattle.bus.specs.declared.Store.TheVariants.{Nothing, At}
+use Rattle.bus.specs.Bus.{Store}
+use Rattle.std.specs.Prelude.{Some, None}
 use Rattle.bus.specs.declared.Outed.{Outed}
 use Rattle.bus.specs.Bus.{out_in, outed, addressed, fed, in_line, taken, owing, byte_given, gives, grown}
 use Rattle.settings.specs.Write.{ships}
 use Rattle.registers.specs.Write.{cellbal_with}
 use Rattle.registers.specs.Read.{cellbal_byte, control_byte, word_at, fixed_byte, read_at}
 use Rattle.chip.specs.declared.Chip.{Chip}
-use Rattle.chip.specs.declared.Stepped.{Stepped}
+use Rattle.chip.specs.Answer.{Stepped}
 use Rattle.chip.specs.Chip.{numbered, in_ship, accepted, stored_at, stored, sent, handed, reads, on_bus, settled, normally, asleep}
 use Rattle.chip.specs.Chip.{happened, stepped, ticking, stepped_as}
 use Rattle.demands.specs.Demand.{chip}
@@ -65,12 +65,12 @@ module _ (n : ℕ) where
 
   stored_cells : (l : Line) (t : Store) (c : Chip) → stored l t (celled n c) ≡ celled n (stored l t c)
   unfolding stored_at cellbal_with groups
-  stored_cells l Nothing c = refl
-  stored_cells l (At a v) c = by (ships a v c.registers.settings)
+  stored_cells l None c = refl
+  stored_cells l (Some w) c = by (ships w.at w.value c.registers.settings)
     where
       by : (b : Bool)
-          → cond b (in_ship (with_cells n c.setup)) (accepted l a v (celled n c))
-          ≡ celled n (cond b (in_ship c.setup) (accepted l a v c))
+          → cond b (in_ship (with_cells n c.setup)) (accepted l w.at w.value (celled n c))
+          ≡ celled n (cond b (in_ship c.setup) (accepted l w.at w.value c))
       by true = refl
       by false = refl
 

@@ -5,9 +5,11 @@ use Rattle.std.proofs.Common.{sym, ◌∙◌, arith}
 use Rattle.events.specs.declared.Setup.{Setup}
 use Rattle.events.specs.declared.BusEvent.TheVariants.{Out}
 use Rattle.events.specs.Event.{Event, OnBus}
-use Rattle.events.specs.Fault.{Fault, Ov, Uv, Scd, Ocd}
+use Rattle.events.specs.declared.Fault.{Fault}
+use Rattle.events.specs.declared.Fault.TheVariants.{Ov, Uv, Scd, Ocd}
 use Rattle.bits.specs.Bit.{bit}
-use Rattle.bus.specs.declared.Store.TheVariants.{Nothing, At}
+use Rattle.bus.specs.Bus.{At}
+use Rattle.std.specs.Prelude.{None}
 use Rattle.settings.specs.Write.{settings_with}
 use Rattle.registers.specs.declared.Shown.{Shown}
 use Rattle.registers.specs.declared.Registers.{Registers}
@@ -70,9 +72,9 @@ write_leaves b a v en s h = (simp h, simp h)
 
 -- and so does every event but PIN and XREADY that raises none of its faults
 pub charge_left : (e : Event) (en : Bool) (r : Fault → Bool) (s : Shown) → is 0x07 e ≡ false → is 0x09 e ≡ false → r Ov ≡ false
-    → (heard e Nothing en r s).chg_on ≡ s.chg_on
+    → (heard e None en r s).chg_on ≡ s.chg_on
 charge_left e en r s seven nine o = simp (seven, nine, o)
 
 pub discharge_left : (e : Event) (en : Bool) (r : Fault → Bool) (s : Shown) → is 0x07 e ≡ false → is 0x09 e ≡ false → r Uv ≡ false
-    → r Scd ≡ false → r Ocd ≡ false → (heard e Nothing en r s).dsg_on ≡ s.dsg_on
+    → r Scd ≡ false → r Ocd ≡ false → (heard e None en r s).dsg_on ≡ s.dsg_on
 discharge_left e en r s seven nine y d c = simp (seven, nine, y, d, c)
