@@ -1,12 +1,12 @@
 -- The inputs of a pack's cells, packed from the numbers 1 to 15. Assumes nothing.
-use mathlib.Core.Path.{◌≡◌, refl, sym, ap, ap₂, ◌∙◌}
-use mathlib.Core.Bool.{Bool, true, false, ◌||◌, cond, true≢false}
+use mathlib.Core.Path.{◌≡◌, refl, ap, ap₂, ◌∙◌}
+use mathlib.Core.Bool.{Bool, true, false, cond}
 use mathlib.Core.List.{List, [], ◌∷◌}
 use Prim.Native.Nat.{ℕ, zero, suc, ◌+◌, ◌-◌, ◌<◌, ◌≤◌}
 use native.Mathlib.Omega.{arith}
-use lib.Dec.{eqb, ltb}
-use lib.ListN.{length, get_or}
-use borrow.Author.Tests.{eqb-true, ltb-true, ltb-false}
+use lib.Dec.{eqb}
+use lib.ListN.{get_or}
+use borrow.Author.Tests.{eqb-true}
 use Rattle.events.specs.declared.Setup.{Setup}
 use Rattle.events.specs.declared.Counts.{Counts}
 use Rattle.events.specs.Setup.{inputs}
@@ -43,35 +43,7 @@ pub packed_is : (u : Setup) {r : Counts} → r ≡ counts_of (picked ones (wired
 unfolding wired_inputs
 packed_is u h = h ∙ ap counts_of (picked_own (is_wired u) 1 (inputs u) (omega arith) (omega (arith, few_inputs u)))
 
-past : (l : List ℕ) (i : ℕ) → length l ≤ i → get_or l i 0 ≡ 0
-past [] i h = refl
-past (x ∷ l) zero h = absurd (omega arith)
-past (x ∷ l) (suc i) h = past l i (omega arith)
-
 module _ (u : Setup) (n : ℕ) where
-  no_zero : n < 1 → 0 ≡ input_of u n
-  no_zero h = let z : n ≡ 0 = omega arith in sym (ap (input_of u) z)
-
-  past_all : pack_cells u < n → 0 ≡ input_of u n
-  past_all h = sym (past (0 ∷ wired_inputs u) n (omega arith))
-
-  -- by one test of both
-  pub no_cell : (ltb n 1 || ltb (pack_cells u) n) ≡ true → 0 ≡ input_of u n
-  no_cell = by (ltb n 1) (ltb (pack_cells u) n) refl refl
-    where
-      by : (x y : Bool) → ltb n 1 ≡ x → ltb (pack_cells u) n ≡ y → (x || y) ≡ true → 0 ≡ input_of u n
-      by true y e f h = no_zero (ltb-true n 1 e)
-      by false true e f h = past_all (ltb-true (pack_cells u) n f)
-      by false false e f h = absurd (true≢false (sym h))
-
-  pub a_cell : (ltb n 1 || ltb (pack_cells u) n) ≡ false → (1 ≤ n) × (n ≤ pack_cells u)
-  a_cell = by (ltb n 1) (ltb (pack_cells u) n) refl refl
-    where
-      by : (x y : Bool) → ltb n 1 ≡ x → ltb (pack_cells u) n ≡ y → (x || y) ≡ false → (1 ≤ n) × (n ≤ pack_cells u)
-      by true y e f h = absurd (true≢false h)
-      by false true e f h = absurd (true≢false h)
-      by false false e f h = (ltb-false n 1 e, ltb-false (pack_cells u) n f)
-
   at_one : (n : ℕ) → 1 ≤ n → get_or (wired_inputs u) (n - 1) 0 ≡ input_of u n
   at_one zero h = absurd (omega arith)
   at_one (suc n) h = let e : suc n - 1 ≡ n = omega arith in ap (λ (i : ℕ). get_or (wired_inputs u) i 0) e

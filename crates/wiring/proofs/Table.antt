@@ -6,7 +6,8 @@ use Prim.Native.Nat.{ℕ, zero, suc, ◌*◌, ◌<◌}
 use native.Mathlib.Omega.{arith}
 use lib.Dec.{eqb, leb, ltb}
 use lib.ListN.{get_or}
-use borrow.Author.Tests.{eqb-true, eqb-false, leb-true, ltb-true}
+use mathlib.Core.Logic.{◌≢◌}
+use borrow.Author.Tests.{ne_eqb, eqb-true, eqb-false, leb-true, ltb-true}
 use Rattle.events.specs.declared.Setup.{Setup}
 use Rattle.events.specs.Setup.{inputs}
 use Rattle.wiring.specs.Rows.{rows, has_row, shorted, is_wired, pack_cells, bits, wired_bits}
@@ -83,6 +84,30 @@ coded_is part cells = by (coded part cells) (has_row part cells) forth (each_row
     by true b f g = sym (f refl)
     by false true f g = g refl
     by false false f g = refl
+
+-- by the part
+one_of : (a : Bool) → (a || false || false) ≡ a
+one_of true = refl
+one_of false = refl
+
+of_part : (k low most part cells : ℕ) → part ≡ k → (leb low cells && leb cells most) ≡ has_row k cells → (leb low cells && leb cells most) ≡ has_row part cells
+of_part k low most part cells e h = h ∙ ap (λ (p : ℕ). has_row p cells) (sym e)
+
+pub row_5 : (part cells : ℕ) → part ≡ 1 → (leb 3 cells && leb cells 5) ≡ has_row part cells
+row_5 part cells e = of_part 1 3 5 part cells e (sym (one_of (leb 3 cells && leb cells 5)) ∙ coded_is 1 cells)
+
+pub row_10 : (part cells : ℕ) → part ≡ 2 → (leb 6 cells && leb cells 10) ≡ has_row part cells
+row_10 part cells e = of_part 2 6 10 part cells e (sym (first_of (leb 6 cells && leb cells 10)) ∙ coded_is 2 cells)
+  where
+    first_of : (a : Bool) → (a || false) ≡ a
+    first_of true = refl
+    first_of false = refl
+
+pub row_15 : (part cells : ℕ) → part ≡ 3 → (leb 11 cells && leb cells 15) ≡ has_row part cells
+row_15 part cells e = of_part 3 11 15 part cells e (coded_is 3 cells)
+
+pub row_none : (part cells : ℕ) → part ≢ 1 → part ≢ 2 → part ≢ 3 → has_row part cells ≡ false
+row_none part cells a b c = sym (coded_is part cells) ∙ simp (ne_eqb part 1 a, ne_eqb part 2 b, ne_eqb part 3 c)
 
 -- ── the bits of the code ──
 abbrev pub table : List ℕ

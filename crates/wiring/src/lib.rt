@@ -24,12 +24,16 @@ const FEWEST_OF_10: u8 = 6;
 const FEWEST_OF_15: u8 = 11;
 
 // Whether a part has a row for a number of cells.
+#[tactic(auto, using(crate::proofs::Table::row_5, crate::proofs::Table::row_10, crate::proofs::Table::row_15, crate::proofs::Table::row_none))]
 pub fn has_row(part: u8, cells: u8) -> bool
     ensures { result ≡ has_row part cells }
 {
-    ((part == part::MS9920T) & (FEWEST_OF_5 <= cells) & (cells <= 5))
-        | ((part == part::MS9930T) & (FEWEST_OF_10 <= cells) & (cells <= 10))
-        | ((part == part::MS9940T) & (FEWEST_OF_15 <= cells) & (cells <= 15))
+    match part {
+        part::MS9920T => (FEWEST_OF_5..=5).contains(&cells),
+        part::MS9930T => (FEWEST_OF_10..=10).contains(&cells),
+        part::MS9940T => (FEWEST_OF_15..=15).contains(&cells),
+        _ => false,
+    }
 }
 
 // The setup with a wiring record's number of cells.
@@ -47,7 +51,7 @@ pub fn wire(setup: Setup, cells: u8) -> Result<Setup, Refusal>
 pub fn wired(setup: Setup) -> u16
     ensures { result ≡ wired_bits setup }
 {
-    WIRED[cells(setup) as usize]
+    WIRED[usize::from(cells(setup))]
 }
 
 // How many cells the pack has: as many as the part has inputs where there is no wiring record.
@@ -65,14 +69,14 @@ fn packed(mask: u16, of: [u16; 15]) -> Counts
     ensures { result ≡ counts_of (kept mask of) }
 {
     let mut rest = mask;
-    let mut out = [0u16; 15];
+    let mut out = [0; 15];
     let mut many = 0;
-    for i in 0..15 {
+    for x in of {
         if rest % 2 == 1 {
-            out[many] = of[i];
+            out[many] = x;
             many += 1;
         }
-        rest = rest / 2;
+        rest /= 2;
     }
     Counts {
         many: many as u8,
@@ -92,17 +96,10 @@ pub fn input_of(setup: Setup, cell: u8) -> u8
     ensures { result ≡ input_of setup cell }
 {
     let inputs = pack(setup, [1, 2, 3, 4, 5, 6, 7, 8, 9, 10, 11, 12, 13, 14, 15]);
-    if (cell < 1) | (inputs.many < cell) {
+    if cell < 1 || inputs.many < cell {
         return 0;
     }
-    let of = inputs.of;
-    of[(cell - 1) as usize] as u8
-}
-
-fn bit_of(t: bool) -> u16
-    ensures { (result ≡ cond t 1 0) × (result ≤ 1) }
-{
-    if t { 1 } else { 0 }
+    inputs.of[usize::from(cell - 1)] as u8
 }
 
 // The first inputs whose counts are not below the floor, input 1 the lowest bit.
@@ -110,11 +107,12 @@ fn above(floor: u16, cells: [u16; 15], inputs: u8) -> u16
     requires { inputs ≤ 15 }
     ensures { result ≡ bits (above_floor floor cells) 1 inputs }
 {
-    let mut mask = 0u16;
-    let mut i = inputs as usize;
+    // Counted down: each turn puts its bit below those of the inputs after it.
+    let mut mask = 0;
+    let mut i = usize::from(inputs);
     while 0 < i {
         i -= 1;
-        mask = bit_of(floor <= cells[i]) + 2 * mask;
+        mask = u16::from(floor <= cells[i]) + 2 * mask;
     }
     mask
 }
@@ -137,11 +135,9 @@ pub fn link(setup: Setup, cells: [u16; 15]) -> Counts
 }
 
 // Whether a cell of the pack converts at a count: a wired one always does.
+#[tactic(auto, unfolding(crate::specs::Rows::converts))]
 pub fn converts(setup: Setup, count: u16) -> bool
     ensures { result ≡ converts setup count }
 {
-    if has_row(setup.part, setup.cells) {
-        return true;
-    }
-    setup.floor <= count
+    has_row(setup.part, setup.cells) || setup.floor <= count
 }

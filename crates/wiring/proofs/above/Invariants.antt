@@ -1,4 +1,4 @@
--- `above` looks at the inputs from the last down (Downward), and its bits are few (Linked).
+-- `above` looks at the inputs from the last down, and its bits are few (Linked).
 use Rattle.std.proofs.Common.{◌+◌, ◌-◌, ◌≡◌, ◌≤◌}
 use Rattle.wiring.specs.Rows.{bits}
 use Rattle.wiring.specs.Linked.{above_floor}
