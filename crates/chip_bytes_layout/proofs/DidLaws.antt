@@ -1,11 +1,11 @@
 -- DONE IN THE BYTES IS DONE TO THE CHIP: where bytes keep a chip in NORMAL, and what an event leaves of it is put in their place, it has
 -- happened to the chip that they keep. One law, whichever part the event moves. Assumes nothing.
 use Rattle.std.specs.Prelude.{◌≡◌, refl, Bool, true, false, not, ◌&&◌, ◌||◌, List, [], ◌∷◌, ◌++◌, ℕ, ◌≤◌, eqb, ltb, length, get_or, take}
-use Rattle.std.specs.Prelude.{replicate}
+use Rattle.std.specs.Prelude.{replicate, Option, Some, None}
 use Rattle.std.proofs.Math.Path.{sym, ap}
-use Rattle.std.proofs.Common.{◌∙◌, true≢false, take-append-drop, length-take-le, le-ltb, eqb-true, ne_eqb}
+use Rattle.std.proofs.Common.{◌∙◌, true≢false, append-nil, arith, take-append-drop, length-take-le, le-ltb, eqb-true, ne_eqb}
 use Rattle.std.proofs.Math.Bool.{cond}
-use Rattle.std.proofs.Math.ListN.{drop}
+use Rattle.std.proofs.Math.ListN.{drop, drop_of_length-le}
 use Rattle.events.specs.Event.{Event}
 use Rattle.bits.specs.Numbers.{within}
 use Rattle.bits.specs.BoolLaws.{and_left, and_right}
@@ -24,7 +24,9 @@ use Rattle.chip_bytes_layout.specs.Layout.{none, kept_bytes, good_at, chip_in, g
 use Rattle.chip_bytes_layout.proofs.OneLaws.{part_not}
 use Rattle.chip_bytes_layout.proofs.TripLaws.{forth}
 use Rattle.chip_bytes_layout.proofs.GoodLaws.{zero_at}
-use Rattle.chip_bytes_layout.specs.Did.{Awake, chip_here, says, Came, Did}
+use Rattle.chip_bytes_layout.proofs.Bytes.{as_first}
+use Rattle.chip_bytes_layout.specs.declared.Outcome.{Outcome}
+use Rattle.chip_bytes_layout.specs.Did.{Awake, chip_here, says, flag_of, byte_of, Came, CameBy, Did, DidBy}
 
 -- what is shown, read back
 pub shown_back : (c : Chip) (fresh : Bool) (rest : List ℕ) → shown_at (take 96 (chip_bytes c fresh ++ rest)) ≡ c.registers.shown
@@ -122,3 +124,47 @@ module _ (b : List ℕ) (w : Awake b) (g : good_of b ≡ true) where
       → Did b e flag byte shown new
   did e d flag byte shown new p k h s m =
       came (happened e) d flag byte shown new p (sym (settles (says flag byte d) k) ∙ ap settled h ∙ sym (normal e)) s m
+
+-- ── a buffer and its first 96 bytes: what was done of these was done of it ──
+module _ (b : List ℕ) (room : 96 ≤ length b) where
+  first_length : length (take 96 b) ≡ 96
+  first_length = length-take-le 96 b room
+
+  first_wide : ltb (length (take 96 b)) 96 ≡ false
+  first_wide = let l = first_length in le-ltb (length (take 96 b)) 96 (omega arith)
+
+  buffer_wide : ltb (length b) 96 ≡ false
+  buffer_wide = le-ltb (length b) 96 room
+
+  pub first_good : good_of (take 96 b) ≡ good_of b
+  first_good =
+      ap (λ (t : Bool). cond t false (good_at (take 96 (take 96 b)))) first_wide ∙ ap good_at (as_first first_length)
+      ∙ ap (λ (t : Bool). cond t false (good_at (take 96 b))) (sym buffer_wide)
+
+  pub first_chip : chip_of (take 96 b) ≡ chip_of b
+  first_chip =
+      ap (λ (t : Bool). cond t none (chip_in (take 96 (take 96 b)))) first_wide ∙ ap chip_in (as_first first_length)
+      ∙ ap (λ (t : Bool). cond t none (chip_in (take 96 b))) (sym buffer_wide)
+
+  first_kept : (c : Chip) → kept_in c false (take 96 b) ++ drop 96 b ≡ kept_in c false b
+  first_kept c =
+      ap (λ (t : Bool). cond t (take 96 b) (kept_bytes c false ++ drop 96 (take 96 b)) ++ drop 96 b) first_wide
+      ∙ ap (λ (l : List ℕ). (kept_bytes c false ++ l) ++ drop 96 b) (drop_of_length-le (take 96 b) {i = 96} (omega (arith, first_length)))
+      ∙ ap (λ (l : List ℕ). l ++ drop 96 b) (append-nil (kept_bytes c false))
+      ∙ ap (λ (t : Bool). cond t b (kept_bytes c false ++ drop 96 b)) (sym buffer_wide)
+
+  pub came_first : (step : Chip → Stepped) (r : Option Outcome) (x : List ℕ) → CameBy (take 96 b) (step (chip_of (take 96 b))) r x
+      → CameBy b (step (chip_of b)) r (x ++ drop 96 b)
+  came_first step (Some r) x h =
+      λ g.
+      let k : Came (take 96 b) (step (chip_of (take 96 b))) (flag_of r.byte) (byte_of r.byte) r.shown x = h (first_good ∙ g) in
+      record {
+        left = k.left;
+        happens = k.happens ∙ ap step first_chip;
+        shows = k.shows;
+        leaves = ap (λ (l : List ℕ). l ++ drop 96 b) k.leaves ∙ first_kept k.left;
+      }
+  came_first step None x h = ap (λ (l : List ℕ). l ++ drop 96 b) h ∙ take-append-drop 96 b
+
+  pub did_first : (e : Event) (r : Option Outcome) (x : List ℕ) → DidBy (take 96 b) e r x → DidBy b e r (x ++ drop 96 b)
+  did_first e = came_first (happened e)

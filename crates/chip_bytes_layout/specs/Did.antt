@@ -1,5 +1,5 @@
 -- An event done in the bytes of a chip. Assumes nothing.
-use Rattle.std.specs.Prelude.{◌≡◌, Bool, true, false, List, ℕ, ◌≤◌, length, take}
+use Rattle.std.specs.Prelude.{◌≡◌, Bool, true, false, List, ℕ, ◌≤◌, Option, Some, None, length, take}
 use Rattle.events.specs.Event.{Event}
 use Rattle.bits.specs.BytesLaws.{Bytes}
 use Rattle.registers.specs.declared.Shown.{Shown}
@@ -9,18 +9,13 @@ use Rattle.chip.specs.Chip.{happened}
 use Rattle.constants.specs.Size.{KEPT_CHIP}
 use Rattle.chip_bytes_layout.specs.Place.{NORMAL}
 use Rattle.chip_bytes_layout.specs.Layout.{switch_at, chip_at, good_of, chip_of, kept_in}
-use Rattle.chip_bytes_layout.specs.declared.Done.{Done}
-use Rattle.chip_bytes_layout.specs.declared.Done.TheVariants.{Shows, Not}
+use Rattle.chip_bytes_layout.specs.declared.Outcome.{Outcome}
 
 -- bytes that have room for a chip, and one in NORMAL where they are good
 pub record Awake (b : List ℕ) : Type 0 where
   pub room : KEPT_CHIP ≤ length b
   pub bytes : Bytes (take KEPT_CHIP b)
   pub normal : switch_at (take KEPT_CHIP b) NORMAL ≡ true
-
-abbrev pub AwakeBy : List ℕ → Bool → Type 0
-AwakeBy b true = Awake b
-AwakeBy b false = Unit
 
 -- the chip of the first 96 bytes
 abbrev pub chip_here : List ℕ → Chip
@@ -37,14 +32,23 @@ pub record Came (b : List ℕ) (s : Stepped) (flag : Bool) (byte : ℕ) (shown :
   pub shows : shown ≡ left.registers.shown
   pub leaves : new ≡ kept_in left false b
 
+-- the bus flag and byte of an entry, by the byte that the bus gives back
+abbrev pub flag_of : Option ℕ → Bool
+flag_of None = false
+flag_of (Some x) = true
+
+abbrev pub byte_of : Option ℕ → ℕ
+byte_of None = 0
+byte_of (Some x) = x
+
 -- .. where they are good; or nothing changed
-abbrev pub CameBy : List ℕ → Stepped → Done → List ℕ → Type 0
-CameBy b s (Shows flag byte shown) new = good_of b ≡ true → Came b s flag byte shown new
-CameBy b s Not new = new ≡ b
+abbrev pub CameBy : List ℕ → Stepped → Option Outcome → List ℕ → Type 0
+CameBy b s (Some r) new = good_of b ≡ true → Came b s (flag_of r.byte) (byte_of r.byte) r.shown new
+CameBy b s None new = new ≡ b
 
 -- the event has happened to it
 abbrev pub Did : List ℕ → Event → Bool → ℕ → Shown → List ℕ → Type 0
 Did b e flag byte shown new = Came b (happened e (chip_of b)) flag byte shown new
 
-abbrev pub DidBy : List ℕ → Event → Done → List ℕ → Type 0
+abbrev pub DidBy : List ℕ → Event → Option Outcome → List ℕ → Type 0
 DidBy b e r new = CameBy b (happened e (chip_of b)) r new

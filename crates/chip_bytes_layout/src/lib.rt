@@ -1,12 +1,10 @@
 // The kept chip: how a chip, and whether a wiring record is still taken, stand in 96 bytes.
 #![tactic(auto)]
 
-ghost use Rattle.std.specs.Prelude.{◌≡◌, length};
+ghost use Rattle.std.specs.Prelude.{◌≡◌};
 ghost use Rattle.bits.specs.BytesLaws.{Bytes};
-ghost use Rattle.constants.specs.Size.{KEPT_CHIP};
 ghost use Rattle.chip_bytes_layout.specs.Place.{NORMAL};
 ghost use Rattle.chip_bytes_layout.specs.Layout.{switch_at};
-ghost use Rattle.chip_bytes_layout.specs.Did.{AwakeBy};
 
 use chip::Chip;
 use constants::size;
@@ -17,6 +15,9 @@ pub mod place;
 // Byte 0.
 pub const LAYOUT: u8 = 1;
 
+// The bytes of one chip.
+pub type ChipBytes = [u8; size::KEPT_CHIP];
+
 // A chip as it was kept, and whether a wiring record is still taken. Part 0: no chip yet. Not good: bytes that are no chip.
 #[derive(Clone, Copy)]
 pub struct Kept {
@@ -25,28 +26,16 @@ pub struct Kept {
     pub fresh: bool,
 }
 
-// What an event on a kept chip came to: the bytes have it, and this is the bus flag and byte that it gives and what the chip then shows; or it is not done,
-// and the bytes are as they were.
+// What an event that is done on a kept chip came to, where the bytes have it: the byte that the bus gives back, and what the chip then shows.
 #[derive(Clone, Copy)]
-pub enum Done {
-    Shows(bool, u8, Shown),
-    Not,
+pub struct Outcome {
+    pub byte: Option<u8>,
+    pub shown: Shown,
 }
 
-// Whether the chip that 96 bytes have is in NORMAL.
-fn awake_at(b: &[u8]) -> bool
-    requires { length b.now ≡ KEPT_CHIP }
+// Whether the chip that the bytes have is in NORMAL.
+pub fn awake(b: &ChipBytes) -> bool
     ensures { (result ≡ switch_at b.now NORMAL) × Bytes b.now }
 {
     b[place::NORMAL] == 1
-}
-
-// Whether there is room for a chip, and the one that stands there is in NORMAL.
-pub fn awake(bytes: &[u8]) -> bool
-    ensures { AwakeBy bytes.now result }
-{
-    if bytes.len() < size::KEPT_CHIP {
-        return false;
-    }
-    awake_at(&bytes[..size::KEPT_CHIP])
 }

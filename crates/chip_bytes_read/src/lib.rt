@@ -1,19 +1,19 @@
 // The parts of a chip from its bytes.
 #![tactic(auto)]
 
-ghost use Rattle.std.specs.Prelude.{◌≡◌, ◌<◌, length};
-ghost use Rattle.constants.specs.Size.{KEPT_CHIP};
+ghost use Rattle.std.specs.Prelude.{◌≡◌, ◌<◌};
 ghost use Rattle.chip_bytes_layout.specs.Place.{NUMBERS};
 ghost use Rattle.chip_bytes_layout.specs.Layout.{phase_of, word_in, setup_at, bus_at, settings_at, status_at, shown_at, cellbal_at, measured_at, runs_at, registers_at, chip_at};
 
 use bus::{Bus, Line, Owed, Phase};
 use chip::Chip;
-use chip_bytes_layout::place;
+use chip_bytes_layout::{ChipBytes, place};
 use events::Setup;
 use protection::Runs;
 use registers::{Cellbal, Measured, Registers, Shown, Status};
 use settings::Settings;
 
+#[tactic(auto, unfolding(chip_bytes_layout::specs::Layout::phase_of))]
 fn phase_of(tag: u8, x: u8, y: u8) -> Phase
     ensures { result ≡ phase_of tag x y }
 {
@@ -29,50 +29,44 @@ fn phase_of(tag: u8, x: u8, y: u8) -> Phase
 }
 
 // The i-th number of two bytes.
-pub fn word(b: &[u8], i: usize) -> u16
-    requires b_len { length b.now ≡ KEPT_CHIP }
-    requires i_bound { i < NUMBERS }
+#[tactic(auto, using(chip_bytes_layout::specs::ListedLaws::word_is))]
+pub fn word(b: &ChipBytes, i: usize) -> u16
+    requires { i < NUMBERS }
     ensures { result ≡ word_in b.now i }
 {
-    let low = b[place::WORDS + 2 * i] as u16;
-    let high = b[place::WORDS_HIGH + 2 * i] as u16;
-    low + 256 * high
+    u16::from_le_bytes([b[place::WORDS + 2 * i], b[place::WORDS_HIGH + 2 * i]])
 }
 
-pub fn setup_at(b: &[u8]) -> Setup
-    requires { length b.now ≡ KEPT_CHIP }
+pub fn setup_at(b: &ChipBytes) -> Setup
     ensures { result ≡ setup_at b.now }
 {
-    let floor = word(b, place::FLOOR);
     Setup {
         part: b[place::PART],
         crc: b[place::CRC] == 1,
         address: b[place::ADDRESS],
         gain_code: b[place::GAIN_CODE],
         offset: b[place::OFFSET],
-        floor,
+        floor: word(b, place::FLOOR),
         cells: b[place::CELLS],
     }
 }
 
-pub fn bus_at(b: &[u8]) -> Bus
-    requires { length b.now ≡ KEPT_CHIP }
+pub fn bus_at(b: &ChipBytes) -> Bus
     ensures { result ≡ bus_at b.now }
 {
-    let phase = phase_of(b[place::PHASE], b[place::FIRST], b[place::SECOND]);
-    let line = Line {
-        phase,
-        pointer: b[place::POINTER],
-    };
-    let owed = Owed {
-        sum: b[place::SUM],
-        low: b[place::LOW],
-    };
-    Bus { line, owed }
+    Bus {
+        line: Line {
+            phase: phase_of(b[place::PHASE], b[place::FIRST], b[place::SECOND]),
+            pointer: b[place::POINTER],
+        },
+        owed: Owed {
+            sum: b[place::SUM],
+            low: b[place::LOW],
+        },
+    }
 }
 
-pub fn settings_at(b: &[u8]) -> Settings
-    requires { length b.now ≡ KEPT_CHIP }
+pub fn settings_at(b: &ChipBytes) -> Settings
     ensures { result ≡ settings_at b.now }
 {
     Settings {
@@ -90,8 +84,7 @@ pub fn settings_at(b: &[u8]) -> Settings
     }
 }
 
-pub fn status_at(b: &[u8]) -> Status
-    requires { length b.now ≡ KEPT_CHIP }
+pub fn status_at(b: &ChipBytes) -> Status
     ensures { result ≡ status_at b.now }
 {
     Status {
@@ -105,21 +98,18 @@ pub fn status_at(b: &[u8]) -> Status
     }
 }
 
-pub fn shown_at(b: &[u8]) -> Shown
-    requires { length b.now ≡ KEPT_CHIP }
+pub fn shown_at(b: &ChipBytes) -> Shown
     ensures { result ≡ shown_at b.now }
 {
-    let status = status_at(b);
     Shown {
-        status,
+        status: status_at(b),
         cc_oneshot: b[place::CC_ONESHOT] == 1,
         dsg_on: b[place::DSG_ON] == 1,
         chg_on: b[place::CHG_ON] == 1,
     }
 }
 
-pub fn cellbal_at(b: &[u8]) -> Cellbal
-    requires { length b.now ≡ KEPT_CHIP }
+pub fn cellbal_at(b: &ChipBytes) -> Cellbal
     ensures { result ≡ cellbal_at b.now }
 {
     Cellbal {
@@ -129,39 +119,38 @@ pub fn cellbal_at(b: &[u8]) -> Cellbal
     }
 }
 
-pub fn measured_at(b: &[u8]) -> Measured
-    requires { length b.now ≡ KEPT_CHIP }
+pub fn measured_at(b: &ChipBytes) -> Measured
     ensures { result ≡ measured_at b.now }
 {
-    let bat = word(b, place::BAT);
-    let cc = word(b, place::CC);
-    let ts = [
-        word(b, place::TS1),
-        word(b, place::TS2),
-        word(b, place::TS3),
-    ];
-    let cells = [
-        word(b, place::VC1),
-        word(b, place::VC2),
-        word(b, place::VC3),
-        word(b, place::VC4),
-        word(b, place::VC5),
-        word(b, place::VC6),
-        word(b, place::VC7),
-        word(b, place::VC8),
-        word(b, place::VC9),
-        word(b, place::VC10),
-        word(b, place::VC11),
-        word(b, place::VC12),
-        word(b, place::VC13),
-        word(b, place::VC14),
-        word(b, place::VC15),
-    ];
-    Measured { cells, bat, ts, cc }
+    Measured {
+        cells: [
+            word(b, place::VC1),
+            word(b, place::VC2),
+            word(b, place::VC3),
+            word(b, place::VC4),
+            word(b, place::VC5),
+            word(b, place::VC6),
+            word(b, place::VC7),
+            word(b, place::VC8),
+            word(b, place::VC9),
+            word(b, place::VC10),
+            word(b, place::VC11),
+            word(b, place::VC12),
+            word(b, place::VC13),
+            word(b, place::VC14),
+            word(b, place::VC15),
+        ],
+        bat: word(b, place::BAT),
+        ts: [
+            word(b, place::TS1),
+            word(b, place::TS2),
+            word(b, place::TS3),
+        ],
+        cc: word(b, place::CC),
+    }
 }
 
-pub fn runs_at(b: &[u8]) -> Runs
-    requires { length b.now ≡ KEPT_CHIP }
+pub fn runs_at(b: &ChipBytes) -> Runs
     ensures { result ≡ runs_at b.now }
 {
     Runs {
@@ -172,37 +161,28 @@ pub fn runs_at(b: &[u8]) -> Runs
     }
 }
 
-fn registers_at(b: &[u8]) -> Registers
-    requires { length b.now ≡ KEPT_CHIP }
+fn registers_at(b: &ChipBytes) -> Registers
     ensures { result ≡ registers_at b.now }
 {
-    let settings = settings_at(b);
-    let shown = shown_at(b);
-    let cellbal = cellbal_at(b);
-    let measured = measured_at(b);
     Registers {
-        settings,
-        shown,
-        cellbal,
-        measured,
+        settings: settings_at(b),
+        shown: shown_at(b),
+        cellbal: cellbal_at(b),
+        measured: measured_at(b),
         load_level: b[place::LOAD_LEVEL] == 1,
         outside_level: b[place::OUTSIDE_LEVEL] == 1,
     }
 }
 
-pub fn chip_at(b: &[u8]) -> Chip
-    requires { length b.now ≡ KEPT_CHIP }
+#[tactic(auto, unfolding(chip_bytes_layout::specs::Layout::chip_at))]
+pub fn chip_at(b: &ChipBytes) -> Chip
     ensures { result ≡ chip_at b.now }
 {
-    let setup = setup_at(b);
-    let bus = bus_at(b);
-    let registers = registers_at(b);
-    let runs = runs_at(b);
     Chip {
-        setup,
+        setup: setup_at(b),
         normal: b[place::NORMAL] == 1,
-        bus,
-        registers,
-        runs,
+        bus: bus_at(b),
+        registers: registers_at(b),
+        runs: runs_at(b),
     }
 }

@@ -1,15 +1,13 @@
 // The bytes of a chip.
 #![tactic(auto)]
 
-ghost use Rattle.std.specs.Prelude.{◌≡◌, ◌++◌, ◌+◌, ◌≤◌, length, drop, replicate};
-ghost use Rattle.constants.specs.Size.{KEPT_CHIP};
+ghost use Rattle.std.specs.Prelude.{◌≡◌};
 ghost use Rattle.chip_bytes_layout.specs.Layout.{tag_of, first_of, second_of, plain_of, switches_of, words_of, chip_bytes, kept_in};
 
 use bits::bytes::{put_bytes, put_words};
-use bits::weigh;
-use bus::Phase;
+use bus::{Bus, Phase};
 use chip::Chip;
-use chip_bytes_layout::{LAYOUT, place};
+use chip_bytes_layout::{ChipBytes, LAYOUT, place};
 use constants::size;
 
 pub fn tag_of(phase: Phase) -> u8
@@ -30,13 +28,12 @@ pub fn first_of(phase: Phase) -> u8
     ensures { result ≡ first_of phase }
 {
     match phase {
-        Phase::Idle => 0,
-        Phase::Address => 0,
         Phase::Pointing(sum) => sum,
         Phase::Writing(sum) => sum,
         Phase::Checking(byte, _) => byte,
         Phase::Reading(sum, _) => sum,
-        Phase::Summing(kept) => weigh(kept, 1),
+        Phase::Summing(kept) => u8::from(kept),
+        _ => 0,
     }
 }
 
@@ -44,13 +41,9 @@ pub fn second_of(phase: Phase) -> u8
     ensures { result ≡ second_of phase }
 {
     match phase {
-        Phase::Idle => 0,
-        Phase::Address => 0,
-        Phase::Pointing(_) => 0,
-        Phase::Writing(_) => 0,
         Phase::Checking(_, sum) => sum,
-        Phase::Reading(_, kept) => weigh(kept, 1),
-        Phase::Summing(_) => 0,
+        Phase::Reading(_, kept) => u8::from(kept),
+        _ => 0,
     }
 }
 
@@ -58,25 +51,22 @@ pub fn second_of(phase: Phase) -> u8
 fn plain_of(chip: Chip) -> [u8; 21]
     ensures { result ≡ plain_of chip }
 {
-    let setup = chip.setup;
-    let line = chip.bus.line;
-    let owed = chip.bus.owed;
+    let Bus { line, owed } = chip.bus;
     let s = chip.registers.settings;
     let cellbal = chip.registers.cellbal;
-    let phase = line.phase;
     [
         LAYOUT,
-        setup.part,
-        setup.address,
-        setup.gain_code,
-        setup.offset,
-        setup.cells,
+        chip.setup.part,
+        chip.setup.address,
+        chip.setup.gain_code,
+        chip.setup.offset,
+        chip.setup.cells,
         line.pointer,
         owed.sum,
         owed.low,
-        tag_of(phase),
-        first_of(phase),
-        second_of(phase),
+        tag_of(line.phase),
+        first_of(line.phase),
+        second_of(line.phase),
         s.protect1,
         s.protect2,
         s.protect3,
@@ -97,26 +87,26 @@ fn switches_of(chip: Chip, fresh: bool) -> [u8; 20]
     let shown = chip.registers.shown;
     let t = shown.status;
     [
-        weigh(chip.setup.crc, 1),
-        weigh(chip.normal, 1),
-        weigh(fresh, 1),
-        weigh(s.adc_en, 1),
-        weigh(s.temp_sel, 1),
-        weigh(s.shut_b, 1),
-        weigh(s.delay_dis, 1),
-        weigh(s.cc_en, 1),
-        weigh(t.cc_ready, 1),
-        weigh(t.xready, 1),
-        weigh(t.ovrd_alert, 1),
-        weigh(t.uv, 1),
-        weigh(t.ov, 1),
-        weigh(t.scd, 1),
-        weigh(t.ocd, 1),
-        weigh(shown.cc_oneshot, 1),
-        weigh(shown.dsg_on, 1),
-        weigh(shown.chg_on, 1),
-        weigh(chip.registers.load_level, 1),
-        weigh(chip.registers.outside_level, 1),
+        u8::from(chip.setup.crc),
+        u8::from(chip.normal),
+        u8::from(fresh),
+        u8::from(s.adc_en),
+        u8::from(s.temp_sel),
+        u8::from(s.shut_b),
+        u8::from(s.delay_dis),
+        u8::from(s.cc_en),
+        u8::from(t.cc_ready),
+        u8::from(t.xready),
+        u8::from(t.ovrd_alert),
+        u8::from(t.uv),
+        u8::from(t.ov),
+        u8::from(t.scd),
+        u8::from(t.ocd),
+        u8::from(shown.cc_oneshot),
+        u8::from(shown.dsg_on),
+        u8::from(shown.chg_on),
+        u8::from(chip.registers.load_level),
+        u8::from(chip.registers.outside_level),
     ]
 }
 
@@ -124,74 +114,57 @@ fn switches_of(chip: Chip, fresh: bool) -> [u8; 20]
 fn words_of(chip: Chip) -> [u16; 25]
     ensures { result ≡ words_of chip }
 {
-    let setup = chip.setup;
     let runs = chip.runs;
     let measured = chip.registers.measured;
-    let ts = measured.ts;
-    let cells = measured.cells;
     [
-        setup.floor,
+        chip.setup.floor,
         runs.ov,
         runs.uv,
         runs.scd,
         runs.ocd,
         measured.bat,
         measured.cc,
-        ts[0],
-        ts[1],
-        ts[2],
-        cells[0],
-        cells[1],
-        cells[2],
-        cells[3],
-        cells[4],
-        cells[5],
-        cells[6],
-        cells[7],
-        cells[8],
-        cells[9],
-        cells[10],
-        cells[11],
-        cells[12],
-        cells[13],
-        cells[14],
+        measured.ts[0],
+        measured.ts[1],
+        measured.ts[2],
+        measured.cells[0],
+        measured.cells[1],
+        measured.cells[2],
+        measured.cells[3],
+        measured.cells[4],
+        measured.cells[5],
+        measured.cells[6],
+        measured.cells[7],
+        measured.cells[8],
+        measured.cells[9],
+        measured.cells[10],
+        measured.cells[11],
+        measured.cells[12],
+        measured.cells[13],
+        measured.cells[14],
     ]
 }
 
 // A chip that stands, in full.
-fn put_chip(chip: Chip, fresh: bool, out: &mut [u8])
-    requires { KEPT_CHIP ≤ length out.old }
-    ensures { out.new ≡ chip_bytes chip fresh ++ drop KEPT_CHIP out.old }
+fn put_chip(chip: Chip, fresh: bool, out: &mut ChipBytes)
+    ensures { out.new ≡ chip_bytes chip fresh }
 {
-    let plain = plain_of(chip);
-    put_bytes(out, place::VERSION, &plain);
-    let switches = switches_of(chip, fresh);
-    put_bytes(out, place::CRC, &switches);
-    let zeros = [0u8; place::RESTS];
-    put_bytes(out, place::REST1, &zeros);
-    let words = words_of(chip);
-    put_words(out, place::WORDS, &words);
-}
-
-// No chip yet.
-fn put_none(out: &mut [u8])
-    requires { KEPT_CHIP ≤ length out.old }
-    ensures { out.new ≡ replicate KEPT_CHIP 0 ++ drop KEPT_CHIP out.old }
-{
-    let zeros = [0u8; size::KEPT_CHIP];
-    put_bytes(out, place::VERSION, &zeros);
+    put_bytes(out, place::VERSION, &plain_of(chip));
+    put_bytes(out, place::CRC, &switches_of(chip, fresh));
+    put_bytes(out, place::REST1, &[0; place::RESTS]);
+    put_words(out, place::WORDS, &words_of(chip));
 }
 
 // The chip as its bytes, where they have room; no chip yet is all zero.
 pub fn encode(chip: Chip, fresh: bool, out: &mut [u8])
     ensures { out.new ≡ kept_in chip fresh out.old }
 {
-    if out.len() < size::KEPT_CHIP {
+    let Some(b) = out.first_chunk_mut() else {
         return;
-    }
+    };
     if chip.setup.part == 0 {
-        put_none(out);
-        return;
+        *b = [0; size::KEPT_CHIP];
+    } else {
+        put_chip(chip, fresh, b);
     }
-    put_chip(chip, fresh, out);
 }

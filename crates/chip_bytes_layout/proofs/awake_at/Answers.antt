@@ -1,7 +1,0 @@
--- What a slice of bytes holds is bytes.
-use Rattle.std.proofs.Common.{refl}
-use Rattle.chip_bytes_layout.proofs.Bytes.{bytes_all}
-use Rattle.chip_bytes_layout.proofs.awake_at.Goals as goal
-
-pub returns : goal.returns
-returns c = (refl, bytes_all c.args.b.now c.type_inv.b)
