@@ -8,7 +8,6 @@ use bits::bytes::{put_bytes, put_words};
 use bus::{Bus, Phase};
 use chip::Chip;
 use chip_bytes_layout::{ChipBytes, LAYOUT, place};
-use constants::size;
 
 pub fn tag_of(phase: Phase) -> u8
     ensures { result ≡ tag_of phase }
@@ -48,6 +47,7 @@ pub fn second_of(phase: Phase) -> u8
 }
 
 // The version, and what is a byte.
+#[tactic(auto, unfolding(chip_bytes_layout::specs::Layout::plain_of))]
 fn plain_of(chip: Chip) -> [u8; 21]
     ensures { result ≡ plain_of chip }
 {
@@ -111,6 +111,7 @@ fn switches_of(chip: Chip, fresh: bool) -> [u8; 20]
 }
 
 // What is two bytes.
+#[tactic(auto, unfolding(chip_bytes_layout::specs::Layout::words_of))]
 fn words_of(chip: Chip) -> [u16; 25]
     ensures { result ≡ words_of chip }
 {
@@ -163,7 +164,7 @@ pub fn encode(chip: Chip, fresh: bool, out: &mut [u8])
         return;
     };
     if chip.setup.part == 0 {
-        *b = [0; size::KEPT_CHIP];
+        b.fill(0);
     } else {
         put_chip(chip, fresh, b);
     }

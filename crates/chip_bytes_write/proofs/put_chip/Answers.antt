@@ -3,5 +3,5 @@ use Rattle.chip_bytes_write.proofs.Stores.{put_as}
 use Rattle.chip_bytes_write.proofs.put_chip.Goals as goal
 
 pub returns : goal.returns
-returns c = put_as c.args.chip c.args.fresh c.args.out.now c.plain_of-plain.ensures c.switches_of-switches.ensures c.words_of-words.ensures c.requires
+returns c = put_as c.args.chip c.args.fresh c.args.out.now c.plain_of.ensures c.switches_of.ensures c.words_of.ensures c.told-out
     c.put_bytes.new.out c.put_bytes-2.new.out c.put_bytes-3.new.out c.put_bytes.ensures c.put_bytes-2.ensures c.put_bytes-3.ensures c.put_words.ensures

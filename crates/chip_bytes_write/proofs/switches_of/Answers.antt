@@ -1,7 +1,8 @@
 -- Switch by switch.
 use Rattle.chip_bytes_layout.specs.Layout.{switches_of}
+use Rattle.chip_bytes_write.proofs.Stores.{byte_is}
 use Rattle.chip_bytes_write.proofs.switches_of.Goals as goal
 
 pub returns : goal.returns
 unfolding switches_of
-returns c = simp (c.weigh-20.ensures.0, c.weigh-19.ensures.0, c.weigh-18.ensures.0, c.weigh-17.ensures.0, c.weigh-16.ensures.0, c.weigh-15.ensures.0, c.weigh-14.ensures.0, c.weigh-13.ensures.0, c.weigh-12.ensures.0, c.weigh-11.ensures.0, c.weigh-10.ensures.0, c.weigh-9.ensures.0, c.weigh-8.ensures.0, c.weigh-7.ensures.0, c.weigh-6.ensures.0, c.weigh-5.ensures.0, c.weigh-4.ensures.0, c.weigh-3.ensures.0, c.weigh-2.ensures.0, c.weigh.ensures.0)
+returns c = simp (byte_is, c.from-20.ensures, c.from-19.ensures, c.from-18.ensures, c.from-17.ensures, c.from-16.ensures, c.from-15.ensures, c.from-14.ensures, c.from-13.ensures, c.from-12.ensures, c.from-11.ensures, c.from-10.ensures, c.from-9.ensures, c.from-8.ensures, c.from-7.ensures, c.from-6.ensures, c.from-5.ensures, c.from-4.ensures, c.from-3.ensures, c.from-2.ensures, c.from.ensures)
