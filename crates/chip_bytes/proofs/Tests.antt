@@ -10,7 +10,6 @@ use lib.ListN.{length, take, drop}
 use Rattle.std.specs.List.{list_all, fold}
 use Rattle.bits.specs.Numbers.{within}
 use Rattle.chip.specs.declared.Chip.{Chip}
-use Rattle.chip_bytes_layout.specs.declared.Kept.{Kept}
 use Rattle.chip_bytes_layout.specs.Layout.{listed, keeps, no_chip}
 use Rattle.chip_bytes_layout.specs.Layout.{kept_of, good_of, chip_of, fresh_of}
 use Rattle.chip_bytes_layout.specs.ListedLaws.{listed_is, joined, joins}
@@ -21,8 +20,8 @@ module _ (b : List ℕ) {g : Bool} (q : g ≡ good_of b) where
   pub kept_good : {c : Chip} {f : Bool} → g ≡ true → c ≡ chip_of b → f ≡ fresh_of b → keeps c f ≡ kept_of b
   kept_good h e p = ap₂ keeps e p ∙ sym (good_keeps b (sym q ∙ h))
 
-  pub kept_bad : {k : Kept} → g ≡ false → k ≡ no_chip → k ≡ kept_of b
-  kept_bad h e = e ∙ sym (kept_as b ∙ ap (λ (t : Bool). cond t (keeps (chip_of b) (fresh_of b)) no_chip) (sym q ∙ h))
+  pub kept_bad : g ≡ false → no_chip ≡ kept_of b
+  kept_bad h = sym (kept_as b ∙ ap (λ (t : Bool). cond t (keeps (chip_of b) (fresh_of b)) no_chip) (sym q ∙ h))
 
 -- each byte 0
 pub zeros_are : (xs : List ℕ) → list_all (λ (x : ℕ). eqb x 0) xs ≡ within 0 xs

@@ -5,7 +5,7 @@ ghost use Rattle.std.specs.Prelude.{◌≡◌, ◌&&◌, true, drop, eqb, leb, t
 ghost use Rattle.std.specs.List.{fold, list_all};
 ghost use Rattle.bits.specs.Numbers.{within};
 ghost use Rattle.chip_bytes_layout.specs.Place.{FRESH, SWITCHES, SWITCHED, REST1, RESTS};
-ghost use Rattle.chip_bytes_layout.specs.Layout.{phase_good, listed, chip_at, formed, setup_stands, level_stands, fresh_stands, could_stand, switch_at, good_at, chip_in, good_of, chip_of, fresh_of, kept_of, no_chip, none};
+ghost use Rattle.chip_bytes_layout.specs.Layout.{phase_good, listed, chip_at, formed, setup_stands, level_stands, fresh_stands, could_stand, switch_at, good_at, chip_in, good_of, chip_of, fresh_of, kept_of, kept_seen, none};
 
 use chip::Chip;
 use chip_bytes_layout::{ChipBytes, Kept, LAYOUT, place};
@@ -112,17 +112,6 @@ fn all_zero(b: &ChipBytes) -> bool
     b.iter().all(|x| *x == 0)
 }
 
-// Bytes that are no chip.
-fn no_kept() -> Kept
-    ensures { result ≡ no_chip }
-{
-    Kept {
-        good: false,
-        chip: no_chip(),
-        fresh: false,
-    }
-}
-
 // Whether bytes keep a chip, or none yet.
 #[tactic(auto, using(crate::proofs::Tests::zeros_are), unfolding(chip_bytes_layout::specs::Layout::good_at))]
 fn good_at(b: &ChipBytes) -> bool
@@ -172,16 +161,15 @@ pub fn fresh_of(bytes: &[u8]) -> bool
     b[place::FRESH] == 1
 }
 
-// The chip that the first 96 bytes are.
-pub fn decode(bytes: &[u8]) -> Kept
-    ensures { result ≡ kept_of bytes.now }
+// The chip that the first 96 bytes are, where they are good.
+pub fn decode(bytes: &[u8]) -> Option<Kept>
+    ensures { kept_seen result ≡ kept_of bytes.now }
 {
     if !good(bytes) {
-        return no_kept();
+        return None;
     }
-    Kept {
-        good: true,
+    Some(Kept {
         chip: chip_of(bytes),
         fresh: fresh_of(bytes),
-    }
+    })
 }

@@ -6,7 +6,7 @@ use Rattle.std.proofs.Common.{sym, ap, ap₂, ◌∙◌, arith}
 use borrow.Author.Tests.{leb-true, ne_eqb}
 use Rattle.bits.specs.Numbers.{within}
 use Rattle.bits.specs.BoolLaws.{and_left, and_right}
-use Rattle.chip_bytes_layout.specs.declared.Kept.{Kept}
+use Rattle.chip_bytes_layout.specs.Kept.{Kept}
 use Rattle.chip_bytes_layout.specs.Layout.{switch_at, chip_at, formed, could_stand, none, keeps, no_chip, kept_at, good_at, chip_in}
 use Rattle.chip_bytes_layout.specs.Layout.{kept_of, good_of, chip_of, fresh_of}
 use Rattle.chip_bytes_layout.proofs.OneLaws.{part_not}

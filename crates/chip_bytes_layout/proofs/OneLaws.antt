@@ -9,7 +9,7 @@ use Rattle.events.specs.Setup.{setup_fits}
 use Rattle.bits.specs.BoolLaws.{and_left, and_right}
 use Rattle.bits.specs.BytesLaws.{Bytes}
 use Rattle.chip.specs.declared.Chip.{Chip}
-use Rattle.chip_bytes_layout.specs.declared.Kept.{Kept}
+use Rattle.chip_bytes_layout.specs.Kept.{Kept}
 use Rattle.chip_bytes_layout.specs.Layout.{plain_of, switches_of, words_of, chip_bytes, switch_at, chip_at, formed, setup_stands}
 use Rattle.chip_bytes_layout.specs.Layout.{could_stand}
 use Rattle.chip_bytes_layout.specs.Layout.{none, keeps, no_chip, kept_at, kept_bytes}

@@ -1,7 +1,7 @@
 -- The kept chip: a chip, and whether a wiring record is still taken, as 96 bytes and back. Byte 0 is the layout's version, 1; all zero
 -- is no chip yet. Assumes nothing.
 use Rattle.std.specs.Prelude.{Bool, true, false, not, ◌&&◌, ◌||◌, cond, List, [], ◌∷◌, ◌++◌, ℕ, zero, suc, eqb, leb, ltb, length, take}
-use Rattle.std.specs.Prelude.{drop, get_or, replicate}
+use Rattle.std.specs.Prelude.{drop, get_or, replicate, Option, Some, None}
 use Rattle.events.specs.declared.Setup.{Setup}
 use Rattle.events.specs.Setup.{setup_fits}
 use Rattle.bits.specs.Numbers.{within, bit_of, words, word_bytes}
@@ -20,7 +20,8 @@ use Rattle.registers.specs.State.{alert}
 use Rattle.protection.specs.declared.Runs.{Runs}
 use Rattle.chip.specs.declared.Chip.{Chip}
 use Rattle.chip.specs.Chip.{in_ship}
-use Rattle.chip_bytes_layout.specs.declared.Kept.{Kept}
+use Rattle.chip_bytes_layout.specs.Kept.{Kept}
+use Rattle.chip_bytes_layout.specs.declared.Kept.{Kept as Held}
 use Rattle.constants.specs.Size.{KEPT_CHIP}
 use Rattle.chip_bytes_layout.specs.Place.{LAYOUT, VERSION, PART, ADDRESS, GAIN_CODE, OFFSET, CELLS, POINTER, SUM}
 use Rattle.chip_bytes_layout.specs.Place.{LOW, PHASE, FIRST, SECOND, PROTECT1, PROTECT2, PROTECT3, OV_TRIP, UV_TRIP, CC_CFG}
@@ -254,6 +255,11 @@ keeps c fresh = record { good = true; chip = c; fresh = fresh }
 
 abbrev pub no_chip : Kept
 no_chip = record { good = false; chip = none; fresh = false }
+
+-- what a call's answer says of them
+abbrev pub kept_seen : Option Held → Kept
+kept_seen None = no_chip
+kept_seen (Some k) = keeps k.chip k.fresh
 
 unfoldable pub kept_at : List ℕ → Kept
 kept_at b =

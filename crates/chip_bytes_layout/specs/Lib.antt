@@ -1,4 +1,5 @@
 pub mod Place
+pub mod Kept
 pub mod Layout
 pub mod ListedLaws
 pub mod Did

@@ -18,10 +18,9 @@ pub const LAYOUT: u8 = 1;
 // The bytes of one chip.
 pub type ChipBytes = [u8; size::KEPT_CHIP];
 
-// A chip as it was kept, and whether a wiring record is still taken. Part 0: no chip yet. Not good: bytes that are no chip.
+// A chip as it was kept, and whether a wiring record is still taken. Part 0: no chip yet.
 #[derive(Clone, Copy)]
 pub struct Kept {
-    pub good: bool,
     pub chip: Chip,
     pub fresh: bool,
 }

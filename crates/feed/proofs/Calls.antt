@@ -18,7 +18,7 @@ use Rattle.stream_run.specs.Stream.{Ran}
 use Rattle.turn.specs.Frames.{frames_from}
 use Rattle.turn.specs.CountedLaws.{entries_from_count}
 use Rattle.turn.proofs.Runs.{entered_all}
-use Rattle.chip_bytes_layout.specs.declared.Kept.{Kept}
+use Rattle.chip_bytes_layout.specs.Kept.{Kept}
 use Rattle.chip_bytes_layout.specs.Layout.{no_chip, kept_at, kept_of, kept_in}
 use Rattle.chip_bytes_layout.proofs.OneLaws.{kept_stood}
 use Rattle.feed.specs.Fed.{entries_of, all_fit, answer_by, feeds_by, chip_after, entries_after, Fed}

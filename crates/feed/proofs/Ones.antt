@@ -37,7 +37,7 @@ use Rattle.turn.specs.declared.Entry.{Entry}
 use Rattle.turn.specs.Turn.{Turn, stays_fresh, turn, turn_of, entry_of}
 use Rattle.turn.specs.Entries.{runs, stands, stays, entries_from, chip_from, fresh_from, bytes_of}
 use Rattle.stream_run.proofs.Steps.{other_is, done_turn}
-use Rattle.chip_bytes_layout.specs.declared.Kept.{Kept}
+use Rattle.chip_bytes_layout.specs.Kept.{Kept}
 use Rattle.chip_bytes_layout.specs.Layout.{keeps, kept_of, good_of, chip_of, fresh_of, kept_in}
 use Rattle.chip_bytes_layout.proofs.GoodLaws.{good_keeps}
 use Rattle.chip_bytes_layout.specs.declared.Done.{Done}

@@ -4,7 +4,7 @@ use Rattle.constants.specs.Number.{NO_ROOM, NO_CHIP}
 use Rattle.constants.specs.Answer.{minus}
 use Rattle.turn.specs.declared.Entry.{Entry}
 use Rattle.turn.specs.Entries.{entries_from, chip_from, fresh_from, bytes_of}
-use Rattle.chip_bytes_layout.specs.declared.Kept.{Kept}
+use Rattle.chip_bytes_layout.specs.Kept.{Kept}
 use Rattle.constants.specs.Size.{ENTRY, KEPT_CHIP}
 use Rattle.chip_bytes_layout.specs.Layout.{kept_of, kept_in}
 

@@ -14,7 +14,7 @@ use Rattle.turn.specs.Entries.{runs, stands, stays, entries_from, chip_from, fre
 use Rattle.turn.specs.Entries.{entry_bytes, bytes_of}
 use Rattle.stream_run.specs.Stream.{Played}
 use Rattle.turn.specs.Pieces.{joined, fed_entries, fed_chip, fed_fresh, WholePieces, played_in_pieces}
-use Rattle.chip_bytes_layout.specs.declared.Kept.{Kept}
+use Rattle.chip_bytes_layout.specs.Kept.{Kept}
 use Rattle.chip_bytes_layout.specs.Layout.{keeps, no_chip, kept_at, kept_of, kept_bytes}
 use Rattle.chip_bytes_layout.proofs.OneLaws.{Stood, not_yet, trip, kept_length}
 use Rattle.feed.specs.Fed.{entries_of, all_fit, feeds, chip_after, entries_after, Fed}

@@ -5,7 +5,7 @@ use Rattle.chip_bytes.proofs.Tests.{kept_good, kept_bad}
 use Rattle.chip_bytes.proofs.decode.Goals as goal
 
 pub returns-then-not-good : goal.returns-then-not-good
-returns-then-not-good c = kept_bad c.args.bytes.now c.good.ensures (down c.good.result (ap not c.if-not-good.true)) c.no_kept.ensures
+returns-then-not-good c = kept_bad c.args.bytes.now c.good.ensures (down c.good.result (ap not c.if-not-good.true))
 
 pub returns : goal.returns
 returns c = kept_good c.args.bytes.now c.good.ensures (up c.good.result (ap not c.if-not-good.false)) c.chip_of.ensures c.fresh_of.ensures
