@@ -10,11 +10,11 @@ use Rattle.bus.specs.declared.Line.{Line}
 use Rattle.bus.specs.declared.Bus.{Bus}
 use Rattle.bus.specs.declared.Outed.{Outed}
 use Rattle.bus.specs.declared.Taken.{Taken}
-use Rattle.bus.specs.declared.Want.TheVariants.{Register, Nothing as NoRegister}
+use Rattle.std.specs.Prelude.{Some, None}
 use Rattle.bus.specs.Bus.{started, stopped, outed, wanted, takes}
 use Rattle.registers.specs.declared.Pair.{Pair}
 use Rattle.registers.specs.Read.{pair_at}
-use Rattle.chip.specs.declared.Heard.{Heard}
+use Rattle.chip.specs.Answer.{Heard}
 use Rattle.chip.specs.Chip.{taken_by}
 use Rattle.chip.specs.Parts.{unheard, sent_on, handed_over, heard_of}
 use Rattle.chip.proofs.Told.{told_pair, told_none}
@@ -23,14 +23,14 @@ use Rattle.chip_bytes_layout.specs.Layout.{setup_at, bus_at, registers_at, chip_
 module _ (b : List ℕ) {u : Bus} (hu : u ≡ bus_at b) where
   -- IN
   module _ (nack : Bool) {v : Setup} {t : Taken} (hv : v ≡ setup_at b) where
-    pub taken_pair : (a : ℕ) {p : Pair} → wanted (bus_at b) ≡ Register a → p ≡ pair_at v (registers_at b) a → t ≡ takes v p.here p.low nack u
+    pub taken_pair : (a : ℕ) {p : Pair} → wanted (bus_at b) ≡ Some a → p ≡ pair_at v (registers_at b) a → t ≡ takes v p.here p.low nack u
         → t ≡ taken_by nack (chip_at b)
     unfolding chip_at
     taken_pair a {p} w hp h =
         told_pair (chip_at b) nack a p w (hp ∙ ap (λ (v : Setup). pair_at v (registers_at b) a) hv)
         (h ∙ ap₂ (λ (v : Setup) (u : Bus). takes v p.here p.low nack u) hv hu)
 
-    pub taken_none : wanted (bus_at b) ≡ NoRegister → t ≡ takes v 0 0 nack u → t ≡ taken_by nack (chip_at b)
+    pub taken_none : wanted (bus_at b) ≡ None → t ≡ takes v 0 0 nack u → t ≡ taken_by nack (chip_at b)
     unfolding chip_at
     taken_none w h = told_none (chip_at b) nack w (h ∙ ap₂ (λ (v : Setup) (u : Bus). takes v 0 0 nack u) hv hu)
 

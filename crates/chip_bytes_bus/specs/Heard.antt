@@ -1,9 +1,8 @@
 -- What an event of the bus writes into the bytes of a chip. Assumes nothing.
-use Rattle.std.specs.Prelude.{◌≡◌, Bool, List, [], ◌∷◌, ℕ, set}
+use Rattle.std.specs.Prelude.{◌≡◌, Bool, List, [], ◌∷◌, ℕ, Option, Some, None, set}
 use Rattle.std.proofs.lemmas.List.Edits.{sets}
 use Rattle.bus.specs.declared.Bus.{Bus}
-use Rattle.bus.specs.declared.Store.{Store}
-use Rattle.bus.specs.declared.Store.TheVariants.{Nothing, At}
+use Rattle.bus.specs.Bus.{Store}
 use Rattle.chip_bytes_layout.specs.Place.{POINTER, FRESH}
 use Rattle.chip_bytes_layout.specs.Layout.{tag_of, first_of, second_of}
 use Rattle.chip.specs.declared.Chip.{Chip}
@@ -17,9 +16,9 @@ bus_in u b =
 
 -- the store that it asks for: none, or an accepted write
 abbrev pub KeptBy : Store → List ℕ → Bool → List ℕ → Type 0
-KeptBy Nothing b done new = new ≡ b
-KeptBy (At a v) b done new = WroteBy a v b done new
+KeptBy None b done new = new ≡ b
+KeptBy (Some w) b done new = WroteBy w.at w.value b done new
 
 abbrev pub kept_chip : Store → Chip → Chip
-kept_chip Nothing c = c
-kept_chip (At a v) c = wrote_chip a v c
+kept_chip None c = c
+kept_chip (Some w) c = wrote_chip w.at w.value c

@@ -1,18 +1,17 @@
 -- An event of the bus moves the bus and what it stores, in the bytes as in the chip. Assumes nothing.
-use Rattle.std.specs.Prelude.{◌≡◌, refl, Bool, true, false, cond, List, ◌++◌, ℕ, take, drop}
+use Rattle.std.specs.Prelude.{◌≡◌, refl, Bool, true, false, cond, List, ◌++◌, ℕ, Some, None, take, drop}
 use Rattle.std.proofs.Common.{sym, ap, ◌∙◌, subst}
 use Rattle.events.specs.declared.BusEvent.{BusEvent}
 use Rattle.events.specs.declared.BusEvent.TheVariants.{Start, Out, In, Stop}
 use Rattle.events.specs.Event.{OnBus}
 use Rattle.bus.specs.declared.Bus.{Bus}
-use Rattle.bus.specs.declared.Store.{Store}
-use Rattle.bus.specs.declared.Store.TheVariants.{Nothing, At}
+use Rattle.bus.specs.Bus.{Store}
 use Rattle.bus.specs.declared.Outed.{Outed}
 use Rattle.bus.specs.Bus.{with_line, outed}
 use Rattle.settings.specs.Write.{ships}
 use Rattle.registers.specs.declared.Shown.{Shown}
 use Rattle.chip.specs.declared.Chip.{Chip}
-use Rattle.chip.specs.declared.Heard.{Heard}
+use Rattle.chip.specs.Answer.{Heard}
 use Rattle.chip.specs.Chip.{with_bus, answered, in_ship, accepted, stored_at, stored, normally}
 use Rattle.chip.specs.Calm.{Calmed}
 use Rattle.chip.specs.Parts.{heard_of}
@@ -28,31 +27,31 @@ moved c f u rest = refl
 
 -- ── the store ──
 pub kept_not : (t : Store) (b new : List ℕ) → KeptBy t b false new → new ≡ b
-kept_not Nothing b new k = k
-kept_not (At a v) b new k = k
+kept_not None b new k = k
+kept_not (Some w) b new k = k
 
 -- it does not ship
 abbrev Stays : Store → Chip → Type 0
-Stays Nothing c = Unit
-Stays (At a v) c = ships a v c.registers.settings ≡ false
+Stays None c = Unit
+Stays (Some w) c = ships w.at w.value c.registers.settings ≡ false
 
 module _ (b new : List ℕ) where
   kept_stays : (t : Store) → KeptBy t b true new → Stays t (chip_here b)
-  kept_stays Nothing k = tt
-  kept_stays (At a v) k = k.stays
+  kept_stays None k = tt
+  kept_stays (Some w) k = k.stays
 
   kept_calm : (t : Store) → KeptBy t b true new → Calmed (chip_here b) → Calmed (kept_chip t (chip_here b))
-  kept_calm Nothing k = λ h. h
-  kept_calm (At a v) k = k.calm
+  kept_calm None k = λ h. h
+  kept_calm (Some w) k = k.calm
 
   kept_are : (t : Store) → KeptBy t b true new → (f : Bool) (rest : List ℕ) → b ≡ chip_bytes (chip_here b) f ++ rest
       → new ≡ chip_bytes (kept_chip t (chip_here b)) f ++ rest
-  kept_are Nothing k = λ f rest e. k ∙ e
-  kept_are (At a v) k = k.leaves
+  kept_are None k = λ f rest e. k ∙ e
+  kept_are (Some w) k = k.leaves
 
   kept_part : (t : Store) → (kept_chip t (chip_here b)).setup.part ≡ (chip_here b).setup.part
-  kept_part Nothing = refl
-  kept_part (At a v) = refl
+  kept_part None = refl
+  kept_part (Some w) = refl
 
 -- the bus, and what it stores, are all that it moves
 heard_normal : (e : BusEvent) (c : Chip) → Stays (heard_of e c).store c
@@ -68,8 +67,8 @@ heard_normal (Out b) c n = by (outed c.setup c.bus.line b).store n
 
     by : (t : Store) → Stays t c
         → answered o.byte (with_bus (with_line o.line c.bus) (kept_chip t c)) ≡ answered o.byte (stored o.line t c)
-    by Nothing n = refl
-    by (At a v) n = ap (λ (t : Bool). answered o.byte (cond t (in_ship c.setup) (accepted o.line a v c))) (sym n)
+    by None n = refl
+    by (Some w) n = ap (λ (t : Bool). answered o.byte (cond t (in_ship c.setup) (accepted o.line w.at w.value c))) (sym n)
 
 -- by what was read of them
 pub hears_did : (b : List ℕ) (e : BusEvent) {h : Heard} (mid : List ℕ) {shown : Shown} {new : List ℕ} → Awake b

@@ -5,6 +5,7 @@ use Rattle.bits.specs.Bit.{bit}
 use Rattle.constants.specs.Address as address
 use Rattle.constants.specs.Weight as weight
 use Rattle.bits.specs.Numbers.{bit_of}
+use Rattle.settings.specs.declared.Settings.{Settings}
 use Rattle.settings.specs.Write.{ships}
 use Rattle.registers.specs.declared.Status.{Status}
 use Rattle.registers.specs.declared.Shown.{Shown}
@@ -27,6 +28,15 @@ abbrev pub driven_in : ℕ → Shown → List ℕ → List ℕ
 driven_in v s b =
     sets (sets b DELAY_DIS (bit_of (bit v weight.DELAY_DIS) ∷ bit_of (bit v weight.CC_EN) ∷ [])) CC_ONESHOT
     (bit_of s.cc_oneshot ∷ bit_of s.dsg_on ∷ bit_of s.chg_on ∷ [])
+
+-- the same by the settings and what is shown
+abbrev pub control_in : Settings → List ℕ → List ℕ
+control_in s b = sets b ADC_EN (bit_of s.adc_en ∷ bit_of s.temp_sel ∷ bit_of s.shut_b ∷ [])
+
+abbrev pub drives_in : Settings → Shown → List ℕ → List ℕ
+drives_in s w b =
+    sets (sets b DELAY_DIS (bit_of s.delay_dis ∷ bit_of s.cc_en ∷ [])) CC_ONESHOT
+    (bit_of w.cc_oneshot ∷ bit_of w.dsg_on ∷ bit_of w.chg_on ∷ [])
 
 -- CELLBAL, by whether the part has the group
 abbrev pub cellbal_in : ℕ → ℕ → Bool → List ℕ → List ℕ

@@ -1,6 +1,6 @@
 -- A write moves the bytes of its register, in the bytes as in the chip. Assumes nothing.
 use Rattle.std.specs.Prelude.{◌≡◌, Bool, ◌&&◌, ℕ, zero, suc, ◌+◌, ◌-◌, ◌≤◌, leb, take}
-use Rattle.std.proofs.Math.Path.{refl, sym, ap, subst}
+use Rattle.std.proofs.Math.Path.{refl, sym, ap, ap₂, subst}
 use Rattle.std.proofs.Common.{◌∙◌, true≢false, arith, get_or-take, ne_eqb}
 use Rattle.std.proofs.Math.Bool.{true, false, not}
 use mathlib.Core.List.{List, ◌++◌}
@@ -8,7 +8,8 @@ use Rattle.std.proofs.Math.Dec.{eqb}
 use Rattle.std.proofs.Math.ListN.{get_or, set}
 use Rattle.events.specs.declared.Setup.{Setup}
 use Rattle.events.specs.Setup.{groups}
-use Rattle.settings.specs.Write.{is_shut_a, is_shut_b, keeps_pair, protect1_of, protect2_of, protect3_of, cc_cfg_of, settings_with}
+use Rattle.settings.specs.declared.Settings.{Settings}
+use Rattle.settings.specs.Write.{ships, is_shut_a, is_shut_b, keeps_pair, protect1_of, protect2_of, protect3_of, cc_cfg_of, settings_with}
 use Rattle.registers.specs.declared.Status.{Status}
 use Rattle.registers.specs.declared.Shown.{Shown}
 use Rattle.registers.specs.declared.Registers.{Registers}
@@ -19,7 +20,7 @@ use Rattle.chip.specs.Chip.{with_registers}
 use Rattle.chip.specs.Calm.{Calmed}
 use Rattle.chip_bytes_layout.specs.Layout.{plain_of, switches_of, words_of, chip_bytes, status_at, shown_at, settings_at, setup_at, chip_at}
 use Rattle.chip_bytes_layout.specs.Did.{chip_here}
-use Rattle.chip_bytes_bus.specs.Store.{stat_in, pair_in, driven_in, cellbal_in, wrote_chip, Wrote}
+use Rattle.chip_bytes_bus.specs.Store.{stat_in, pair_in, driven_in, control_in, drives_in, cellbal_in, wrote_chip, Wrote}
 
 -- ── register by register, over the bytes of any chip ──
 module _ (v : ℕ) (c : Chip) (f : Bool) (rest : List ℕ) where
@@ -256,3 +257,39 @@ module _ (b : List ℕ) (v : ℕ) {new : List ℕ} where
   wrote_cellbal (suc (suc zero)) t h k = λ q p n m. cellbal2 t (ap (leb 2) (sym (p ∙ ap groups q)) ∙ n) m
   wrote_cellbal (suc (suc (suc zero))) t h k = λ q p n m. cellbal3 t (ap (leb 3) (sym (p ∙ ap groups q)) ∙ n) m
   wrote_cellbal (suc (suc (suc (suc a)))) t h k = λ q p n m. absurd (omega arith)
+
+-- ── by the settings and what is shown, written ──
+raises_not : (x : ℕ) (a : Bool) → (x ≡ 1 → a ≡ true) → (eqb x 1 && not a) ≡ false
+raises_not x true h = by (eqb x 1)
+  where
+    by : (t : Bool) → (t && not true) ≡ false
+    by true = refl
+    by false = refl
+raises_not x false h = simp (ne_eqb x 1 (λ e. true≢false (sym (h e))))
+
+module _ (b : List ℕ) (v : ℕ) {new : List ℕ} where
+  pub stat_by : {t : Status} → t ≡ without (status_of v) (status_at (take 96 b)) → (get_or b 40 0 ≡ 1 → alert t ≡ true) → new ≡ stat_in t b
+      → Wrote 0x00 v b new
+  stat_by {t} q h m = wrote_stat b v q refl (raises_not (get_or b 40 0) (alert t) h) m
+
+  pub ctrl1_by : {s k : Settings} → s ≡ settings_at (take 96 b) → ships 0x04 v s ≡ false → k ≡ settings_with 0x04 v s → new ≡ control_in k b
+      → Wrote 0x04 v b new
+  unfolding chip_at settings_with shown_with cellbal_with
+  ctrl1_by {s} {k} e n h m =
+      let same : k ≡ settings_with 0x04 v (settings_at (take 96 b)) = h ∙ ap (settings_with 0x04 v) e in
+      record {
+        stays = ap (ships 0x04 v) (sym e) ∙ n;
+        calm = λ k. k;
+        leaves =
+            λ f rest q.
+            m ∙ ap (λ (s : Settings). control_in s b) same ∙ ap (control_in (settings_with 0x04 v (settings_at (take 96 b)))) q
+            ∙ ctrl1_moved v (chip_here b) f rest;
+      }
+
+  pub ctrl2_by : {k : Settings} {w : Shown} → k ≡ settings_with 0x05 v (settings_at (take 96 b)) → w ≡ shown_with 0x05 v (shown_at (take 96 b))
+      → new ≡ drives_in k w b → Wrote 0x05 v b new
+  unfolding settings_with shown_with
+  ctrl2_by e h m =
+      wrote_ctrl2 b v h
+      (m ∙ ap₂ (λ (s : Settings) (w : Shown). drives_in s w b) e h
+      ∙ ap (λ (w : Shown). driven_in v w b) (sym h))

@@ -7,7 +7,8 @@ use lib.ListN.{length, take}
 use lib.Seq.{sets}
 use Rattle.events.specs.declared.Setup.{Setup}
 use Rattle.events.specs.Setup.{inputs}
-use Rattle.events.specs.Fault.{Ov, Uv, among}
+use Rattle.events.specs.declared.Fault.TheVariants.{Ov, Uv}
+use Rattle.events.specs.Fault.{among}
 use Rattle.cell_counts.specs.declared.Looked.{Looked}
 use Rattle.cell_counts.specs.Scan.{padded, looked_at}
 use Rattle.settings.specs.declared.Settings.{Settings}
@@ -16,7 +17,7 @@ use Rattle.registers.specs.declared.Shown.{Shown}
 use Rattle.registers.specs.State.{with_shown}
 use Rattle.registers.specs.Fault.{raised}
 use Rattle.registers.specs.Judging.{bat_of, scan_kept}
-use Rattle.protection.specs.declared.Runs.{Runs}
+use Rattle.protection.specs.Fault.{Runs}
 use Rattle.protection.specs.declared.Judged.{Judged}
 use Rattle.limits.specs.Rule.{rule}
 use Rattle.protection.specs.Judged.{scan_judged}

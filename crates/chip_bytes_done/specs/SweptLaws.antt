@@ -10,7 +10,7 @@ use Rattle.registers.specs.Judging.{bat_of, cells_kept, scan_kept, scanned}
 use Rattle.protection.specs.Runs.{risen}
 use Rattle.registers.specs.declared.Shown.{Shown}
 use Rattle.registers.specs.State.{with_shown, with_measured}
-use Rattle.protection.specs.declared.Runs.{Runs}
+use Rattle.protection.specs.Fault.{Runs}
 use Rattle.chip.specs.declared.Chip.{Chip}
 use Rattle.chip.specs.Chip.{numbered, with_registers, with_runs}
 use Rattle.chip.specs.Calm.{Calmed}

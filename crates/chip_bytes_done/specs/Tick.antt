@@ -5,7 +5,7 @@ use Rattle.events.specs.Fault.{among}
 use Rattle.bits.specs.Numbers.{bit_of, word_bytes}
 use Rattle.registers.specs.declared.Shown.{Shown}
 use Rattle.registers.specs.Fault.{raised}
-use Rattle.protection.specs.declared.Runs.{Runs}
+use Rattle.protection.specs.Fault.{Runs}
 use Rattle.protection.specs.declared.Judged.{Judged}
 use Rattle.constants.specs.Size.{KEPT_CHIP}
 use Rattle.chip_bytes_layout.specs.Layout.{shown_at}

@@ -4,18 +4,18 @@ use Rattle.std.specs.Prelude.{◌≡◌, Bool, true, cond, ◌||◌, List, ◌++
 use Rattle.std.proofs.Math.Path.{refl, ap}
 use Rattle.std.proofs.Common.{sym, ap₂, ◌∙◌, subst}
 use Rattle.std.proofs.Math.Bool.{false}
-use Rattle.events.specs.declared.Faults.{Faults}
+use Rattle.events.specs.Fault.{Faults}
 use Rattle.events.specs.Event.{Sense}
 use Rattle.events.specs.Fault.{among}
 use Rattle.settings.specs.declared.Settings.{Settings}
 use Rattle.registers.specs.declared.Shown.{Shown}
 use Rattle.registers.specs.Fault.{raised}
-use Rattle.protection.specs.declared.Runs.{Runs}
+use Rattle.protection.specs.Fault.{Runs}
 use Rattle.protection.specs.declared.Judged.{Judged}
 use Rattle.protection.specs.Judged.{tick_judged}
 use Rattle.protection.specs.Repeat.{ticks_judged, ticks_alike, ticks_alike_lem}
 use Rattle.chip.specs.declared.Chip.{Chip}
-use Rattle.chip.specs.declared.Stepped.{Stepped}
+use Rattle.chip.specs.Answer.{Stepped}
 use Rattle.chip.specs.Chip.{numbered, with_runs, settled, normally, asleep, happened, ticking, ticked}
 use Rattle.chip.specs.Parts.{raised_by, tick_parts, still_tick}
 use Rattle.chip.specs.RepeatLaws.{ticked_by}

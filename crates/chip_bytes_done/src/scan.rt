@@ -2,7 +2,7 @@
 ghost use Rattle.std.specs.Prelude.{◌≡◌, ◌≤◌, length, take};
 ghost use Rattle.events.specs.Setup.{inputs};
 ghost use Rattle.events.specs.Event.{Scan};
-ghost use Rattle.events.specs.Fault.{Ov, Uv};
+ghost use Rattle.events.specs.declared.Fault.TheVariants.{Ov, Uv};
 ghost use Rattle.cell_counts.specs.Scan.{looked_at};
 ghost use Rattle.limits.specs.Rule.{rule};
 ghost use Rattle.registers.specs.Judging.{bat_of};

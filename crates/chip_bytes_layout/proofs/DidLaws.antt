@@ -3,7 +3,7 @@
 use Rattle.std.specs.Prelude.{◌≡◌, refl, Bool, true, false, not, ◌&&◌, ◌||◌, List, [], ◌∷◌, ◌++◌, ℕ, ◌≤◌, eqb, ltb, length, get_or, take}
 use Rattle.std.specs.Prelude.{replicate, Option, Some, None}
 use Rattle.std.proofs.Math.Path.{sym, ap}
-use Rattle.std.proofs.Common.{◌∙◌, true≢false, append-nil, arith, take-append-drop, length-take-le, le-ltb, eqb-true, ne_eqb}
+use Rattle.std.proofs.Common.{◌∙◌, subst, true≢false, append-nil, arith, take-append-drop, length-take-le, le-ltb, eqb-true, ne_eqb}
 use Rattle.std.proofs.Math.Bool.{cond}
 use Rattle.std.proofs.Math.ListN.{drop, drop_of_length-le}
 use Rattle.events.specs.Event.{Event}
@@ -13,7 +13,7 @@ use Rattle.bits.specs.BytesLaws.{bit_same}
 use Rattle.registers.specs.declared.Shown.{Shown}
 use Rattle.registers.specs.State.{alert}
 use Rattle.chip.specs.declared.Chip.{Chip}
-use Rattle.chip.specs.declared.Stepped.{Stepped}
+use Rattle.chip.specs.Answer.{Stepped, flag_of, byte_of}
 use Rattle.chip.specs.Chip.{normally, asleep, settled, happened}
 use Rattle.chip.specs.Calm.{Calmed}
 use Rattle.chip.proofs.Calm.{settles}
@@ -26,7 +26,7 @@ use Rattle.chip_bytes_layout.proofs.TripLaws.{forth}
 use Rattle.chip_bytes_layout.proofs.GoodLaws.{zero_at}
 use Rattle.chip_bytes_layout.proofs.Bytes.{as_first}
 use Rattle.chip_bytes_layout.specs.declared.Outcome.{Outcome}
-use Rattle.chip_bytes_layout.specs.Did.{Awake, chip_here, says, flag_of, byte_of, Came, CameBy, Did, DidBy}
+use Rattle.chip_bytes_layout.specs.Did.{Awake, chip_here, says, Came, CameBy, Did, DidBy}
 
 -- what is shown, read back
 pub shown_back : (c : Chip) (fresh : Bool) (rest : List ℕ) → shown_at (take 96 (chip_bytes c fresh ++ rest)) ≡ c.registers.shown
@@ -136,12 +136,12 @@ module _ (b : List ℕ) (room : 96 ≤ length b) where
   buffer_wide : ltb (length b) 96 ≡ false
   buffer_wide = le-ltb (length b) 96 room
 
-  pub first_good : good_of (take 96 b) ≡ good_of b
+  first_good : good_of (take 96 b) ≡ good_of b
   first_good =
       ap (λ (t : Bool). cond t false (good_at (take 96 (take 96 b)))) first_wide ∙ ap good_at (as_first first_length)
       ∙ ap (λ (t : Bool). cond t false (good_at (take 96 b))) (sym buffer_wide)
 
-  pub first_chip : chip_of (take 96 b) ≡ chip_of b
+  first_chip : chip_of (take 96 b) ≡ chip_of b
   first_chip =
       ap (λ (t : Bool). cond t none (chip_in (take 96 (take 96 b)))) first_wide ∙ ap chip_in (as_first first_length)
       ∙ ap (λ (t : Bool). cond t none (chip_in (take 96 b))) (sym buffer_wide)
@@ -153,18 +153,29 @@ module _ (b : List ℕ) (room : 96 ≤ length b) where
       ∙ ap (λ (l : List ℕ). l ++ drop 96 b) (append-nil (kept_bytes c false))
       ∙ ap (λ (t : Bool). cond t b (kept_bytes c false ++ drop 96 b)) (sym buffer_wide)
 
-  pub came_first : (step : Chip → Stepped) (r : Option Outcome) (x : List ℕ) → CameBy (take 96 b) (step (chip_of (take 96 b))) r x
-      → CameBy b (step (chip_of b)) r (x ++ drop 96 b)
-  came_first step (Some r) x h =
+  came_by : (step : Chip → Stepped) (r : Option Outcome) (new : List ℕ) → CameBy (take 96 b) (step (chip_of (take 96 b))) r new
+      → CameBy b (step (chip_of b)) r (new ++ drop 96 b)
+  came_by step (Some r) new h =
       λ g.
-      let k : Came (take 96 b) (step (chip_of (take 96 b))) (flag_of r.byte) (byte_of r.byte) r.shown x = h (first_good ∙ g) in
+      let k : Came (take 96 b) (step (chip_of (take 96 b))) (flag_of r.byte) (byte_of r.byte) r.shown new = h (first_good ∙ g) in
       record {
         left = k.left;
         happens = k.happens ∙ ap step first_chip;
         shows = k.shows;
         leaves = ap (λ (l : List ℕ). l ++ drop 96 b) k.leaves ∙ first_kept k.left;
       }
-  came_first step None x h = ap (λ (l : List ℕ). l ++ drop 96 b) h ∙ take-append-drop 96 b
+  came_by step None new h = ap (λ (l : List ℕ). l ++ drop 96 b) h ∙ take-append-drop 96 b
 
-  pub did_first : (e : Event) (r : Option Outcome) (x : List ℕ) → DidBy (take 96 b) e r x → DidBy b e r (x ++ drop 96 b)
-  did_first e = came_first (happened e)
+  module _ {x : List ℕ} (first : x ≡ take 96 b) where
+    pub sized_first : length x ≡ 96
+    sized_first = ap length first ∙ first_length
+
+    pub same_first : x ++ drop 96 b ≡ b
+    same_first = ap (λ (l : List ℕ). l ++ drop 96 b) first ∙ take-append-drop 96 b
+
+    pub came_first : (step : Chip → Stepped) (r : Option Outcome) (new : List ℕ) → CameBy x (step (chip_of x)) r new
+        → CameBy b (step (chip_of b)) r (new ++ drop 96 b)
+    came_first step r new h = came_by step r new (subst (λ (x : List ℕ). CameBy x (step (chip_of x)) r new) first h)
+
+    pub did_first : (e : Event) (r : Option Outcome) (new : List ℕ) → DidBy x e r new → DidBy b e r (new ++ drop 96 b)
+    did_first e r new h = came_first (happened e) r new h

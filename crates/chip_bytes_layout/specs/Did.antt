@@ -4,7 +4,7 @@ use Rattle.events.specs.Event.{Event}
 use Rattle.bits.specs.BytesLaws.{Bytes}
 use Rattle.registers.specs.declared.Shown.{Shown}
 use Rattle.chip.specs.declared.Chip.{Chip}
-use Rattle.chip.specs.declared.Stepped.{Stepped}
+use Rattle.chip.specs.Answer.{Stepped, flag_of, byte_of}
 use Rattle.chip.specs.Chip.{happened}
 use Rattle.constants.specs.Size.{KEPT_CHIP}
 use Rattle.chip_bytes_layout.specs.Place.{NORMAL}
@@ -31,15 +31,6 @@ pub record Came (b : List ℕ) (s : Stepped) (flag : Bool) (byte : ℕ) (shown :
   pub happens : says flag byte left ≡ s
   pub shows : shown ≡ left.registers.shown
   pub leaves : new ≡ kept_in left false b
-
--- the bus flag and byte of an entry, by the byte that the bus gives back
-abbrev pub flag_of : Option ℕ → Bool
-flag_of None = false
-flag_of (Some x) = true
-
-abbrev pub byte_of : Option ℕ → ℕ
-byte_of None = 0
-byte_of (Some x) = x
 
 -- .. where they are good; or nothing changed
 abbrev pub CameBy : List ℕ → Stepped → Option Outcome → List ℕ → Type 0

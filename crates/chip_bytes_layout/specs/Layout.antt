@@ -2,6 +2,7 @@
 -- is no chip yet. Assumes nothing.
 use Rattle.std.specs.Prelude.{Bool, true, false, not, ◌&&◌, ◌||◌, cond, List, [], ◌∷◌, ◌++◌, ℕ, zero, suc, eqb, leb, ltb, length, take}
 use Rattle.std.specs.Prelude.{drop, get_or, replicate, Option, Some, None}
+use Rattle.std.proofs.lemmas.List.Edits.{sets}
 use Rattle.events.specs.declared.Setup.{Setup}
 use Rattle.events.specs.Setup.{setup_fits}
 use Rattle.bits.specs.Numbers.{within, bit_of, words, word_bytes}
@@ -17,7 +18,7 @@ use Rattle.registers.specs.declared.Cellbal.{Cellbal}
 use Rattle.registers.specs.declared.Measured.{Measured}
 use Rattle.registers.specs.declared.Registers.{Registers}
 use Rattle.registers.specs.State.{alert}
-use Rattle.protection.specs.declared.Runs.{Runs}
+use Rattle.protection.specs.Fault.{Runs}
 use Rattle.chip.specs.declared.Chip.{Chip}
 use Rattle.chip.specs.Chip.{in_ship}
 use Rattle.chip_bytes_layout.specs.Kept.{Kept}
@@ -101,6 +102,11 @@ abbrev pub status_switches : Status → List ℕ
 status_switches t =
     bit_of t.cc_ready ∷ bit_of t.xready ∷ bit_of t.ovrd_alert ∷ bit_of t.uv ∷ bit_of t.ov ∷ bit_of t.scd ∷ bit_of
     t.ocd ∷ []
+
+-- what is shown, put in its place
+abbrev pub shown_put : Shown → List ℕ → List ℕ
+shown_put s b =
+    sets b CC_READY (status_switches s.status ++ (bit_of s.cc_oneshot ∷ bit_of s.dsg_on ∷ bit_of s.chg_on ∷ []))
 
 unfoldable pub switches_of : Chip → Bool → List ℕ
 switches_of c fresh =

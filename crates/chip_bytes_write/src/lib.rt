@@ -2,12 +2,13 @@
 #![tactic(auto)]
 
 ghost use Rattle.std.specs.Prelude.{◌≡◌};
-ghost use Rattle.chip_bytes_layout.specs.Layout.{tag_of, first_of, second_of, plain_of, switches_of, words_of, chip_bytes, kept_in};
+ghost use Rattle.chip_bytes_layout.specs.Layout.{tag_of, first_of, second_of, plain_of, switches_of, words_of, shown_put, chip_bytes, kept_in};
 
 use bits::bytes::{put_bytes, put_words};
 use bus::{Bus, Phase};
 use chip::Chip;
 use chip_bytes_layout::{ChipBytes, LAYOUT, place};
+use registers::Shown;
 
 pub fn tag_of(phase: Phase) -> u8
     ensures { result ≡ tag_of phase }
@@ -144,6 +145,23 @@ fn words_of(chip: Chip) -> [u16; 25]
         measured.cells[13],
         measured.cells[14],
     ]
+}
+
+// What is shown.
+pub fn put_shown(out: &mut ChipBytes, shown: Shown)
+    ensures { out.new ≡ shown_put shown out.old }
+{
+    let t = shown.status;
+    out[place::CC_READY] = u8::from(t.cc_ready);
+    out[place::XREADY] = u8::from(t.xready);
+    out[place::OVRD_ALERT] = u8::from(t.ovrd_alert);
+    out[place::UV] = u8::from(t.uv);
+    out[place::OV] = u8::from(t.ov);
+    out[place::SCD] = u8::from(t.scd);
+    out[place::OCD] = u8::from(t.ocd);
+    out[place::CC_ONESHOT] = u8::from(shown.cc_oneshot);
+    out[place::DSG_ON] = u8::from(shown.dsg_on);
+    out[place::CHG_ON] = u8::from(shown.chg_on);
 }
 
 // A chip that stands, in full.

@@ -30,7 +30,7 @@ use Rattle.records.specs.SoundLaws.{first_setup, no_setup}
 use Rattle.records.specs.Record.{payload_of, as_read, read_of, counts_in, counts_beside}
 use Rattle.registers.specs.declared.Shown.{Shown}
 use Rattle.chip.specs.declared.Chip.{Chip}
-use Rattle.chip.specs.declared.Stepped.{Stepped}
+use Rattle.chip.specs.Answer.{Stepped}
 use Rattle.chip.specs.Chip.{happened, ticked, happened_as, happened_by}
 use Rattle.chip.specs.Calm.{Calmed}
 use Rattle.turn.specs.declared.Entry.{Entry}

@@ -19,7 +19,7 @@ use Rattle.wiring.specs.Rows.{has_row, wired_with}
 use Rattle.wiring.specs.declared.Wiring.TheVariants.{With, NoRow}
 use Rattle.registers.specs.State.{alert}
 use Rattle.chip.specs.declared.Chip.{Chip}
-use Rattle.chip.specs.declared.Stepped.{Stepped}
+use Rattle.chip.specs.Answer.{Stepped}
 use Rattle.chip.specs.Chip.{numbered, in_ship, stepped_as}
 use Rattle.chip.specs.Calm.{Calmed}
 use Rattle.chip.proofs.RepeatLaws.{setup_as, calm_as}

@@ -23,4 +23,4 @@ returns-in-11 c = wrote_cc c.args.out.now c.args.v c.in-11.is refl
 
 pub returns-in_default : goal.returns-in_default
 returns-in_default c = let r = c.in_default.in_default-own.rest in
-    wrote_above c.args.out.now c.args.v c.args.a (past c.args.a c.requires.le_a r.0.0.0.0.0.1 r.0.0.0.0.1 r.0.0.0.1 r.0.0.1 r.0.1 r.1) refl
+    wrote_above c.args.out.now c.args.v c.args.a (past c.args.a c.requires r.0.0.0.0.0.1 r.0.0.0.0.1 r.0.0.0.1 r.0.0.1 r.0.1 r.1) refl
