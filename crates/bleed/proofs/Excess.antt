@@ -1,4 +1,5 @@
--- The weights of inputs are the powers of two; a group has one best byte, wherever it stands; the excess of each input. The words stand in specs/. Assumes nothing.
+-- The weights of inputs are the powers of two; a group has one best byte, wherever it stands; the excess of each input. The words stand
+-- in specs/. Assumes nothing.
 use Rattle.std.specs.Prelude.{◌≡◌, refl, Bool, true, ◌&&◌, List, [], ◌∷◌, ℕ, zero, suc, ◌+◌, ◌*◌, ◌^◌, ◌<◌, eqb, length, get_or}
 use Rattle.std.proofs.Common.{sym, ap, ◌∙◌, mul-one, mul_assoc, arith, eqb-true}
 use Rattle.std.proofs.Math.Nat.{pow-succ'}

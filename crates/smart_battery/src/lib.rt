@@ -152,8 +152,7 @@ fn replied(
 pub fn reply(pack: Pack, total: Microvolts, command: u8, milliohms: u32, out: &mut [u8]) -> u8
     ensures { Replied (word_for pack total.0 command milliohms) command out.old result out.new }
 {
-    match replied(pack, total, command, milliohms, out) {
-        Ok(()) => number::DONE,
-        Err(why) => why.number(),
-    }
+    replied(pack, total, command, milliohms, out)
+        .err()
+        .map_or(number::DONE, Refusal::number)
 }

@@ -2,6 +2,7 @@
 #![tactic(auto)]
 
 ghost use Rattle.std.specs.Prelude.{◌≡◌, ◌^◌, ◌+◌, ◌*◌, ◌≤◌, ◌<◌, nat_abs, pos};
+ghost use Rattle.constants.specs.Answer.{number_said, value_said};
 ghost use Rattle.values.specs.Values.{gain, offset_microvolts, cell_microvolts, microvolts_by, cell_said, cc_hundredths, ohms_said, die_said, full, threshold_said, over_said, under_said, up};
 ghost use Rattle.values.specs.Double.{IsDouble};
 ghost use Rattle.values.specs.Forecast.{IsReading};
@@ -221,4 +222,18 @@ pub fn under_voltage_code(code: u8, offset: u8, wanted: Microvolts) -> Result<u8
     ensures { said result ≡ under_said code offset wanted.0 }
 {
     threshold(UV_WINDOW, UV_WINDOW_LAST, code, offset, wanted.0)
+}
+
+// What is given for an answer: 0 and the value, or the number that refuses, with the value left alone.
+pub fn give<T: Copy>(answer: Result<T, Refusal>, value: &mut T) -> u8
+    ensures number { result ≡ number_said (said answer) }
+    ensures contents { value.new ≡ value_said (said answer) value.old }
+{
+    match answer {
+        Ok(v) => {
+            *value = v;
+            0
+        }
+        Err(why) => why.number(),
+    }
 }

@@ -4,10 +4,8 @@
 ghost use Rattle.std.specs.Prelude.{◌≡◌};
 ghost use Rattle.values.specs.Values.{cell_said, ohms_said, die_said, over_said, under_said, cc_hundredths};
 ghost use Rattle.crc8.specs.Crc.{crc_on};
-ghost use Rattle.values.specs.Said.{said};
 ghost use Rattle.values_c.specs.Convert.{clipped, Gives};
 
-use constants::refusal::Refusal;
 use values::{Microvolts, RawCount};
 
 // A gain code, or the most that a byte can be, which is none, for every larger number.
@@ -24,19 +22,6 @@ fn count_of(n: u32) -> u16
     u16::try_from(n).unwrap_or(65535)
 }
 
-// 0 and the value, or the number that refuses, with the value left alone.
-fn give<T: Copy>(answer: Result<T, Refusal>, value: &mut T) -> u8
-    ensures { Gives (said answer) value.old result value.new }
-{
-    match answer {
-        Ok(v) => {
-            *value = v;
-            0
-        }
-        Err(why) => why.number(),
-    }
-}
-
 #[unsafe(no_mangle)]
 pub extern "C" fn toralinge_cell_microvolts(
     gain_code: u32,
@@ -47,21 +32,21 @@ pub extern "C" fn toralinge_cell_microvolts(
     ensures { Gives (cell_said gain_code offset count) microvolts.old result microvolts.new }
 {
     let answer = values::cell_voltage(code_of(gain_code), offset, RawCount(count_of(count)));
-    give(answer.map(|v: Microvolts| v.0), microvolts)
+    values::give(answer.map(|v: Microvolts| v.0), microvolts)
 }
 
 #[unsafe(no_mangle)]
 pub extern "C" fn toralinge_thermistor_ohms(count: u32, ohms: &mut u64) -> u8
     ensures { Gives (ohms_said count) ohms.old result ohms.new }
 {
-    give(values::thermistor_ohms(RawCount(count_of(count))), ohms)
+    values::give(values::thermistor_ohms(RawCount(count_of(count))), ohms)
 }
 
 #[unsafe(no_mangle)]
 pub extern "C" fn toralinge_die_temperature(count: u32, half_thousandths: &mut i64) -> u8
     ensures { Gives (die_said count) half_thousandths.old result half_thousandths.new }
 {
-    give(
+    values::give(
         values::die_temperature(RawCount(count_of(count))),
         half_thousandths,
     )
@@ -76,7 +61,7 @@ pub extern "C" fn toralinge_over_voltage_code(
 ) -> u8
     ensures { Gives (over_said gain_code offset wanted) code.old result code.new }
 {
-    give(
+    values::give(
         values::over_voltage_code(code_of(gain_code), offset, Microvolts(wanted)),
         code,
     )
@@ -91,7 +76,7 @@ pub extern "C" fn toralinge_under_voltage_code(
 ) -> u8
     ensures { Gives (under_said gain_code offset wanted) code.old result code.new }
 {
-    give(
+    values::give(
         values::under_voltage_code(code_of(gain_code), offset, Microvolts(wanted)),
         code,
     )
