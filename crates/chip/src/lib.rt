@@ -26,7 +26,7 @@ mod outward;
 
 pub use answer::{byte, flag, number};
 
-#[derive(Clone, Copy)]
+#[derive(Clone, Copy, Debug, PartialEq, Eq)]
 pub struct Chip {
     pub setup: Setup,
     pub normal: bool,
@@ -36,14 +36,14 @@ pub struct Chip {
 }
 
 // The next chip; and a refusal, or that the event is done, with a byte for an OUT or IN.
-#[derive(Clone, Copy)]
+#[derive(Clone, Copy, Debug, PartialEq, Eq)]
 pub struct Stepped {
     pub chip: Chip,
     pub answer: Result<Option<u8>, Refusal>,
 }
 
 // What an event of the bus does at once: the bus after it, the byte given back, and at most one accepted store, which follows.
-#[derive(Clone, Copy)]
+#[derive(Clone, Copy, Debug, PartialEq, Eq)]
 pub struct Heard {
     pub bus: Bus,
     pub byte: Option<u8>,

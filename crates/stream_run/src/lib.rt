@@ -30,21 +30,21 @@ pub mod end;
 pub use end::last_chip;
 
 // What a chip shows outside: SYS_STAT and the pins.
-#[derive(Clone, Copy)]
+#[derive(Clone, Copy, Debug, PartialEq, Eq)]
 pub struct Face {
     pub stat: u8,
     pub pins: u8,
 }
 
 // What records leave: the chip, and whether a wiring record is still taken.
-#[derive(Clone, Copy)]
+#[derive(Clone, Copy, Debug, PartialEq, Eq)]
 pub struct Left {
     pub chip: Chip,
     pub fresh: bool,
 }
 
 // What an event is to the loop: what is often done in NORMAL has an arm of its own, which moves only what it has to.
-#[derive(Clone, Copy)]
+#[derive(Clone, Copy, Debug, PartialEq, Eq)]
 pub enum Work {
     Scans,
     Ticks(i32),

@@ -26,7 +26,7 @@ pub struct Entry {
 }
 
 // What a record made of a chip: the next chip, whether a wiring record may follow, the entry, the place after the record, and whether it is the last.
-#[derive(Clone, Copy)]
+#[derive(Clone, Copy, Debug, PartialEq, Eq)]
 pub struct Turned {
     pub chip: Chip,
     pub fresh: bool,
