@@ -8,23 +8,24 @@ use lib.Dec.{eqb, leb}
 use lib.IntN.{ℤ, pos, negsuc, neg_ℤ}
 use lib.ListN.{length, take, drop}
 use borrow.Author.Tests.{le-leb, lt-leb, leb-true}
+use Rattle.constants.specs.Refusal.{number_of}
+use Rattle.constants.specs.declared.refusal.Refusal.{Refusal}
 use Rattle.constants.specs.Answer.{gives, refuses}
 use Rattle.events.specs.declared.Counts.{Counts}
 use Rattle.events.specs.declared.Event.{Event}
 use Rattle.records.specs.Record.{read_of, counts_in}
-use Rattle.records.specs.declared.Payload.{Payload}
-use Rattle.records.specs.declared.Payload.TheVariants.{Whole, Unfit}
+use Rattle.records.specs.Record.{Payload}
+use Rattle.std.specs.Prelude.{Ok, Err}
 use Rattle.records.specs.declared.Read.{Read}
 use Rattle.records.specs.declared.Read.TheVariants.{Record, Refused, Cut}
 use Rattle.writer.specs.Write.{record_for, refusal_for, Puts}
-use Rattle.writer.specs.declared.Wrote.{Wrote}
-use Rattle.writer.specs.declared.Wrote.TheVariants.{Done, Refused as WroteRefused}
+use Rattle.writer.specs.Write.{Wrote}
 use Rattle.record_event.specs.Values.{part_by, event_by, counts_by}
 use Rattle.record_values.specs.Named.{laid, named, Names}
 use Rattle.record_c.specs.Calls.{meant_by, written_by, wrote_answer, CountedFew, record_said, Records, named_read, named_said}
 
 -- ── a record written ──
-few_by : (n : ℕ) (number room : ℕ) (t u : Bool) → leb n room ≡ u → room < 2 ^ 63 → CountedFew (cond t (cond u (Done n) (WroteRefused 5)) (WroteRefused number))
+few_by : (n : ℕ) (number room : ℕ) (t u : Bool) → leb n room ≡ u → room < 2 ^ 63 → CountedFew (cond t (cond u (gives n) (refuses 5)) (refuses number))
 few_by n number room true true e h = omega (arith, leb-true n room e)
 few_by n number room true false e h = tt
 few_by n number room false u e h = tt
@@ -33,7 +34,7 @@ pub few : (number : ℕ) (bytes old : List ℕ) (r : Wrote) (new : List ℕ) →
 few number bytes old r new h w = subst CountedFew (sym w.answer) (few_by (length bytes) number (length old) (eqb number 0) (leb (length bytes) (length old)) refl h)
 
 module _ (number : ℕ) (bytes old : List ℕ) (r : Wrote) (new : List ℕ) (w : Puts number bytes old r new) where
-  puts_by : (t u : Bool) → leb (length bytes) (length old) ≡ u → r ≡ cond t (cond u (Done (length bytes)) (WroteRefused 5)) (WroteRefused number)
+  puts_by : (t u : Bool) → leb (length bytes) (length old) ≡ u → r ≡ cond t (cond u (gives (length bytes)) (refuses 5)) (refuses number)
       → new ≡ cond t (cond u (laid bytes old) old) old → Records (cond t (gives bytes) (refuses number)) old (wrote_answer r) new
   puts_by true true e a c = record { answer = ap wrote_answer a ∙ sym (ap (λ (u : Bool). cond u (pos (length bytes)) (negsuc 4)) e); contents = c ∙ sym (ap (λ (u : Bool). cond u (laid bytes old) old) e) }
   puts_by true false e a c = record { answer = ap wrote_answer a ∙ sym (ap (λ (u : Bool). cond u (pos (length bytes)) (negsuc 4)) e); contents = c ∙ sym (ap (λ (u : Bool). cond u (laid bytes old) old) e) }
@@ -43,11 +44,11 @@ module _ (number : ℕ) (bytes old : List ℕ) (r : Wrote) (new : List ℕ) (w :
   puts_records = puts_by (eqb number 0) (leb (length bytes) (length old)) refl w.answer w.contents
 
 module _ (kind part : ℕ) (vs : List ℤ) (x : Payload) (q : x ≡ event_by kind part vs) (old : List ℕ) where
-  pub record_unfit : (n : ℕ) → x ≡ Unfit n → (z : ℤ) → z ≡ neg_ℤ (pos n) → Records (record_said kind part vs) old z old
+  pub record_unfit : (n : Refusal) → x ≡ Err n → (z : ℤ) → z ≡ neg_ℤ (pos (number_of n)) → Records (record_said kind part vs) old z old
   unfolding record_said
   record_unfit n w z e = subst (λ (x : Payload). Records (meant_by (part_by part) vs x) old z old) (sym w ∙ q) (record { answer = e; contents = refl })
 
-  pub record_whole : (e : Event) → x ≡ Whole e → (k : Counts) → k ≡ counts_by e vs → (p : ℕ) → p ≡ part_by part → (r : Wrote) (new : List ℕ) → Puts (refusal_for e k p) (record_for e k) old r new
+  pub record_whole : (e : Event) → x ≡ Ok e → (k : Counts) → k ≡ counts_by e vs → (p : ℕ) → p ≡ part_by part → (r : Wrote) (new : List ℕ) → Puts (refusal_for e k p) (record_for e k) old r new
       → (z : ℤ) → z ≡ wrote_answer r → Records (record_said kind part vs) old z new
   unfolding record_said
   record_whole e w k ek p ep r new u z ez =
@@ -72,7 +73,7 @@ module _ (part : ℕ) (r : List ℕ) (oldkind : ℕ) (old : List ℤ) where
     pub named_cut : x ≡ Cut → Names (named_said part r) oldkind old (negsuc 8) oldkind old
     named_cut w = found Cut w (record { answer = refl; kind = refl; contents = refl })
 
-    pub named_refused : (n next : ℕ) → x ≡ Refused n next → (z : ℤ) → z ≡ neg_ℤ (pos n) → Names (named_said part r) oldkind old z oldkind old
+    pub named_refused : (n : Refusal) (next : ℕ) → x ≡ Refused n next → (z : ℤ) → z ≡ neg_ℤ (pos (number_of n)) → Names (named_said part r) oldkind old z oldkind old
     named_refused n next w z e = found (Refused n next) w (record { answer = e; kind = refl; contents = refl })
 
     pub named_read_lem : (e : Event) (next : ℕ) → x ≡ Record e next → (k : Counts) → k ≡ counts_in e (take (next - 4) (drop 4 r)) → (y z : ℤ) → y ≡ z → (newkind : ℕ) (new : List ℤ)

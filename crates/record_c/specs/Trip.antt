@@ -11,7 +11,6 @@ use Rattle.constants.specs.Answer.{Said, gives, refuses}
 use Rattle.events.specs.Setup.{setup_fits, setup_of, checked_of}
 use Rattle.bits.specs.Numbers.{within, bit_of}
 use Rattle.events.specs.Event.{count_most, sense_fits, ticks_most, soak_most, ticks_fit}
-use Rattle.events.specs.declared.Checked.TheVariants.{Good, Bad}
 use Rattle.events.specs.declared.Counts.{Counts}
 use Rattle.events.specs.declared.BusEvent.TheVariants.{Start, Out, In, Stop}
 use Rattle.events.specs.declared.Event.{Event}
@@ -24,14 +23,17 @@ use Rattle.records.specs.Record.{checked_in, ticks_of, soak_of, inputs_at, group
 use Rattle.events.specs.Setup.{standing}
 use Rattle.events.specs.FewLaws.{few_groups, few_inputs}
 use Rattle.bits.specs.BoolLaws.{and_left, and_right}
-use Rattle.records.specs.declared.Payload.{Payload}
-use Rattle.records.specs.declared.Payload.TheVariants.{Whole, Unfit}
+use Rattle.records.specs.Record.{Payload}
+use Rattle.std.specs.Prelude.{Result, Ok, Err}
+use Rattle.constants.specs.declared.refusal.Refusal.TheVariants.{BadSetup, BadKind, BadValue, NoRow}
 use Rattle.records.specs.declared.Read.TheVariants.{Record}
 use Rattle.writer.specs.Write.{kind_for, record_for, refusal_for}
 use Rattle.writer.proofs.TripLaws.{stands_for, read_back, beside_back}
 use Rattle.record_numbers.specs.Values.{nat_of, value_at, nat_at, byte_of, word_of}
 use Rattle.record_payload.specs.Values.{setup_by, bare_by, counted_by, sense_by, repeat_by}
-use Rattle.record_event.specs.Values.{later_by, part_by, event_by, count_of, counts_at, counts_by}
+use Rattle.constants.specs.declared.kind.Kind.{Kind}
+use Rattle.constants.specs.declared.refusal.Refusal.{Refusal}
+use Rattle.record_event.specs.Values.{of_kind, later_by, part_by, event_by, count_of, counts_at, counts_by}
 use Rattle.record_values.specs.Values.{values_for, setup_values, count_values}
 use Rattle.record_values.specs.Named.{Named, named, Names}
 use Rattle.record_c.specs.Calls.{meant_by, record_said, Records, named_read, named_said}
@@ -43,15 +45,15 @@ pub record Back (kind : ℕ) (vs : List ℤ) (e : Event) : Type 0 where
 
 -- for a payload: where it is whole
 abbrev Backs : ℕ → List ℤ → Payload → Type 0
-Backs kind vs p = (e : Event) → p ≡ Whole e → Back kind vs e
+Backs kind vs p = (e : Event) → p ≡ Ok e → Back kind vs e
 
-unfit_backs : (kind : ℕ) (vs : List ℤ) (n : ℕ) → Backs kind vs (Unfit n)
+unfit_backs : (kind : ℕ) (vs : List ℤ) (n : Refusal) → Backs kind vs (Err n)
 unfit_backs kind vs n e q = absurd (let z : ◌≡◌ {A = ℕ} 0 1 = cc in omega arith)
 
-whole_backs : (kind : ℕ) (vs : List ℤ) (e : Event) → Back kind vs e → Backs kind vs (Whole e)
+whole_backs : (kind : ℕ) (vs : List ℤ) (e : Event) → Back kind vs e → Backs kind vs (Ok e)
 whole_backs kind vs e b f q = subst (Back kind vs) (event_of q) b
   where
-    event_of : {e f : Event} → Whole e ≡ Whole f → e ≡ f
+    event_of : {e f : Event} → ◌≡◌ {A = Payload} (Ok e) (Ok f) → e ≡ f
     event_of q = cc
 
 cond_backs : (kind : ℕ) (vs : List ℤ) (t : Bool) (x y : Payload) → (t ≡ true → Backs kind vs x) → Backs kind vs y
@@ -111,12 +113,12 @@ module _ (kind : ℕ) (e : Event) (vs : List ℤ) (ke : kind_for e ≡ kind) whe
   bare_backs : values_for e (counts_by e vs) ≡ [] → Backs kind vs (bare_by e vs)
   bare_backs z =
       cond_backs kind vs (eqb (length vs) 0) _ _
-      (λ t. whole_backs kind vs e (record { kind_same = ke; values_same = z ∙ none_back vs (eqb-true _ 0 t) })) (unfit_backs kind vs 2)
+      (λ t. whole_backs kind vs e (record { kind_same = ke; values_same = z ∙ none_back vs (eqb-true _ 0 t) })) (unfit_backs kind vs BadKind)
 
 -- one value up to the most, which the event holds
-one_backs : (kind : ℕ) (vs : List ℤ) (f : ℕ → Event) (most n : ℕ) → most < 2 ^ 63 → ((m : ℕ) → kind_for (f m) ≡ kind)
+one_backs : (kind : ℕ) (vs : List ℤ) (f : ℕ → Event) (most : ℕ) (n : Refusal) → most < 2 ^ 63 → ((m : ℕ) → kind_for (f m) ≡ kind)
     → ((m : ℕ) → m ≤ most → values_for (f m) (counts_by (f m) vs) ≡ pos m ∷ [])
-    → Backs kind vs (cond (eqb (length vs) 1) (cond (leb (nat_at vs 0) most) (Whole (f (nat_at vs 0))) (Unfit n)) (Unfit 2))
+    → Backs kind vs (cond (eqb (length vs) 1) (cond (leb (nat_at vs 0) most) (Ok (f (nat_at vs 0))) (Err n)) (Err BadKind))
 one_backs kind vs f most n h k v =
     cond_backs kind vs (eqb (length vs) 1) _ _
     (λ l. cond_backs kind vs (leb (nat_at vs 0) most) _ _
@@ -124,14 +126,14 @@ one_backs kind vs f most n h k v =
     whole_backs kind vs (f (nat_at vs 0))
     (record { kind_same = k (nat_at vs 0); values_same = v (nat_at vs 0) m ∙ one_nat vs most h (eqb-true _ 1 l) m }))
     (unfit_backs kind vs n))
-    (unfit_backs kind vs 2)
+    (unfit_backs kind vs BadKind)
 
 sense_backs : (vs : List ℤ) → Backs SENSE vs (sense_by vs)
 sense_backs vs =
     cond_backs SENSE vs (eqb (length vs) 1) _ _
     (λ l. cond_backs SENSE vs (sense_fits (value_at vs 0)) _ _
-    (λ t. whole_backs SENSE vs _ (record { kind_same = refl; values_same = one_back vs (eqb-true _ 1 l) })) (unfit_backs SENSE vs 3))
-    (unfit_backs SENSE vs 2)
+    (λ t. whole_backs SENSE vs _ (record { kind_same = refl; values_same = one_back vs (eqb-true _ 1 l) })) (unfit_backs SENSE vs BadValue))
+    (unfit_backs SENSE vs BadKind)
 
 repeat_backs : (kind : ℕ) (vs : List ℤ) (f : ℤ → ℕ → Event) (most : ℕ) → most < 2 ^ 63 → ((v : ℤ) (n : ℕ) → kind_for (f v n) ≡ kind)
     → ((v : ℤ) (n : ℕ) → values_for (f v n) (counts_by (f v n) vs) ≡ v ∷ pos n ∷ [])
@@ -149,8 +151,8 @@ repeat_backs kind vs f most h k v =
       values_same = v (value_at vs 0) (nat_at vs 1)
           ∙ ap (λ (w : ℤ). value_at vs 0 ∷ w ∷ []) (nat_back (value_at vs 1) most h m) ∙ two_back vs (eqb-true _ 2 l);
     }))
-    (unfit_backs kind vs 3))
-    (unfit_backs kind vs 2)
+    (unfit_backs kind vs BadValue))
+    (unfit_backs kind vs BadKind)
 
 -- ── counts ──
 counts_back : (n : ℕ) (vs : List ℤ) → length vs ≤ n → within count_most (map nat_of vs) ≡ true
@@ -172,14 +174,13 @@ counted_back vs h t =
 
 counted_backs : (kind : ℕ) (e : Event) (wanted : ℕ) (vs : List ℤ) → kind_for e ≡ kind → wanted ≤ 15
     → values_for e (counts_by e vs) ≡ count_values (counts_at vs) → Backs kind vs (counted_by e wanted vs)
-unfolding counted_by
 counted_backs kind e wanted vs k w v =
     cond_backs kind vs (eqb (length vs) wanted) _ _
     (λ l. cond_backs kind vs (within count_most (map nat_of vs)) _ _
     (λ t. whole_backs kind vs e
     (record { kind_same = k; values_same = v ∙ counted_back vs (omega (arith, eqb-true (length vs) wanted l, w)) t }))
-    (unfit_backs kind vs 3))
-    (unfit_backs kind vs 2)
+    (unfit_backs kind vs BadValue))
+    (unfit_backs kind vs BadKind)
 
 -- ── SETUP ──
 byte_back : (n most : ℕ) → most < 255 → byte_of n ≤ most → byte_of n ≡ n
@@ -276,49 +277,59 @@ module _ (vs : List ℤ) (l : length vs ≡ 6) (o : nat_at vs 4 ≤ 255) where
   checked_backs = by (setup_fits part crc address gain floor) refl
     where
       by : (t : Bool) → setup_fits part crc address gain floor ≡ t
-          → Backs SETUP vs (checked_in (cond t (Good (setup_of part crc address gain (byte_of (nat_at vs 4)) floor)) Bad))
+          → Backs SETUP vs (checked_in (cond t (Ok (setup_of part crc address gain (byte_of (nat_at vs 4)) floor)) (Err BadSetup)))
       by true g = whole_backs SETUP vs _ (record { kind_same = refl; values_same = setup_back g })
-      by false g = unfit_backs SETUP vs 1
+      by false g = unfit_backs SETUP vs BadSetup
 
 setup_backs : (vs : List ℤ) → Backs SETUP vs (setup_by vs)
-unfolding setup_by
 setup_backs vs =
     cond_backs SETUP vs (eqb (length vs) 6) _ _
     (λ l. cond_backs SETUP vs (leb (nat_at vs 4) 255) _ _ (λ o. checked_backs vs (eqb-true _ 6 l) (leb-true _ 255 o))
-    (unfit_backs SETUP vs 1))
-    (unfit_backs SETUP vs 2)
+    (unfit_backs SETUP vs BadSetup))
+    (unfit_backs SETUP vs BadKind)
 
 -- ── all kinds ──
+-- a kind, tested
+later_bool : (kind part : ℕ) (vs : List ℤ) (k : ℕ) (x y : Result Kind Refusal) (t : Bool) → eqb kind k ≡ t
+    → Backs k vs (of_kind x part vs) → Backs kind vs (of_kind y part vs) → Backs kind vs (of_kind (cond t x y) part vs)
+later_bool kind part vs k x y true e a b = subst (λ (n : ℕ). Backs n vs (of_kind x part vs)) (sym (eqb-true kind k e)) a
+later_bool kind part vs k x y false e a b = b
+
 later_backs : (kind part : ℕ) (vs : List ℤ) → Backs kind vs (later_by kind part vs)
 unfolding later_by counts_by
 later_backs kind part vs =
-    kind_backs kind POR vs _ _ (bare_backs POR Por vs refl refl)
-    (kind_backs kind BOOT vs _ _ (bare_backs BOOT Boot vs refl refl)
-    (kind_backs kind SCAN vs _ _ (counted_backs SCAN Scan (inputs_at part) vs refl (few_inputs (standing part)) refl)
-    (kind_backs kind TEMP vs _ _ (counted_backs TEMP Temp (groups_at part) vs refl (omega (arith, few_groups (standing part))) refl)
-    (kind_backs kind COUNT vs _ _ (one_backs COUNT vs (λ n. Count n) 65535 3 (omega arith) (λ n. refl) (λ n h. refl))
-    (kind_backs kind SENSE vs _ _ (sense_backs vs)
-    (kind_backs kind PIN vs _ _ (bare_backs PIN Pin vs refl refl)
-    (kind_backs kind LOAD vs _ _
-    (one_backs LOAD vs (λ n. Load (eqb n 1)) 1 3 (omega arith) (λ n. refl) (λ n h. ap (λ (n : ℕ). pos n ∷ []) (bit_back n h)))
-    (kind_backs kind XREADY vs _ _ (bare_backs XREADY Xready vs refl refl)
-    (kind_backs kind START vs _ _ (bare_backs START (OnBus Start) vs refl refl)
-    (kind_backs kind OUT vs _ _ (one_backs OUT vs (λ n. OnBus (Out n)) 255 3 (omega arith) (λ n. refl) (λ n h. refl))
-    (kind_backs kind IN vs _ _
-    (one_backs IN vs (λ n. OnBus (In (eqb n 1))) 1 3 (omega arith) (λ n. refl) (λ n h. ap (λ (n : ℕ). pos n ∷ []) (bit_back n h)))
-    (kind_backs kind STOP vs _ _ (bare_backs STOP (OnBus Stop) vs refl refl)
-    (kind_backs kind LEVEL vs _ _
-    (one_backs LEVEL vs (λ n. Level (eqb n 1)) 1 3 (omega arith) (λ n. refl) (λ n h. ap (λ (n : ℕ). pos n ∷ []) (bit_back n h)))
-    (kind_backs kind TICKS vs _ _ (repeat_backs TICKS vs ticks_of ticks_most (omega arith) (λ v n. refl) (λ v n. refl))
-    (kind_backs kind SOAK vs _ _ (repeat_backs SOAK vs soak_of soak_most (omega arith) (λ v n. refl) (λ v n. refl))
-    (kind_backs kind WIRES vs _ _ (one_backs WIRES vs (λ n. Wires n) 255 13 (omega arith) (λ n. refl) (λ n h. refl))
-    (unfit_backs kind vs 2)))))))))))))))))
+    by SETUP _ _ (unfit_backs SETUP vs BadKind)
+    (by POR _ _ (bare_backs POR Por vs refl refl)
+    (by BOOT _ _ (bare_backs BOOT Boot vs refl refl)
+    (by SCAN _ _ (counted_backs SCAN Scan (inputs_at part) vs refl (few_inputs (standing part)) refl)
+    (by TEMP _ _ (counted_backs TEMP Temp (groups_at part) vs refl (omega (arith, few_groups (standing part))) refl)
+    (by COUNT _ _ (one_backs COUNT vs (λ n. Count n) 65535 BadValue (omega arith) (λ n. refl) (λ n h. refl))
+    (by SENSE _ _ (sense_backs vs)
+    (by PIN _ _ (bare_backs PIN Pin vs refl refl)
+    (by LOAD _ _
+    (one_backs LOAD vs (λ n. Load (eqb n 1)) 1 BadValue (omega arith) (λ n. refl) (λ n h. ap (λ (n : ℕ). pos n ∷ []) (bit_back n h)))
+    (by XREADY _ _ (bare_backs XREADY Xready vs refl refl)
+    (by START _ _ (bare_backs START (OnBus Start) vs refl refl)
+    (by OUT _ _ (one_backs OUT vs (λ n. OnBus (Out n)) 255 BadValue (omega arith) (λ n. refl) (λ n h. refl))
+    (by IN _ _
+    (one_backs IN vs (λ n. OnBus (In (eqb n 1))) 1 BadValue (omega arith) (λ n. refl) (λ n h. ap (λ (n : ℕ). pos n ∷ []) (bit_back n h)))
+    (by STOP _ _ (bare_backs STOP (OnBus Stop) vs refl refl)
+    (by TICKS _ _ (repeat_backs TICKS vs ticks_of ticks_most (omega arith) (λ v n. refl) (λ v n. refl))
+    (by LEVEL _ _
+    (one_backs LEVEL vs (λ n. Level (eqb n 1)) 1 BadValue (omega arith) (λ n. refl) (λ n h. ap (λ (n : ℕ). pos n ∷ []) (bit_back n h)))
+    (by WIRES _ _ (one_backs WIRES vs (λ n. Wires n) 255 NoRow (omega arith) (λ n. refl) (λ n h. refl))
+    (by SOAK (Ok Kind.Soak) (Err BadKind) (repeat_backs SOAK vs soak_of soak_most (omega arith) (λ v n. refl) (λ v n. refl))
+    (unfit_backs kind vs BadKind))))))))))))))))))
+  where
+    by : (k : ℕ) (x y : Result Kind Refusal) → Backs k vs (of_kind x part vs) → Backs kind vs (of_kind y part vs)
+        → Backs kind vs (of_kind (cond (eqb kind k) x y) part vs)
+    by k x y = later_bool kind part vs k x y (eqb kind k) refl
 
 pub meant_back : (kind part : ℕ) (vs : List ℤ) → Backs kind vs (event_by kind part vs)
 unfolding event_by
 meant_back kind part vs =
     kind_backs kind SETUP vs _ _ (setup_backs vs)
-    (cond_backs kind vs (eqb (part_by part) 0) _ _ (λ t. unfit_backs kind vs 1) (later_backs kind (part_by part) vs))
+    (cond_backs kind vs (eqb (part_by part) 0) _ _ (λ t. unfit_backs kind vs BadSetup) (later_backs kind (part_by part) vs))
 
 -- ── THE ROUND TRIP ──
 stands_as : (e : Event) (part : ℕ) → stands_for e part ≡ cond (eqb (kind_for e) SETUP) 0 part
@@ -387,7 +398,7 @@ abbrev naming : ℕ → List ℤ → Named
 naming kind vs = record { kind = kind; values = vs }
 
 module _ (kind part : ℕ) (vs : List ℤ) (rest : List ℕ) where
-  whole_trip : (e : Event) → event_by kind part vs ≡ Whole e → refusal_for e (counts_by e vs) (part_by part) ≡ 0
+  whole_trip : (e : Event) → event_by kind part vs ≡ Ok e → refusal_for e (counts_by e vs) (part_by part) ≡ 0
       → named_said (stands_by kind part) (record_for e (counts_by e vs) ++ rest) ≡ gives (naming kind vs)
   unfolding named_said
   whole_trip e w ok =
@@ -407,7 +418,7 @@ module _ (kind part : ℕ) (vs : List ℤ) (rest : List ℕ) where
       same_name : {k k' : ℕ} {v v' : List ℤ} → k ≡ k' → v ≡ v' → naming k v ≡ naming k' v'
       same_name p q = cc
 
-  by_refusal : (e : Event) → event_by kind part vs ≡ Whole e → (number : ℕ) → refusal_for e (counts_by e vs) (part_by part) ≡ number
+  by_refusal : (e : Event) → event_by kind part vs ≡ Ok e → (number : ℕ) → refusal_for e (counts_by e vs) (part_by part) ≡ number
       → (bytes : List ℕ) (t : Bool) → eqb number 0 ≡ t
       → cond t (gives (record_for e (counts_by e vs))) (refuses number) ≡ gives bytes
       → named_said (stands_by kind part) (bytes ++ rest) ≡ gives (naming kind vs)
@@ -421,10 +432,10 @@ module _ (kind part : ℕ) (vs : List ℤ) (rest : List ℕ) where
 
   by_payload : (p : Payload) → event_by kind part vs ≡ p → (bytes : List ℕ) → meant_by (part_by part) vs p ≡ gives bytes
       → named_said (stands_by kind part) (bytes ++ rest) ≡ gives (naming kind vs)
-  by_payload (Whole e) w bytes g =
+  by_payload (Ok e) w bytes g =
       by_refusal e w (refusal_for e (counts_by e vs) (part_by part)) refl bytes (eqb (refusal_for e (counts_by e vs) (part_by part)) 0) refl
       g
-  by_payload (Unfit n) w bytes g = absurd (let z : ◌≡◌ {A = ℕ} 0 1 = cc in omega arith)
+  by_payload (Err n) w bytes g = absurd (let z : ◌≡◌ {A = ℕ} 0 1 = cc in omega arith)
 
   -- what is written is read back, whatever follows it
   pub trip : (bytes : List ℕ) → record_said kind part vs ≡ gives bytes

@@ -3,25 +3,26 @@
 
 ghost use Rattle.std.specs.Prelude.{◌≡◌};
 ghost use Rattle.record_values.specs.Named.{Names};
+ghost use Rattle.writer.specs.Write.{wrote};
 ghost use Rattle.record_c.specs.Calls.{record_said, Records, CountedFew, wrote_answer, named_said};
 
+use constants::refusal::Refusal;
 use constants::{answer, range, size};
 use record_event::{counts_by, event_by, part_by};
 use record_values::put_named;
-use records::{Payload, Read};
-use writer::Wrote;
+use records::Read;
 
 // The greatest part, in the width that C hands over.
 const PART_MOST: u32 = range::PART_MOST as u32;
 
 // What the writer answers, as C takes it.
-fn answer_of(wrote: Wrote) -> i64
-    requires { CountedFew wrote }
-    ensures { result ≡ wrote_answer wrote }
+fn answer_of(written: Result<usize, Refusal>) -> i64
+    requires { CountedFew (wrote written) }
+    ensures { result ≡ wrote_answer (wrote written) }
 {
-    match wrote {
-        Wrote::Done(n) => n as i64,
-        Wrote::Refused(number) => -(number as i64),
+    match written {
+        Ok(n) => n as i64,
+        Err(why) => -i64::from(why.number()),
     }
 }
 
@@ -31,13 +32,11 @@ fn answer_of(wrote: Wrote) -> i64
 pub extern "C" fn toralinge_record(kind: u32, part: u32, values: &[i64], out: &mut [u8]) -> i64
     ensures { Records (record_said kind part values.now) out.old result out.new }
 {
-    let meant = event_by(kind, part, values);
-    match meant {
-        Payload::Unfit(number) => -(number as i64),
-        Payload::Whole(event) => {
+    match event_by(kind, part, values) {
+        Err(why) => -i64::from(why.number()),
+        Ok(event) => {
             let counts = counts_by(event, values);
-            let wrote = writer::write_record(event, counts, part_by(part), out);
-            answer_of(wrote)
+            answer_of(writer::write_record(event, counts, part_by(part), out))
         }
     }
 }
@@ -58,7 +57,7 @@ pub extern "C" fn toralinge_values(
     }
     match records::read_rest(bytes, part as u8) {
         Read::Cut => answer::CUT,
-        Read::Refused { number, next: _ } => -(number as i64),
+        Read::Refused { why, .. } => -i64::from(why.number()),
         Read::Record { event, next } => {
             let counts = records::counts_in(event, &bytes[size::HEADER..next]);
             put_named(event, counts, kind, values)

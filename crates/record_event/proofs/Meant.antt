@@ -1,6 +1,5 @@
 -- The cases of what values mean, as the code comes to them. Assumes nothing.
 use mathlib.Core.Path.{◌≡◌, refl, sym, ap, ◌∙◌, subst}
-use mathlib.Core.Logic.{◌≢◌}
 use mathlib.Core.List.{List, [], ◌∷◌, ◌++◌, map}
 use Prim.Native.Nat.{ℕ, zero, suc, ◌+◌, ◌%◌, ◌^◌, ◌<◌, ◌≤◌}
 use native.Mathlib.Omega.{arith}
@@ -10,12 +9,13 @@ use lib.ListN.{length, get_or, take, set, length-map}
 use lib.Seq.{take-suc, take_all, length-take-le}
 use lib.Signed.{mag}
 use borrow.Author.Tests.{ne_eqb}
-use Rattle.records.specs.Kind.{SETUP}
+use Rattle.std.specs.Prelude.{Err}
+use Rattle.constants.specs.Kind.{kind_of}
+use Rattle.constants.specs.declared.refusal.Refusal.TheVariants.{BadKind}
 use Rattle.cell_counts.specs.Scan.{padded}
-use Rattle.records.specs.declared.Payload.{Payload}
 use Rattle.record_numbers.specs.Values.{nat_of}
 use Rattle.record_numbers.proofs.Ints.{bits_at, nat_at_lem}
-use Rattle.record_event.specs.Values.{count_of, later_by, part_by, event_by}
+use Rattle.record_event.specs.Values.{count_of}
 
 set-padded : (n : ℕ) (xs : List ℕ) (x : ℕ) → length xs < n → set (padded n xs) (length xs) x ≡ padded n (xs ++ (x ∷ []))
 set-padded zero xs x h = absurd (omega arith)
@@ -49,7 +49,26 @@ padded-take (suc n) (x ∷ xs) = ap (λ (l : List ℕ). count_of x ∷ l) (padde
 pub counts_all : (vs : List ℤ) (i : ℕ) → i ≡ 15 → counts_to vs i ≡ padded 15 (map count_of vs)
 counts_all vs i e = ap (counts_to vs) e ∙ padded-take 15 vs
 
--- the event of another kind, at a part that is one
-pub event_later : (kind part : ℕ) (vs : List ℤ) → kind ≢ SETUP → (p : ℕ) → p ≡ part_by part → p ≢ 0 → {r : Payload} → r ≡ later_by kind p vs → r ≡ event_by kind part vs
-unfolding event_by
-event_later kind part vs h p e n q = simp (ne_eqb kind SETUP h, ne_eqb (part_by part) 0 (λ z. n (e ∙ z))) (q ∙ ap (λ (m : ℕ). later_by kind m vs) e)
+-- no kind is a number of more than 16 bits
+pub wide_kind : (kind : ℕ) → 65536 ≤ kind → kind_of kind ≡ Err BadKind
+wide_kind kind h =
+    simp (
+      ne_eqb kind 0x0000 (λ e. omega (arith, e)),
+      ne_eqb kind 0x0001 (λ e. omega (arith, e)),
+      ne_eqb kind 0x0002 (λ e. omega (arith, e)),
+      ne_eqb kind 0x0003 (λ e. omega (arith, e)),
+      ne_eqb kind 0x0004 (λ e. omega (arith, e)),
+      ne_eqb kind 0x0005 (λ e. omega (arith, e)),
+      ne_eqb kind 0x0006 (λ e. omega (arith, e)),
+      ne_eqb kind 0x0007 (λ e. omega (arith, e)),
+      ne_eqb kind 0x0008 (λ e. omega (arith, e)),
+      ne_eqb kind 0x0009 (λ e. omega (arith, e)),
+      ne_eqb kind 0x0010 (λ e. omega (arith, e)),
+      ne_eqb kind 0x0011 (λ e. omega (arith, e)),
+      ne_eqb kind 0x0012 (λ e. omega (arith, e)),
+      ne_eqb kind 0x0013 (λ e. omega (arith, e)),
+      ne_eqb kind 0x0014 (λ e. omega (arith, e)),
+      ne_eqb kind 0x0015 (λ e. omega (arith, e)),
+      ne_eqb kind 0x0016 (λ e. omega (arith, e)),
+      ne_eqb kind 0x0017 (λ e. omega (arith, e)),
+    )

@@ -1,22 +1,20 @@
 // What values mean, kind by kind.
 #![tactic(auto)]
 
-ghost use Rattle.std.specs.Prelude.{◌≡◌, true, map, ◌<◌, length};
+ghost use Rattle.std.specs.Prelude.{◌≡◌, cond, eqb, leb, map, Ok, Err, length};
 ghost use Rattle.bits.specs.Numbers.{within};
+ghost use Rattle.constants.specs.declared.refusal.Refusal.TheVariants.{BadKind, BadValue};
 ghost use Rattle.events.specs.Event.{count_most, sense_fits, ticks_most, soak_most};
 ghost use Rattle.records.specs.Record.{load_of, level_of, in_of, ticks_of, soak_of};
-ghost use Rattle.record_numbers.specs.Values.{nat_of, nat_at, byte_of};
+ghost use Rattle.record_numbers.specs.Values.{nat_of, nat_at};
 ghost use Rattle.record_payload.specs.Values.{setup_by, bare_by, counted_by, one_count_by, out_by, switch_by, sense_by, repeat_by, wires_by};
 
-use constants::{number, range};
-use events::{BusEvent, Checked, Event};
-use record_numbers::{BYTE_MOST, WORD_MOST, byte_of, natural, word_of};
-use records::Payload;
+use constants::range;
+use constants::refusal::Refusal;
+use events::{BusEvent, Event};
+use record_numbers::{BYTE_MOST, byte_of, natural, word_of};
 
-// SETUP's values: part, CRC, address, gain code, offset and floor.
-const SETUP_VALUES: usize = 6;
-
-// The ranges of records, in the widths that C hands over.
+// The ranges of records, in the width that C hands over.
 const COUNT_MOST: u64 = range::COUNT_MOST as u64;
 
 const SENSE_LEAST: i64 = range::SENSE_LEAST as i64;
@@ -27,42 +25,80 @@ const TICKS_MOST: u64 = range::TICKS_MOST as u64;
 
 const SOAK_MOST: u64 = range::SOAK_MOST as u64;
 
-fn byte_at(values: &[i64], i: usize) -> u8
-    requires { i < length values.now }
-    ensures { result ≡ byte_of (nat_at values.now i) }
+// One value that a byte holds; another is refused as it is told.
+fn byte(values: &[i64], why: Refusal) -> Result<u8, Refusal>
+    ensures { result ≡ cond (eqb (length values.now) 1) (cond (leb (nat_at values.now 0) 255) (Ok (nat_at values.now 0)) (Err why)) (Err BadKind) }
 {
-    byte_of(natural(values[i]))
+    match values {
+        [v] => u8::try_from(natural(*v)).map_err(|_| why),
+        _ => Err(Refusal::BadKind),
+    }
 }
 
-pub fn setup_by(values: &[i64]) -> Payload
+// One value that two bytes hold.
+fn word(values: &[i64]) -> Result<u16, Refusal>
+    ensures { result ≡ cond (eqb (length values.now) 1) (cond (leb (nat_at values.now 0) 65535) (Ok (nat_at values.now 0)) (Err BadValue)) (Err BadKind) }
+{
+    match values {
+        [v] => u16::try_from(natural(*v)).map_err(|_| Refusal::BadValue),
+        _ => Err(Refusal::BadKind),
+    }
+}
+
+// One value that is 0 or 1.
+fn switch(values: &[i64]) -> Result<bool, Refusal>
+    ensures { result ≡ cond (eqb (length values.now) 1) (cond (leb (nat_at values.now 0) 1) (Ok (eqb (nat_at values.now 0) 1)) (Err BadValue)) (Err BadKind) }
+{
+    match byte(values, Refusal::BadValue)? {
+        0 => Ok(false),
+        1 => Ok(true),
+        _ => Err(Refusal::BadValue),
+    }
+}
+
+// A value of SENSE.
+fn value(v: i64) -> Result<i32, Refusal>
+    ensures { result ≡ cond (sense_fits v) (Ok v) (Err BadValue) }
+{
+    if (SENSE_LEAST..=SENSE_MOST).contains(&v) {
+        Ok(v as i32)
+    } else {
+        Err(Refusal::BadValue)
+    }
+}
+
+// SETUP's values: part, CRC, address, gain code, offset and floor.
+#[tactic(auto, unfolding(events::specs::Setup::checked_of))]
+pub fn setup_by(values: &[i64]) -> Result<Event, Refusal>
     ensures { result ≡ setup_by values.now }
 {
-    if values.len() != SETUP_VALUES {
-        return Payload::Unfit(number::BAD_KIND);
-    }
-    if BYTE_MOST < natural(values[4]) {
-        return Payload::Unfit(number::BAD_SETUP);
-    }
-    let part = byte_at(values, 0);
-    let crc = byte_at(values, 1);
-    let address = byte_at(values, 2);
-    let gain = byte_at(values, 3);
-    let offset = byte_at(values, 4);
-    let floor = word_of(natural(values[5]));
-    match events::setup_of(part, crc, address, gain, offset, floor) {
-        Checked::Good(setup) => Payload::Whole(Event::Setup(setup)),
-        Checked::Bad => Payload::Unfit(number::BAD_SETUP),
+    match values {
+        [part, crc, address, gain, offset, floor] => {
+            if BYTE_MOST < natural(*offset) {
+                return Err(Refusal::BadSetup);
+            }
+            let setup = events::setup_of(
+                byte_of(natural(*part)),
+                byte_of(natural(*crc)),
+                byte_of(natural(*address)),
+                byte_of(natural(*gain)),
+                byte_of(natural(*offset)),
+                word_of(natural(*floor)),
+            )?;
+            Ok(Event::Setup(setup))
+        }
+        _ => Err(Refusal::BadKind),
     }
 }
 
 // An event with no values.
-pub fn bare_by(event: Event, values: &[i64]) -> Payload
+pub fn bare_by(event: Event, values: &[i64]) -> Result<Event, Refusal>
     ensures { result ≡ bare_by event values.now }
 {
-    if values.len() == 0 {
-        Payload::Whole(event)
+    if values.is_empty() {
+        Ok(event)
     } else {
-        Payload::Unfit(number::BAD_KIND)
+        Err(Refusal::BadKind)
     }
 }
 
@@ -70,166 +106,105 @@ pub fn bare_by(event: Event, values: &[i64]) -> Payload
 fn all_counts(values: &[i64]) -> bool
     ensures { result ≡ within count_most (map nat_of values.now) }
 {
-    let mut i = 0;
-    while i < values.len() {
-        if COUNT_MOST < natural(values[i]) {
+    for v in values {
+        if COUNT_MOST < natural(*v) {
             return false;
         }
-        i += 1;
     }
     true
 }
 
 // An event with as many counts as are wanted.
-pub fn counted_by(event: Event, wanted: u8, values: &[i64]) -> Payload
+pub fn counted_by(event: Event, wanted: u8, values: &[i64]) -> Result<Event, Refusal>
     ensures { result ≡ counted_by event wanted values.now }
 {
-    if values.len() != wanted as usize {
-        return Payload::Unfit(number::BAD_KIND);
+    if values.len() != usize::from(wanted) {
+        return Err(Refusal::BadKind);
     }
     if all_counts(values) {
-        Payload::Whole(event)
+        Ok(event)
     } else {
-        Payload::Unfit(number::BAD_VALUE)
+        Err(Refusal::BadValue)
     }
 }
 
-pub fn count_by(values: &[i64]) -> Payload
+pub fn count_by(values: &[i64]) -> Result<Event, Refusal>
     ensures { result ≡ one_count_by values.now }
 {
-    if values.len() != 1 {
-        return Payload::Unfit(number::BAD_KIND);
-    }
-    let n = natural(values[0]);
-    if n <= WORD_MOST {
-        Payload::Whole(Event::Count(n as u16))
-    } else {
-        Payload::Unfit(number::BAD_VALUE)
-    }
+    Ok(Event::Count(word(values)?))
 }
 
-pub fn out_by(values: &[i64]) -> Payload
+pub fn out_by(values: &[i64]) -> Result<Event, Refusal>
     ensures { result ≡ out_by values.now }
 {
-    if values.len() != 1 {
-        return Payload::Unfit(number::BAD_KIND);
-    }
-    let n = natural(values[0]);
-    if n <= BYTE_MOST {
-        Payload::Whole(Event::OnBus(BusEvent::Out(n as u8)))
-    } else {
-        Payload::Unfit(number::BAD_VALUE)
-    }
+    Ok(Event::OnBus(BusEvent::Out(byte(values, Refusal::BadValue)?)))
 }
 
-pub fn load_by(values: &[i64]) -> Payload
+pub fn load_by(values: &[i64]) -> Result<Event, Refusal>
     ensures { result ≡ switch_by load_of values.now }
 {
-    if values.len() != 1 {
-        return Payload::Unfit(number::BAD_KIND);
-    }
-    let n = natural(values[0]);
-    if n <= 1 {
-        Payload::Whole(Event::Load(n == 1))
-    } else {
-        Payload::Unfit(number::BAD_VALUE)
-    }
+    Ok(Event::Load(switch(values)?))
 }
 
-pub fn level_by(values: &[i64]) -> Payload
+pub fn level_by(values: &[i64]) -> Result<Event, Refusal>
     ensures { result ≡ switch_by level_of values.now }
 {
-    if values.len() != 1 {
-        return Payload::Unfit(number::BAD_KIND);
-    }
-    let n = natural(values[0]);
-    if n <= 1 {
-        Payload::Whole(Event::Level(n == 1))
-    } else {
-        Payload::Unfit(number::BAD_VALUE)
-    }
+    Ok(Event::Level(switch(values)?))
 }
 
-pub fn in_by(values: &[i64]) -> Payload
+pub fn in_by(values: &[i64]) -> Result<Event, Refusal>
     ensures { result ≡ switch_by in_of values.now }
 {
-    if values.len() != 1 {
-        return Payload::Unfit(number::BAD_KIND);
-    }
-    let n = natural(values[0]);
-    if n <= 1 {
-        Payload::Whole(Event::OnBus(BusEvent::In(n == 1)))
-    } else {
-        Payload::Unfit(number::BAD_VALUE)
-    }
+    Ok(Event::OnBus(BusEvent::In(switch(values)?)))
 }
 
-// Whether a value is one of SENSE.
-fn near(v: i64) -> bool
-    ensures { result ≡ sense_fits v }
-{
-    (SENSE_LEAST <= v) & (v <= SENSE_MOST)
-}
-
-// Such a value.
-fn narrow(v: i64) -> i32
-    requires { sense_fits v ≡ true }
-    ensures { result ≡ v }
-{
-    v as i32
-}
-
-pub fn sense_by(values: &[i64]) -> Payload
+pub fn sense_by(values: &[i64]) -> Result<Event, Refusal>
     ensures { result ≡ sense_by values.now }
 {
-    if values.len() != 1 {
-        return Payload::Unfit(number::BAD_KIND);
+    match values {
+        [v] => Ok(Event::Sense(value(*v)?)),
+        _ => Err(Refusal::BadKind),
     }
-    let v = values[0];
-    if near(v) {
-        return Payload::Whole(Event::Sense(narrow(v)));
-    }
-    Payload::Unfit(number::BAD_VALUE)
 }
 
-pub fn ticks_by(values: &[i64]) -> Payload
+#[tactic(auto, unfolding(events::specs::Event::ticks_fit))]
+pub fn ticks_by(values: &[i64]) -> Result<Event, Refusal>
     ensures { result ≡ repeat_by ticks_of ticks_most values.now }
 {
-    if values.len() != 2 {
-        return Payload::Unfit(number::BAD_KIND);
+    match values {
+        [v, times] => {
+            let v = value(*v)?;
+            let n = natural(*times);
+            if (1..=TICKS_MOST).contains(&n) {
+                Ok(Event::Ticks(v, n as u16))
+            } else {
+                Err(Refusal::BadValue)
+            }
+        }
+        _ => Err(Refusal::BadKind),
     }
-    let v = values[0];
-    let n = natural(values[1]);
-    if near(v) & (1 <= n) & (n <= TICKS_MOST) {
-        return Payload::Whole(Event::Ticks(narrow(v), n as u16));
-    }
-    Payload::Unfit(number::BAD_VALUE)
 }
 
-pub fn soak_by(values: &[i64]) -> Payload
+#[tactic(auto, unfolding(events::specs::Event::ticks_fit))]
+pub fn soak_by(values: &[i64]) -> Result<Event, Refusal>
     ensures { result ≡ repeat_by soak_of soak_most values.now }
 {
-    if values.len() != 2 {
-        return Payload::Unfit(number::BAD_KIND);
+    match values {
+        [v, times] => {
+            let v = value(*v)?;
+            let n = natural(*times);
+            if (1..=SOAK_MOST).contains(&n) {
+                Ok(Event::Soak(v, n as u32))
+            } else {
+                Err(Refusal::BadValue)
+            }
+        }
+        _ => Err(Refusal::BadKind),
     }
-    let v = values[0];
-    let n = natural(values[1]);
-    if near(v) & (1 <= n) & (n <= SOAK_MOST) {
-        return Payload::Whole(Event::Soak(narrow(v), n as u32));
-    }
-    Payload::Unfit(number::BAD_VALUE)
 }
 
-pub fn wires_by(values: &[i64]) -> Payload
+pub fn wires_by(values: &[i64]) -> Result<Event, Refusal>
     ensures { result ≡ wires_by values.now }
 {
-    if values.len() != 1 {
-        return Payload::Unfit(number::BAD_KIND);
-    }
-    let n = natural(values[0]);
-    if n <= BYTE_MOST {
-        Payload::Whole(Event::Wires(n as u8))
-    } else {
-        Payload::Unfit(number::NO_ROW)
-    }
+    Ok(Event::Wires(byte(values, Refusal::NoRow)?))
 }

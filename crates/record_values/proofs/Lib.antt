@@ -1,4 +1,3 @@
 pub mod Ints
 pub mod Laid
 pub mod Told
-pub mod Arms

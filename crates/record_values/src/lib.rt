@@ -1,52 +1,45 @@
 // An event's kind and its values.
 #![tactic(auto)]
 
-ghost use Rattle.std.specs.Prelude.{◌≡◌, [], ◌∷◌, ◌≤◌, length, pos};
+ghost use Rattle.std.specs.Prelude.{◌≡◌, [], ◌∷◌, ◌≤◌, length};
 ghost use Rattle.constants.specs.Answer.{gives};
-ghost use Rattle.bits.specs.Numbers.{bit_of};
+ghost use Rattle.constants.specs.Kind.{code_of};
 ghost use Rattle.records.specs.Record.{no_counts};
 ghost use Rattle.events.specs.declared.Event.TheVariants.{OnBus};
 ghost use Rattle.writer.specs.Write.{kind_for};
 ghost use Rattle.record_values.specs.Values.{values_for, setup_values, count_values};
 ghost use Rattle.record_values.specs.Named.{laid, named, Names};
 
-use constants::{answer, range, size};
+use constants::kind::Kind;
+use constants::{answer, size};
 use events::{BusEvent, Counts, Event, Setup};
-use record_numbers::kind;
 
 // SETUP's values: part, CRC, address, gain code, offset and floor.
 const SETUP_VALUES: usize = 6;
 
-fn bus_kind(event: BusEvent) -> u32
-    ensures { result ≡ kind_for (OnBus event) }
+// The kind of an event's record.
+fn kind_of(event: Event) -> Kind
+    ensures { code_of result ≡ kind_for event }
 {
     match event {
-        BusEvent::Start => kind::START,
-        BusEvent::Out(_) => kind::OUT,
-        BusEvent::In(_) => kind::IN,
-        BusEvent::Stop => kind::STOP,
-    }
-}
-
-fn kind_of(event: Event) -> u32
-    ensures { result ≡ kind_for event }
-{
-    match event {
-        Event::Setup(_) => kind::SETUP,
-        Event::Por => kind::POR,
-        Event::Boot => kind::BOOT,
-        Event::Scan => kind::SCAN,
-        Event::Temp => kind::TEMP,
-        Event::Count(_) => kind::COUNT,
-        Event::Sense(_) => kind::SENSE,
-        Event::Pin => kind::PIN,
-        Event::Load(_) => kind::LOAD,
-        Event::Xready => kind::XREADY,
-        Event::OnBus(bus) => bus_kind(bus),
-        Event::Level(_) => kind::LEVEL,
-        Event::Ticks(_, _) => kind::TICKS,
-        Event::Soak(_, _) => kind::SOAK,
-        Event::Wires(_) => kind::WIRING,
+        Event::Setup(_) => Kind::Setup,
+        Event::Por => Kind::Por,
+        Event::Boot => Kind::Boot,
+        Event::Scan => Kind::Scan,
+        Event::Temp => Kind::Temp,
+        Event::Count(_) => Kind::Count,
+        Event::Sense(_) => Kind::Sense,
+        Event::Pin => Kind::Pin,
+        Event::Load(_) => Kind::Load,
+        Event::Xready => Kind::Xready,
+        Event::OnBus(BusEvent::Start) => Kind::Start,
+        Event::OnBus(BusEvent::Out(_)) => Kind::Out,
+        Event::OnBus(BusEvent::In(_)) => Kind::In,
+        Event::OnBus(BusEvent::Stop) => Kind::Stop,
+        Event::Level(_) => Kind::Level,
+        Event::Ticks(_, _) => Kind::Ticks,
+        Event::Soak(_, _) => Kind::Soak,
+        Event::Wires(_) => Kind::Wiring,
     }
 }
 
@@ -54,10 +47,8 @@ fn bus_many(event: BusEvent) -> usize
     ensures { (result ≡ length (values_for (OnBus event) no_counts)) × (result ≤ 15) }
 {
     match event {
-        BusEvent::Start => 0,
-        BusEvent::Out(_) => 1,
-        BusEvent::In(_) => 1,
-        BusEvent::Stop => 0,
+        BusEvent::Out(_) | BusEvent::In(_) => 1,
+        _ => 0,
     }
 }
 
@@ -65,11 +56,7 @@ fn bus_many(event: BusEvent) -> usize
 fn counts_many(counts: Counts) -> usize
     ensures { (result ≡ length (count_values counts)) × (result ≤ 15) }
 {
-    if counts.many <= range::INPUTS_MOST {
-        counts.many as usize
-    } else {
-        size::INPUTS
-    }
+    usize::from(counts.many).min(size::INPUTS)
 }
 
 // How many values an event has.
@@ -82,21 +69,8 @@ fn many_of(event: Event, counts: Counts) -> usize
         Event::Ticks(_, _) | Event::Soak(_, _) => 2,
         Event::OnBus(bus) => bus_many(bus),
         Event::Count(_) | Event::Sense(_) | Event::Load(_) | Event::Level(_) | Event::Wires(_) => 1,
-        Event::Por | Event::Boot | Event::Pin | Event::Xready => 0,
+        _ => 0,
     }
-}
-
-fn bit_of(t: bool) -> i64
-    ensures { result ≡ pos (bit_of t) }
-{
-    if t { 1 } else { 0 }
-}
-
-fn put_one(out: &mut [i64], v: i64)
-    requires { 1 ≤ length out.old }
-    ensures { out.new ≡ laid (v ∷ []) out.old }
-{
-    out[0] = v;
 }
 
 fn put_two(out: &mut [i64], v: i64, w: i64)
@@ -111,12 +85,12 @@ fn put_setup(out: &mut [i64], setup: Setup)
     requires { 6 ≤ length out.old }
     ensures { out.new ≡ laid (setup_values setup) out.old }
 {
-    out[0] = setup.part as i64;
-    out[1] = bit_of(setup.crc);
-    out[2] = setup.address as i64;
-    out[3] = setup.gain_code as i64;
-    out[4] = setup.offset as i64;
-    out[5] = setup.floor as i64;
+    out[0] = i64::from(setup.part);
+    out[1] = i64::from(setup.crc);
+    out[2] = i64::from(setup.address);
+    out[3] = i64::from(setup.gain_code);
+    out[4] = i64::from(setup.offset);
+    out[5] = i64::from(setup.floor);
 }
 
 fn put_counts(out: &mut [i64], counts: Counts)
@@ -126,7 +100,7 @@ fn put_counts(out: &mut [i64], counts: Counts)
     let n = counts_many(counts);
     let of = counts.of;
     for i in 0..n {
-        out[i] = of[i] as i64;
+        out[i] = i64::from(of[i]);
     }
 }
 
@@ -135,10 +109,9 @@ fn put_bus(out: &mut [i64], event: BusEvent)
     ensures { out.new ≡ laid (values_for (OnBus event) no_counts) out.old }
 {
     match event {
-        BusEvent::Start => {}
-        BusEvent::Out(b) => put_one(out, b as i64),
-        BusEvent::In(t) => put_one(out, bit_of(t)),
-        BusEvent::Stop => {}
+        BusEvent::Out(b) => out[0] = i64::from(b),
+        BusEvent::In(t) => out[0] = i64::from(t),
+        _ => {}
     }
 }
 
@@ -150,15 +123,15 @@ fn put_values(out: &mut [i64], event: Event, counts: Counts)
     match event {
         Event::Setup(setup) => put_setup(out, setup),
         Event::Scan | Event::Temp => put_counts(out, counts),
-        Event::Count(n) => put_one(out, n as i64),
-        Event::Sense(v) => put_one(out, v as i64),
-        Event::Load(t) => put_one(out, bit_of(t)),
+        Event::Count(n) => out[0] = i64::from(n),
+        Event::Sense(v) => out[0] = i64::from(v),
+        Event::Load(t) => out[0] = i64::from(t),
         Event::OnBus(bus) => put_bus(out, bus),
-        Event::Level(t) => put_one(out, bit_of(t)),
-        Event::Ticks(v, n) => put_two(out, v as i64, n as i64),
-        Event::Soak(v, n) => put_two(out, v as i64, n as i64),
-        Event::Wires(n) => put_one(out, n as i64),
-        Event::Por | Event::Boot | Event::Pin | Event::Xready => {}
+        Event::Level(t) => out[0] = i64::from(t),
+        Event::Ticks(v, n) => put_two(out, i64::from(v), i64::from(n)),
+        Event::Soak(v, n) => put_two(out, i64::from(v), i64::from(n)),
+        Event::Wires(n) => out[0] = i64::from(n),
+        _ => {}
     }
 }
 
@@ -170,7 +143,7 @@ pub fn put_named(event: Event, counts: Counts, kind: &mut u32, values: &mut [i64
     if values.len() < n {
         return answer::NO_ROOM;
     }
-    *kind = kind_of(event);
+    *kind = u32::from(kind_of(event).code());
     put_values(values, event, counts);
     n as i64
 }

@@ -1,5 +1,5 @@
 -- `toralinge_values` names the record that was read, or gives the number it is refused with (Told).
-use Rattle.std.proofs.Common.{arith, length, of_z, rules, subst, sym, to_z, w64, ℕ, ◌∙◌, ◌≡◌, ◌≤◌}
+use Rattle.std.proofs.Common.{ap, neg_ℤ, pos, arith, length, of_z, rules, subst, sym, to_z, w64, ℕ, ◌∙◌, ◌≡◌, ◌≤◌}
 use Rattle.records.specs.ReadingLaws.{Placed, placed}
 use Rattle.records.specs.declared.Read.TheVariants.{Record}
 use Rattle.events.specs.declared.Event.{Event}
@@ -28,7 +28,7 @@ pub returns-in-Cut : goal.returns-in-Cut
 returns-in-Cut c = named_cut c.args.part c.args.bytes.now c.args.kind.now c.args.values.now c.if-part-gt-PART_MOST.false c.read_rest.result c.read_rest.ensures c.in-Cut.is
 
 pub returns-in-Refused : goal.returns-in-Refused
-returns-in-Refused c = named_refused c.args.part c.args.bytes.now c.args.kind.now c.args.values.now c.if-part-gt-PART_MOST.false c.read_rest.result c.read_rest.ensures _ _ c.in-Refused.is _ (minus_is c.in-Refused.number (search rules))
+returns-in-Refused c = rw c.from.ensures (named_refused c.args.part c.args.bytes.now c.args.kind.now c.args.values.now c.if-part-gt-PART_MOST.false c.read_rest.result c.read_rest.ensures _ _ c.in-Refused.is _ (minus_is c.number.result (search rules) ∙ ap (λ (n : ℕ). neg_ℤ (pos n)) c.number.ensures))
 
 pub returns-in-Record : goal.returns-in-Record
 returns-in-Record c = let e : to_z w64 (of_z w64 c.put_named.result) ≡ c.put_named.result = search rules in

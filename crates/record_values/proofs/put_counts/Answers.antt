@@ -14,6 +14,6 @@ module _ (s : Start) where
 pub loop-i-preserved : goal.loop-i-preserved
 loop-i-preserved c = let r = (goal.at.loop-i-preserved c).Start in (
   omega (arith, c.loop-i-test.true),
-  ap (λ (t : List ℤ). set t c.loop-i.i (to_z w64 (get_or c.args.counts.of c.loop-i.i 0))) c.loop-i.invariant.1
-      ∙ laid_more c.args.counts.of c.args.out.now c.loop-i.i (omega (arith, fifteen r, c.loop-i-test.true, c.counts_many-n.ensures.1)) (omega (arith, c.loop-i-test.true, c.counts_many-n.ensures.0, c.requires)) (small r c.loop-i.i),
+  rw c.from.ensures (ap (λ (t : List ℤ). set t c.loop-i.i (to_z w64 (get_or c.args.counts.of c.loop-i.i 0))) c.loop-i.invariant.1
+      ∙ laid_more c.args.counts.of c.args.out.now c.loop-i.i (omega (arith, fifteen r, c.loop-i-test.true, c.counts_many-n.ensures.1)) (omega (arith, c.loop-i-test.true, c.counts_many-n.ensures.0, c.requires)) (small r c.loop-i.i)),
 )
