@@ -17,8 +17,8 @@ use Rattle.events.specs.declared.Event.TheVariants.{OnBus}
 use Rattle.records.specs.Record.{no_counts}
 use Rattle.writer.specs.Write.{record_for, refusal_for, value_refusal, written_of}
 use Rattle.writer.specs.Write.{Puts as WriterPuts}
-use Rattle.writer.specs.declared.Wrote.{Wrote}
-use Rattle.writer.specs.declared.Wrote.TheVariants.{Done, Refused}
+use Rattle.writer.specs.Write.{Wrote}
+use Rattle.constants.specs.Answer.{gives, refuses}
 use Rattle.i2c_lists.specs.Records.{taken, records_of, near}
 use Rattle.i2c_words.specs.declared.Word.{Word}
 use Rattle.i2c_lists.specs.WordingLaws.{on_word, near_word}
@@ -42,7 +42,7 @@ module _ (e : BusEvent) (k : Counts) (at : ℕ) (old ys : List ℕ) (r : Wrote) 
   fits : at + length bytes ≤ length old
   fits = subst (λ (l : List ℕ). at + length l ≤ length old) one room
 
-  settled : (r ≡ Done (length bytes)) × (ys ≡ written_of bytes (drop at old))
+  settled : (r ≡ gives (length bytes)) × (ys ≡ written_of bytes (drop at old))
   unfolding bytes
   settled =
       let p : WriterPuts 0 bytes (drop at old) r ys =
@@ -60,16 +60,16 @@ module _ (e : BusEvent) (k : Counts) (at : ℕ) (old ys : List ℕ) (r : Wrote) 
       ap (λ (l : List ℕ). take at old ++ (ys ++ l)) z ∙ ap (λ (l : List ℕ). take at old ++ l) (append-nil ys ∙ y)
       ∙ sym (append_assoc (take at old) bytes (drop (at + length bytes) old)) ∙ sym (sets-eq bytes old at fits) ∙ ap (sets old at) (sym one)
 
-  pub put_done : (n : ℕ) → r ≡ Done n → (at + n ≤ length old) × Puts (e ∷ []) at old (at + n) (take at old ++ (ys ++ drop (length old - at) (drop at old)))
+  pub put_done : (n : ℕ) → r ≡ gives n → (at + n ≤ length old) × Puts (e ∷ []) at old (at + n) (take at old ++ (ys ++ drop (length old - at) (drop at old)))
   put_done n q =
-      let s : Done n ≡ Done (length bytes) = sym q ∙ settled.0 in
+      let s : gives n ≡ gives (length bytes) = sym q ∙ settled.0 in
       let m : n ≡ length bytes = cc in
       let l : length (records_of (e ∷ [])) ≡ length bytes = ap length one in
       (omega (arith, fits, m), record { next = omega (arith, m, l); wrote = middle })
 
-  pub put_never : (n : ℕ) → r ≡ Refused n → ⊥
+  pub put_never : (n : ℕ) → r ≡ refuses n → ⊥
   put_never n q =
-      let s : Refused n ≡ Done (length bytes) = sym q ∙ settled.0 in
+      let s : refuses n ≡ gives (length bytes) = sym q ∙ settled.0 in
       let z : ◌≡◌ {A = ℕ} 0 1 = cc in
       omega arith
 

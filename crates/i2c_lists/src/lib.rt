@@ -10,9 +10,8 @@ ghost use Rattle.i2c_lists.specs.WordingLaws.{on_word, on_words, near_word};
 ghost use Rattle.i2c_lists.specs.Putting.{Puts};
 
 use constants::{number, range, size};
-use events::{BusEvent, Event};
+use events::{BusEvent, Counts, Event};
 use i2c_words::Word;
-use writer::Wrote;
 
 // The records of a byte, OUT or IN; and of the beginning of a message, START and OUT.
 const BYTE: usize = size::HEADER + 1;
@@ -162,9 +161,9 @@ fn put(out: &mut [u8], at: usize, event: BusEvent) -> usize
     requires { at + length (records_of (event ∷ [])) ≤ length out.old }
     ensures { Puts (event ∷ []) at out.old result out.new }
 {
-    match writer::write_record(Event::OnBus(event), records::no_counts(), 1, &mut out[at..]) {
-        Wrote::Done(n) => at + n,
-        Wrote::Refused(_) => at,
+    match writer::write_record(Event::OnBus(event), Counts::default(), 1, &mut out[at..]) {
+        Ok(n) => at + n,
+        Err(_) => at,
     }
 }
 

@@ -1,9 +1,12 @@
 -- `put` writes a record by the writer, which is lent the rest and refuses no bus event (Writing).
+use Rattle.std.proofs.Common.{ap}
+use Rattle.records.proofs.NoCounts.{none_made}
+use Rattle.writer.specs.Write.{wrote}
 use Rattle.i2c_lists.proofs.Writing.{put_done, put_never}
 use Rattle.i2c_lists.proofs.put.Goals as goal
 
-pub returns-in-Done : goal.returns-in-Done
-returns-in-Done c = (put_done c.args.event c.no_counts.result c.args.at c.args.out.now c.write_record.new.out c.write_record.result c.no_counts.ensures c.requires c.write_record.ensures c.in-Done.n c.in-Done.is).1
+pub returns-in-Ok : goal.returns-in-Ok
+returns-in-Ok c = (put_done c.args.event c.default.result c.args.at c.args.out.now c.write_record.new.out (wrote c.write_record.result) (none_made c.default.result c.default.ensures.0 c.default.ensures.1) c.requires c.write_record.ensures c.in-Ok.n (ap wrote c.in-Ok.is)).1
 
-pub returns-in-Refused : goal.returns-in-Refused
-returns-in-Refused c = absurd (put_never c.args.event c.no_counts.result c.args.at c.args.out.now c.write_record.new.out c.write_record.result c.no_counts.ensures c.requires c.write_record.ensures c.in-Refused.field-0 c.in-Refused.is)
+pub returns-in-Err : goal.returns-in-Err
+returns-in-Err c = absurd (put_never c.args.event c.default.result c.args.at c.args.out.now c.write_record.new.out (wrote c.write_record.result) (none_made c.default.result c.default.ensures.0 c.default.ensures.1) c.requires c.write_record.ensures _ (ap wrote c.in-Err.is))
