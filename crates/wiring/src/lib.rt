@@ -91,7 +91,7 @@ pub fn pack(setup: Setup, cells: [u16; 15]) -> Counts
     packed(wired(setup), cells)
 }
 
-// The input of a cell of the pack, or 0 where it has no such cell.
+// The input of a cell of the pack, or 0 where it has no such cell: its clause and `Rows.input_of` say 0, and callers ask for cells alone.
 pub fn input_of(setup: Setup, cell: u8) -> u8
     ensures { result ≡ input_of setup cell }
 {
