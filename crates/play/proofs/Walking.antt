@@ -16,11 +16,10 @@ use Rattle.turn.specs.declared.Entry.{Entry}
 use Rattle.turn.specs.Turn.{none, Turn, turned, turn_of}
 use Rattle.turn.specs.Entries.{runs, entries}
 use Rattle.turn.specs.CountedLaws.{Framed, framed}
-use Rattle.play_line.specs.declared.Columns.{Columns}
 use Rattle.play_line.specs.Line.{line_of}
 use Rattle.play_line.specs.Put.{Puts}
 use Rattle.play_line.proofs.Putting.{and_then, as_text, put_none}
-use Rattle.play.specs.Text.{columns_of, lines_from, most_input, most_text}
+use Rattle.play.specs.Text.{lines_from, most_input, most_text}
 
 rest_is : (s : List ℕ) (place : ℕ) → take (length s - place) (drop place s) ≡ drop place s
 rest_is s place = take_all (length s - place) (drop place s) (simp length-drop (omega arith))
@@ -86,16 +85,16 @@ module _ (s old out : List ℕ) (o : Bool) (c : Chip) (place at i : ℕ) (short 
   walk_few h = (omega (arith, w.slow, w.puts.few), omega (arith, w.slow))
 
   -- a turn t, and the buffer after its line
-  module _ (h : place < length s) (t : Turn) (q : t ≡ turn_of o c (take (length s - place) (drop place s))) (k : Columns) (kq : k ≡ columns_of t.entry) (next : ℕ)
+  module _ (h : place < length s) (t : Turn) (q : t ≡ turn_of o c (take (length s - place) (drop place s))) (k : Entry) (kq : k ≡ t.entry) (next : ℕ)
       (new : List ℕ) (p : Puts 27 (line_of i (take (length s - place) (drop place s)) k) at out next new) where
     line : List ℕ
-    line = line_of i (drop place s) (columns_of t.entry)
+    line = line_of i (drop place s) t.entry
 
     puts_line : Puts (27 * (i + 1)) (w.done ++ line) 0 old next new
     unfolding line
     puts_line =
         as_text
-        (ap (λ (k : Columns). w.done ++ line_of i (take (length s - place) (drop place s)) k) kq ∙ ap (λ (r : List ℕ). w.done ++ line_of i r (columns_of t.entry)) (rest_is s place))
+        (ap (λ (k : Entry). w.done ++ line_of i (take (length s - place) (drop place s)) k) kq ∙ ap (λ (r : List ℕ). w.done ++ line_of i r t.entry) (rest_is s place))
         (omega arith) (and_then w.puts p)
 
     turn_is : t ≡ turn_of o c (drop place s)
@@ -116,7 +115,7 @@ module _ (s old out : List ℕ) (o : Bool) (c : Chip) (place at i : ℕ) (short 
         w.whole ∙ ap (λ (k : ℕ). w.done ++ lines_from i (drop place s) (runs k o c (drop place s))) fuel
         ∙ ap (λ (l : List Entry). w.done ++ lines_from i (drop place s) l) (runs-cons (length s - (i + 1)) o c (drop place s) left)
         ∙ ap (λ (t : Turn). w.done ++ lines_from i (drop place s) (t.entry ∷ cond t.last [] (runs (length s - (i + 1)) t.fresh t.chip (drop t.next (drop place s))))) (sym turn_is)
-        ∙ sym (append_assoc w.done (line_of i (drop place s) (columns_of t.entry)) _)
+        ∙ sym (append_assoc w.done (line_of i (drop place s) t.entry) _)
 
     pub walk_last : t.last ≡ true → Puts most_text (lines_from 0 s (entries s)) 0 old next new
     walk_last e =

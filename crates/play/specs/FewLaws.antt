@@ -14,7 +14,7 @@ use Rattle.turn.specs.CountedLaws.{frame_place, entries_count}
 use Rattle.turn.specs.declared.Entry.{Entry}
 use Rattle.play_line.specs.Put.{too_long}
 use Rattle.play_line.specs.FewLaws.{line_few}
-use Rattle.play.specs.Text.{most_input, columns_of, most_text, lines_from, text_of}
+use Rattle.play.specs.Text.{most_input, most_text, lines_from, text_of}
 
 -- ── the entries ──
 -- a record and what follows it
@@ -52,7 +52,7 @@ entries_few s h = omega (arith, entries_count s, all_few s)
 lines_few : (n : ℕ) (rest : List ℕ) (es : List Entry) → length (lines_from n rest es) ≤ 27 * length es
 lines_few n rest [] = omega arith
 lines_few n rest (e ∷ es) =
-    simp length-append (omega (arith, line_few n rest (columns_of e), lines_few (suc n) (drop (frame_of rest) rest) es))
+    simp length-append (omega (arith, line_few n rest e, lines_few (suc n) (drop (frame_of rest) rest) es))
 
 -- ── the text ──
 text_by : (s : List ℕ) (b : Bool) → ltb most_input (length s) ≡ b → length (cond b too_long (lines_from 0 s (entries s))) ≤ most_text

@@ -4,7 +4,6 @@ use Rattle.constants.specs.Range.{STREAM_MOST}
 use Rattle.records.specs.Frame.{frame_of}
 use Rattle.turn.specs.declared.Entry.{Entry}
 use Rattle.turn.specs.Entries.{entries}
-use Rattle.play_line.specs.declared.Columns.{Columns}
 use Rattle.play_line.specs.Line.{line_of}
 use Rattle.play_line.specs.Put.{too_long}
 
@@ -12,14 +11,10 @@ use Rattle.play_line.specs.Put.{too_long}
 abbrev pub most_input : ℕ
 most_input = STREAM_MOST
 
--- a line shows all of an entry
-abbrev pub columns_of : Entry → Columns
-columns_of e = record { number = e.number; flag = e.flag; byte = e.byte; stat = e.stat; pins = e.pins }
-
 -- a line for each entry, beside the record that it stands for
 abbrev pub lines_from : ℕ → List ℕ → List Entry → List ℕ
 lines_from n rest [] = []
-lines_from n rest (e ∷ es) = line_of n rest (columns_of e) ++ lines_from (suc n) (drop (frame_of rest) rest) es
+lines_from n rest (e ∷ es) = line_of n rest e ++ lines_from (suc n) (drop (frame_of rest) rest) es
 
 -- it ends where the entries end
 unfoldable pub text_of : List ℕ → List ℕ

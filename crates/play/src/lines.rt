@@ -2,23 +2,9 @@
 ghost use Rattle.std.specs.Prelude.{◌≡◌, ◌≤◌, length};
 ghost use Rattle.turn.specs.Entries.{entries};
 ghost use Rattle.play_line.specs.Put.{Puts, Written};
-ghost use Rattle.play.specs.Text.{columns_of, lines_from, text_of, most_input, most_text};
+ghost use Rattle.play.specs.Text.{lines_from, text_of, most_input, most_text};
 
 use constants::{answer, range};
-use play_line::Columns;
-use turn::Entry;
-
-fn columns_of(e: Entry) -> Columns
-    ensures { result ≡ columns_of e }
-{
-    Columns {
-        number: e.number,
-        flag: e.flag,
-        byte: e.byte,
-        stat: e.stat,
-        pins: e.pins,
-    }
-}
 
 // A line for each record of an input, put as it is played.
 fn put_lines(out: &mut [u8], input: &[u8]) -> usize
@@ -33,15 +19,14 @@ fn put_lines(out: &mut [u8], input: &[u8]) -> usize
     while place < input.len() {
         let rest = &input[place..];
         let turned = turn::turn(chip, fresh, rest);
-        let columns = columns_of(turned.entry);
-        at = play_line::put_line(out, at as u32, i, rest, columns);
+        at = play_line::put_line(out, at as u32, i, rest, turned.entry);
         if turned.last {
             return at;
         }
         chip = turned.chip;
         fresh = turned.fresh;
-        place = place + turned.next;
-        i = i + 1;
+        place += turned.next;
+        i += 1;
     }
     at
 }

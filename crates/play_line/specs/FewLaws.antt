@@ -1,7 +1,7 @@
 -- A line has at most 27 bytes. Assumes nothing.
 use Rattle.std.specs.Prelude.{Bool, true, false, cond, List, [], ℕ, ◌≤◌, eqb, ltb, length}
 use Rattle.std.proofs.Common.{arith, length-append}
-use Rattle.play_line.specs.declared.Columns.{Columns}
+use Rattle.turn.specs.declared.Entry.{Entry}
 use Rattle.play_line.specs.Line.{leading, decimal, kind_text, bus_text, record_text, answer_text, state_text, line_of}
 
 -- one text or another
@@ -23,6 +23,6 @@ bus_few : (flag byte : ℕ) → length (bus_text flag byte) ≤ 2
 unfolding bus_text
 bus_few flag byte = cond_few (eqb flag 1) _ _ 2 (omega arith) (omega arith)
 
-pub line_few : (n : ℕ) (rest : List ℕ) (c : Columns) → length (line_of n rest c) ≤ 27
+pub line_few : (n : ℕ) (rest : List ℕ) (e : Entry) → length (line_of n rest e) ≤ 27
 unfolding line_of record_text answer_text state_text
-line_few n rest c = simp length-append (omega (arith, decimal_few n, kind_few rest, decimal_few c.number, bus_few c.flag c.byte))
+line_few n rest e = simp length-append (omega (arith, decimal_few n, kind_few rest, decimal_few e.number, bus_few e.flag e.byte))

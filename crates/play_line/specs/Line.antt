@@ -1,6 +1,6 @@
 -- CHIP P13: the line that `play` prints for a record. Assumes nothing.
 use Rattle.std.specs.Prelude.{ℕ, ◌+◌, ◌/◌, ◌%◌, List, [], ◌∷◌, ◌++◌, cond, length, get_or, eqb, ltb}
-use Rattle.play_line.specs.declared.Columns.{Columns}
+use Rattle.turn.specs.declared.Entry.{Entry}
 
 -- the characters: -, the space, the line's end, and the digits from 0 on
 abbrev pub dash : ℕ
@@ -45,11 +45,11 @@ pins_text pins = digit (pins / 4 % 2) ∷ digit (pins / 2 % 2) ∷ digit (pins %
 unfoldable pub record_text : ℕ → List ℕ → List ℕ
 record_text n rest = decimal n ++ (space ∷ []) ++ kind_text rest ++ (space ∷ [])
 
-unfoldable pub answer_text : Columns → List ℕ
-answer_text c = decimal c.number ++ (space ∷ []) ++ bus_text c.flag c.byte ++ (space ∷ [])
+unfoldable pub answer_text : Entry → List ℕ
+answer_text e = decimal e.number ++ (space ∷ []) ++ bus_text e.flag e.byte ++ (space ∷ [])
 
-unfoldable pub state_text : Columns → List ℕ
-state_text c = hex_byte c.stat ++ (space ∷ []) ++ pins_text c.pins ++ (line_end ∷ [])
+unfoldable pub state_text : Entry → List ℕ
+state_text e = hex_byte e.stat ++ (space ∷ []) ++ pins_text e.pins ++ (line_end ∷ [])
 
-unfoldable pub line_of : ℕ → List ℕ → Columns → List ℕ
-line_of n rest c = record_text n rest ++ answer_text c ++ state_text c
+unfoldable pub line_of : ℕ → List ℕ → Entry → List ℕ
+line_of n rest e = record_text n rest ++ answer_text e ++ state_text e

@@ -5,17 +5,8 @@ ghost use Rattle.std.specs.Prelude.{◌≡◌, ◌+◌, ◌<◌, [], ◌∷◌};
 ghost use Rattle.play_line.specs.Line.{leading, decimal, hex_glyph, hex_byte, kind_text, bus_text, pins_text, record_text, answer_text, state_text, line_of};
 ghost use Rattle.play_line.specs.Put.{too_long, Puts, Written};
 
-use constants::{answer, size, weight};
-
-// What a line shows of a record's entry.
-#[derive(Clone, Copy)]
-pub struct Columns {
-    pub number: u8,
-    pub flag: u8,
-    pub byte: u8,
-    pub stat: u8,
-    pub pins: u8,
-}
+use constants::{answer, weight};
+use turn::Entry;
 
 // What the glyph of a hex digit from ten on has above its value.
 const LETTERS: u8 = 55;
@@ -86,11 +77,13 @@ fn put_kind(out: &mut [u8], at: usize, rest: &[u8]) -> usize
     requires { at < 4800000000 }
     ensures { Puts 4 (kind_text rest.now) at out.old result out.new }
 {
-    if rest.len() < size::HEADER {
-        return put_four(out, at, b'-', b'-', b'-', b'-');
+    match rest {
+        [_, _, low, high, ..] => {
+            let half = put_hex(out, at, *high);
+            put_hex(out, half, *low)
+        }
+        _ => put_four(out, at, b'-', b'-', b'-', b'-'),
     }
-    let half = put_hex(out, at, rest[3]);
-    put_hex(out, half, rest[2])
 }
 
 fn put_bus(out: &mut [u8], at: usize, flag: u8, byte: u8) -> usize
@@ -125,34 +118,34 @@ fn put_record(out: &mut [u8], at: usize, n: usize, rest: &[u8]) -> usize
 }
 
 // The number and the bus answer, each with a space after it.
-fn put_answer(out: &mut [u8], at: usize, c: Columns) -> usize
+fn put_answer(out: &mut [u8], at: usize, e: Entry) -> usize
     requires { at < 4600000000 }
-    ensures { Puts 9 (answer_text c) at out.old result out.new }
+    ensures { Puts 9 (answer_text e) at out.old result out.new }
 {
-    let gap = put_decimal(out, at, c.number as usize);
+    let gap = put_decimal(out, at, usize::from(e.number));
     let bus = put(out, gap, b' ');
-    let end = put_bus(out, bus, c.flag, c.byte);
+    let end = put_bus(out, bus, e.flag, e.byte);
     put(out, end, b' ')
 }
 
 // SYS_STAT and the pins, with the line's end after them.
-fn put_state(out: &mut [u8], at: usize, c: Columns) -> usize
+fn put_state(out: &mut [u8], at: usize, e: Entry) -> usize
     requires { at < 4600000000 }
-    ensures { Puts 7 (state_text c) at out.old result out.new }
+    ensures { Puts 7 (state_text e) at out.old result out.new }
 {
-    let gap = put_hex(out, at, c.stat);
+    let gap = put_hex(out, at, e.stat);
     let pins = put(out, gap, b' ');
-    let end = put_pins(out, pins, c.pins);
+    let end = put_pins(out, pins, e.pins);
     put(out, end, b'\n')
 }
 
 // The line of the record that the rest begins with.
-pub fn put_line(out: &mut [u8], at: u32, n: usize, rest: &[u8], c: Columns) -> usize
-    ensures { Puts 27 (line_of n rest.now c) at out.old result out.new }
+pub fn put_line(out: &mut [u8], at: u32, n: usize, rest: &[u8], e: Entry) -> usize
+    ensures { Puts 27 (line_of n rest.now e) at out.old result out.new }
 {
     let answer = put_record(out, at as usize, n, rest);
-    let state = put_answer(out, answer, c);
-    put_state(out, state, c)
+    let state = put_answer(out, answer, e);
+    put_state(out, state, e)
 }
 
 fn put_four(out: &mut [u8], at: usize, p: u8, q: u8, r: u8, s: u8) -> usize
