@@ -1,12 +1,11 @@
 -- The loop over an input's records: the lines that are put, and those that are still to come. Assumes nothing.
-use mathlib.Core.Path.{◌≡◌, refl, ap, sym, ◌∙◌, subst}
+use mathlib.Core.Path.{◌≡◌, ap, sym, ◌∙◌, subst}
 use mathlib.Core.Bool.{Bool, true, false, cond}
 use mathlib.Core.List.{List, [], ◌∷◌, ◌++◌, append_assoc, append-nil}
-use Prim.Native.Nat.{ℕ, zero, suc, ◌+◌, ◌-◌, ◌*◌, ◌<◌, ◌≤◌}
+use Prim.Native.Nat.{ℕ, suc, ◌+◌, ◌-◌, ◌*◌, ◌<◌, ◌≤◌}
 use native.Mathlib.Omega.{arith}
-use native.Mathlib.Nat.{not-suc-le-zero}
 use lib.ListN.{length, take, drop, length-drop, drop_of_length-le}
-use lib.Seq.{take_all, drop-drop, length-sets}
+use lib.Seq.{drop-drop, length-sets}
 use Rattle.records.specs.Frame.{frame_of}
 use Rattle.records.specs.Record.{read_of}
 use Rattle.records.specs.declared.Read.{Read}
@@ -16,13 +15,11 @@ use Rattle.turn.specs.declared.Entry.{Entry}
 use Rattle.turn.specs.Turn.{none, Turn, turned, turn_of}
 use Rattle.turn.specs.Entries.{runs, entries}
 use Rattle.turn.specs.CountedLaws.{Framed, framed}
+use Rattle.turn.proofs.Runs.{rest_is, runs-cons, runs-nil}
 use Rattle.play_line.specs.Line.{line_of}
 use Rattle.play_line.specs.Put.{Puts}
 use Rattle.play_line.proofs.Putting.{and_then, as_text, put_none}
 use Rattle.play.specs.Text.{lines_from, most_input, most_text}
-
-rest_is : (s : List ℕ) (place : ℕ) → take (length s - place) (drop place s) ≡ drop place s
-rest_is s place = take_all (length s - place) (drop place s) (simp length-drop (omega arith))
 
 -- ── a turn that is not the last goes past its frame, which has a header and stays within the bytes ──
 pub record Next (r : List ℕ) (next : ℕ) : Type 0 where
@@ -38,16 +35,6 @@ turned-next o c r Cut f l = let z : ◌≡◌ {A = ℕ} 0 1 = cc in absurd (omeg
 turn_next : (o : Bool) (c : Chip) (r : List ℕ) → (turn_of o c r).last ≡ false → Next r (turn_of o c r).next
 unfolding turn_of
 turn_next o c r l = turned-next o c r (read_of c.setup.part r) (framed c.setup.part r) l
-
--- a turn of a run, where bytes are left
-runs-cons : (f : ℕ) (o : Bool) (c : Chip) (l : List ℕ) → 0 < length l
-    → runs (suc f) o c l ≡ (turn_of o c l).entry ∷ cond (turn_of o c l).last [] (runs f (turn_of o c l).fresh (turn_of o c l).chip (drop (turn_of o c l).next l))
-runs-cons f o c [] h = absurd (not-suc-le-zero h)
-runs-cons f o c (b ∷ l) h = refl
-
-runs-nil : (f : ℕ) (o : Bool) (c : Chip) → runs f o c [] ≡ []
-runs-nil zero o c = refl
-runs-nil (suc f) o c = refl
 
 -- ── what stands at the loop's head ──
 pub record Walking (s old out : List ℕ) (o : Bool) (c : Chip) (place at i : ℕ) : Type 0 where
