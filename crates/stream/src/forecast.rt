@@ -1,22 +1,23 @@
 // Forecasting's call: a stream's reading in doubles.
 ghost use Rattle.std.specs.Prelude.{◌≡◌};
-ghost use Rattle.constants.specs.Answer.{number_said};
-ghost use Rattle.chip_voltage.specs.Voltage.{said_forecast};
-ghost use Rattle.stream.specs.Forecast.{Read4};
+ghost use Rattle.stream.specs.Forecast.{Put, Read4};
 
-use chip_voltage::ForecastAnswer;
+use chip::Chip;
+use constants::refusal::Refusal;
 use constants::{number, size};
 use stream_run::last_chip;
 
-// The number of a reading, 0 where it is given.
-fn refusal_of(answer: ForecastAnswer) -> u8
-    ensures { result ≡ number_said (said_forecast answer) }
+// A chip's reading put, where it fits: least, greatest and total cell µV and CC in hundredths of a µV. Nothing is written where it refuses: asleep, then no cell
+// connected, then no room.
+pub fn put_reading(chip: Chip, out: &mut [f64]) -> Result<(), Refusal>
+    ensures { Put chip out.old result out.new }
 {
-    match answer {
-        ForecastAnswer::Is(_) => number::DONE,
-        ForecastAnswer::Asleep => number::ASLEEP,
-        ForecastAnswer::NotConnected => number::NOT_CONNECTED,
+    let given = chip_voltage::forecast(chip)?;
+    if out.len() < size::READING {
+        return Err(Refusal::NoRoom);
     }
+    out[..size::READING].copy_from_slice(&[given.least, given.greatest, given.total, given.cc]);
+    Ok(())
 }
 
 // Plays a whole stream and gives least, greatest and total cell µV and CC in hundredths of a µV of the chip that stands at its end.
@@ -29,16 +30,7 @@ pub extern "C" fn toralinge_reading(stream: &[u8], reading: &mut [f64]) -> u8
     if chip.setup.part == 0 {
         return records::first_number(stream);
     }
-    let answer = chip_voltage::forecast(chip);
-    let ForecastAnswer::Is(given) = answer else {
-        return refusal_of(answer);
-    };
-    if reading.len() < size::READING {
-        return number::NO_ROOM;
-    }
-    reading[0] = given.least;
-    reading[1] = given.greatest;
-    reading[2] = given.total;
-    reading[3] = given.cc;
-    0
+    put_reading(chip, reading)
+        .err()
+        .map_or(number::DONE, Refusal::number)
 }
