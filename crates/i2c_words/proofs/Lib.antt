@@ -1,4 +1,2 @@
-pub mod Tests
-pub mod Cases
 pub mod DigitsLaws
 pub mod ExactLaws

@@ -1,8 +1,15 @@
 -- What the code reads in a word, test by test; that this is the grammar's is shown in Exact. Assumes nothing.
-use Rattle.std.specs.Prelude.{ℕ, ◌+◌, ◌-◌, ◌*◌, List, cond, leb, ltb, eqb, length, get_or, drop}
+use Rattle.std.specs.Prelude.{ℕ, ◌+◌, ◌-◌, ◌*◌, List, cond, leb, ltb, eqb, length, get_or, drop, Option, Some, None}
 use Rattle.i2c_words.specs.Grammar.{char_w, char_r, char_at, char_x, char0}
 use Rattle.i2c_words.specs.declared.Word.{Word}
 use Rattle.i2c_words.specs.declared.Word.TheVariants.{Write, Read, Byte, Unknown}
+
+-- a number that is below another, and one that is not 0
+abbrev pub below : ℕ → ℕ → Option ℕ
+below most n = cond (ltb n most) (Some n) None
+
+abbrev pub counted : ℕ → Option ℕ
+counted n = cond (eqb n 0) None (Some n)
 
 -- 16 for what is no hex digit
 unfoldable pub hex_of : ℕ → ℕ
