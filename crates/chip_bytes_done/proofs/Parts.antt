@@ -32,8 +32,8 @@ padded-length zero xs = refl
 padded-length (suc k) [] = ap suc (padded-length k [])
 padded-length (suc k) (x ∷ xs) = ap suc (padded-length k xs)
 
-abbrev swept_as : Settings → Looked → Judged → Shown → Swept
-swept_as s l j shown = record { kept = s.adc_en; cells = l.cells; sum = l.sum; runs = j.runs; shown = shown }
+abbrev swept_as : Looked → Judged → Shown → Swept
+swept_as l j shown = record { cells = l.cells; sum = l.sum; runs = j.runs; shown = shown }
 
 -- what was read, looked at and judged
 pub looked_is : (u : Setup) (s : Settings) (counts : List ℕ) {over under n : ℕ} {l : Looked} → over ≡ (rule Ov s).limit → under ≡ (rule Uv s).limit → n ≡ inputs u
@@ -44,7 +44,7 @@ looked_is u s counts {over} {under} {n} ho hd hn hl =
 
 pub sweep_is : (b counts : List ℕ) {u : Setup} {s : Settings} {l : Looked} {r : Runs} {j : Judged} {was shown : Shown} → u ≡ setup_at b → s ≡ settings_at b
     → l ≡ looked_at (rule Ov s).limit u.floor (rule Uv s).limit (take (inputs u) counts) → r ≡ runs_at b → j ≡ scan_judged s l.over l.under r
-    → was ≡ shown_at b → shown ≡ raised (among j.risen) was → SweptBy (chip_at b) counts (swept_as s l j shown)
+    → was ≡ shown_at b → shown ≡ raised (among j.risen) was → SweptBy (chip_at b) counts (swept_as l j shown)
 unfolding chip_at scan_judged looked_at
 sweep_is b counts {u} {s} {l} {r} {j} {was} {shown} hu hs hl hr hj hw hh =
     let looked : l ≡ looked_at (rule Ov (settings_at b)).limit (setup_at b).floor (rule Uv (settings_at b)).limit (take (inputs (setup_at b)) counts) =
@@ -57,19 +57,7 @@ sweep_is b counts {u} {s} {l} {r} {j} {was} {shown} hu hs hl hr hj hw hh =
           scan_done (chip_at b) (take (inputs (setup_at b)) counts) l j (scan_kept l.cells l.sum (registers_at b)) looked judged refl
           (ap (λ (s : Shown). with_runs j.runs (with_registers (with_shown s (scan_kept l.cells l.sum (registers_at b))) (chip_at b)))
           (hh ∙ ap (raised (among j.risen)) hw));
-      kept = ap (λ (s : Settings). s.adc_en) hs;
       scd = ap (λ (j : Judged). j.runs.scd) judged;
       ocd = ap (λ (j : Judged). j.runs.ocd) judged;
       sized = ap (λ (l : Looked). length l.cells) hl ∙ padded-length 15 (take (inputs u) counts);
     }
-
--- what is put after what was put
-pub measured_put : (t : Bool) (cells : List ℕ) (sum : ℕ) (old : List ℕ) {x : ℕ} {o new : List ℕ} → t ≡ true → x ≡ bat_of sum
-    → o ≡ sets old 56 (word_bytes (x ∷ [])) → new ≡ sets o 66 (word_bytes cells) → new ≡ measured_in t cells sum old
-measured_put t cells sum old h hx ho hn =
-    hn ∙ ap (λ (o : List ℕ). sets o 66 (word_bytes cells)) (ho ∙ ap (λ (x : ℕ). sets old 56 (word_bytes (x ∷ []))) hx)
-    ∙ ap (λ (t : Bool). cond t (sets (sets old 56 (word_bytes (bat_of sum ∷ []))) 66 (word_bytes cells)) old) (sym h)
-
-pub swept_put : (w : Swept) (old : List ℕ) {o₁ o₂ new : List ℕ} → o₁ ≡ sets old 48 (word_bytes (w.runs.ov ∷ w.runs.uv ∷ []))
-    → o₂ ≡ measured_in w.kept w.cells w.sum o₁ → new ≡ shown_in w.shown o₂ → new ≡ swept_in w old
-swept_put w old e₁ e₂ e₃ = e₃ ∙ ap (shown_in w.shown) (e₂ ∙ ap (measured_in w.kept w.cells w.sum) e₁)

@@ -1,5 +1,5 @@
 -- What the events that are seldom met write into the bytes of a chip. Assumes nothing.
-use Rattle.std.specs.Prelude.{◌≡◌, Bool, true, false, cond, List, [], ◌∷◌, ◌++◌, ℕ, ◌+◌, ◌*◌, set}
+use Rattle.std.specs.Prelude.{◌≡◌, Bool, true, false, cond, List, [], ◌∷◌, ◌++◌, ℕ, ◌+◌, ◌*◌, Option, Some, None, set}
 use Rattle.std.proofs.lemmas.List.Edits.{sets}
 use Rattle.events.specs.declared.Setup.{Setup}
 use Rattle.events.specs.declared.Event.{Event as Coded}
@@ -7,12 +7,12 @@ use Rattle.events.specs.Event.{Event, means, event_of}
 use Rattle.bits.specs.Numbers.{word_bytes}
 use Rattle.registers.specs.declared.Shown.{Shown}
 use Rattle.chip.specs.declared.Chip.{Chip}
+use Rattle.chip.specs.Answer.{flag_of, byte_of}
 use Rattle.chip.specs.Chip.{numbered, normally}
 use Rattle.chip.specs.Calm.{Calmed}
 use Rattle.chip_bytes_layout.specs.Place.{CELLBAL1, CC_READY, XREADY, OVRD_ALERT, CC_ONESHOT, DSG_ON, WORDS, CC, TS1}
 use Rattle.chip_bytes_layout.specs.Layout.{chip_bytes, good_of}
-use Rattle.chip_bytes_layout.specs.declared.Done.{Done}
-use Rattle.chip_bytes_layout.specs.declared.Done.TheVariants.{Shows, Not}
+use Rattle.chip_bytes_layout.specs.declared.Outcome.{Outcome}
 use Rattle.chip_bytes_layout.specs.Did.{chip_here, Did}
 
 -- ── OVRD_ALERT and XREADY, which put off both drives, and COUNT ──
@@ -51,6 +51,6 @@ pub record Seldom (b : List ℕ) (e : Coded) (flag : Bool) (byte : ℕ) (shown :
   pub meant : (u : Setup) (xs : List ℕ) → event_of u e xs ≡ means event
   pub did : Did b event flag byte shown new
 
-abbrev pub SeldomBy : List ℕ → Coded → Done → List ℕ → Type 0
-SeldomBy b e (Shows flag byte shown) new = good_of b ≡ true → Seldom b e flag byte shown new
-SeldomBy b e Not new = new ≡ b
+abbrev pub SeldomBy : List ℕ → Coded → Option Outcome → List ℕ → Type 0
+SeldomBy b e (Some r) new = good_of b ≡ true → Seldom b e (flag_of r.byte) (byte_of r.byte) r.shown new
+SeldomBy b e None new = new ≡ b

@@ -1,5 +1,5 @@
 -- Each event moves its registers, in the bytes as in the chip. Assumes nothing.
-use Rattle.std.specs.Prelude.{◌≡◌, Bool, not, ◌&&◌, ◌||◌, ℕ, length, take, drop}
+use Rattle.std.specs.Prelude.{◌≡◌, Bool, not, ◌&&◌, ◌||◌, ℕ, ◌≤◌, Option, Some, None, length, take, drop}
 use Rattle.std.proofs.Math.Path.{refl, sym, ap}
 use Rattle.std.proofs.Common.{◌∙◌, subst, true≢false, arith}
 use Rattle.std.proofs.Math.Bool.{true, false, cond}
@@ -30,8 +30,10 @@ use Rattle.chip_bytes_layout.specs.Layout.{listed, plain_of, switches_of, words_
 use Rattle.chip_bytes_layout.specs.Layout.{switch_at, setup_at, status_at, shown_at, chip_at, good_of, chip_of}
 use Rattle.chip_bytes_layout.specs.ListedLaws.{listed_all}
 use Rattle.chip_bytes_layout.specs.Did.{Awake, chip_here, Did}
-use Rattle.chip_bytes_layout.proofs.DidLaws.{calm, bytes_are, chip_is, did, shown_back}
-use Rattle.chip_bytes_done.specs.Seldom.{overridden_in, readied_in, counting_in, warmed_in, Moved, Seldom}
+use Rattle.chip_bytes_layout.proofs.DidLaws.{calm, bytes_are, chip_is, did, shown_back, did_of, good_first, same_first}
+use Rattle.chip_bytes_layout.specs.declared.Outcome.{Outcome}
+use Rattle.chip.specs.Answer.{flag_of, byte_of}
+use Rattle.chip_bytes_done.specs.Seldom.{overridden_in, readied_in, counting_in, warmed_in, Moved, Seldom, SeldomBy}
 
 -- ── over the bytes of any chip ──
 module _ (c : Chip) (f : Bool) (rest : List ℕ) where
@@ -163,6 +165,15 @@ module _ (b : List ℕ) {new : List ℕ} where
         bytes = λ f rest e. m ∙ ap (λ (x : List ℕ). set x 40 (bit_of l)) e ∙ level_moved (chip_here b) f rest l;
       }
 
+-- the level, by what it asks for alone
+raises_not : (l a : Bool) → (l ≡ true → a ≡ true) → (l && not a) ≡ false
+raises_not true a h = ap not (h refl)
+raises_not false a h = refl
+
+pub level_by : (b : List ℕ) {new : List ℕ} (l : Bool) → (l ≡ true → alert (status_at (take 96 b)) ≡ true) → new ≡ set b 40 (bit_of l)
+    → Moved (Level l) b new
+level_by b l h m = level_moves b l refl refl (raises_not l (alert (status_at (take 96 b))) h) m
+
 -- ── TEMP ──
 three_long : (xs : List ℕ) → length (padded 3 xs) ≡ 3
 three_long xs = ap length (three_are xs)
@@ -217,3 +228,16 @@ warms_did b mid counts {shown = shown} {new = new} w hu hn ht hm m s g =
     (hm ∙ ap (λ (l : List ℕ). warmed_in (eqb (get_or b 24 0) 1) l b) ts ∙ ap (λ (t : Bool). warmed_in t (padded 3 xs) b) up
     ∙ ap (warmed_in (switch_at (take 96 b) 24) (padded 3 xs)) (sym (bytes_are b w g))
     ∙ warmed_moved (chip_here b) fresh (drop 96 b) xs (switch_at (take 96 b) 24)))
+
+-- of a buffer, by its first 96 bytes
+pub seldom_first : (b : List ℕ) (x : List ℕ) (room : 96 ≤ length b) (first : x ≡ take 96 b) (e : Coded) (r : Option Outcome) (new : List ℕ)
+    → SeldomBy x e r new → SeldomBy b e r (new ++ drop 96 b)
+seldom_first b x room first e (Some r) new h =
+    λ g.
+    let s : Seldom x e (flag_of r.byte) (byte_of r.byte) r.shown new = h (good_first b room first ∙ g) in
+    record {
+      event = s.event;
+      meant = s.meant;
+      did = did_of b room first s.event (flag_of r.byte) (byte_of r.byte) r.shown new s.did;
+    }
+seldom_first b x room first e None new h = ap (λ (l : List ℕ). l ++ drop 96 b) h ∙ same_first b room first

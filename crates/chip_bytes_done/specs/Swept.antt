@@ -1,16 +1,16 @@
 -- What a scan writes into the bytes of a chip. Assumes nothing.
-use Rattle.std.specs.Prelude.{◌≡◌, Bool, cond, List, [], ◌∷◌, ◌++◌, ℕ, length, take, set}
+use Rattle.std.specs.Prelude.{◌≡◌, Bool, cond, List, [], ◌∷◌, ℕ, length, take, set}
 use Rattle.std.proofs.lemmas.List.Edits.{sets}
 use Rattle.events.specs.Setup.{inputs}
 use Rattle.events.specs.Event.{Scan}
-use Rattle.bits.specs.Numbers.{bit_of, word_bytes}
+use Rattle.bits.specs.Numbers.{word_bytes}
 use Rattle.registers.specs.declared.Shown.{Shown}
 use Rattle.registers.specs.State.{with_shown}
 use Rattle.registers.specs.Judging.{bat_of, scan_kept}
 use Rattle.chip.specs.declared.Chip.{Chip}
 use Rattle.chip.specs.Chip.{with_registers, with_runs, normally}
-use Rattle.chip_bytes_layout.specs.Place.{FRESH, CC_READY, OV_LOW, BAT_LOW, VC1_LOW}
-use Rattle.chip_bytes_layout.specs.Layout.{status_switches}
+use Rattle.chip_bytes_layout.specs.Place.{FRESH, ADC_EN, OV_LOW, BAT_LOW, VC1_LOW}
+use Rattle.chip_bytes_layout.specs.Layout.{shown_put, switch_at}
 use Rattle.chip_bytes_done.specs.declared.scan.Swept.{Swept}
 
 -- what is measured, where it is kept
@@ -19,12 +19,11 @@ measured_in kept cells sum b = cond kept (sets (sets b BAT_LOW (word_bytes (bat_
 
 -- what is shown, and no wiring record any more
 abbrev pub shown_in : Shown → List ℕ → List ℕ
-shown_in s b =
-    sets (set b FRESH 0) CC_READY
-    (status_switches s.status ++ (bit_of s.cc_oneshot ∷ bit_of s.dsg_on ∷ bit_of s.chg_on ∷ []))
+shown_in s b = shown_put s (set b FRESH 0)
 
 abbrev pub swept_in : Swept → List ℕ → List ℕ
-swept_in w b = shown_in w.shown (measured_in w.kept w.cells w.sum (sets b OV_LOW (word_bytes (w.runs.ov ∷ w.runs.uv ∷ []))))
+swept_in w b =
+    shown_in w.shown (measured_in (switch_at b ADC_EN) w.cells w.sum (sets b OV_LOW (word_bytes (w.runs.ov ∷ w.runs.uv ∷ []))))
 
 -- what it leaves of the chip
 abbrev pub swept_chip : Swept → Chip → Chip
@@ -32,7 +31,6 @@ swept_chip w c = with_runs w.runs (with_registers (with_shown w.shown (scan_kept
 
 pub record SweptBy (c : Chip) (counts : List ℕ) (w : Swept) : Type 0 where
   pub leaves : swept_chip w c ≡ (normally (Scan (take (inputs c.setup) counts)) c).chip
-  pub kept : w.kept ≡ c.registers.settings.adc_en
   pub scd : w.runs.scd ≡ c.runs.scd
   pub ocd : w.runs.ocd ≡ c.runs.ocd
   pub sized : length w.cells ≡ 15

@@ -5,6 +5,7 @@ use Rattle.std.proofs.lemmas.List.Edits.{sets}
 use Rattle.events.specs.Setup.{inputs}
 use Rattle.events.specs.Event.{Scan}
 use Rattle.bits.specs.Numbers.{word_bytes}
+use Rattle.bits.specs.BytesLaws.{bit_same}
 use Rattle.registers.specs.LevelLaws.{raised_calm}
 use Rattle.registers.specs.Judging.{bat_of, cells_kept, scan_kept, scanned}
 use Rattle.protection.specs.Runs.{risen}
@@ -14,7 +15,7 @@ use Rattle.protection.specs.Fault.{Runs}
 use Rattle.chip.specs.declared.Chip.{Chip}
 use Rattle.chip.specs.Chip.{numbered, with_registers, with_runs}
 use Rattle.chip.specs.Calm.{Calmed}
-use Rattle.chip_bytes_layout.specs.Place.{FRESH, OV_LOW}
+use Rattle.chip_bytes_layout.specs.Place.{FRESH, ADC_EN, OV_LOW}
 use Rattle.chip_bytes_layout.specs.Layout.{plain_of, switches_of, words_of, chip_bytes, listed, switch_at, good_of, chip_of}
 use Rattle.chip_bytes_layout.specs.ListedLaws.{listed_all}
 use Rattle.chip_bytes_layout.specs.Did.{Awake, chip_here, Did}
@@ -64,12 +65,17 @@ module _ (c : Chip) (f : Bool) (cells : List ℕ) (sum : ℕ) (rest : List ℕ) 
       → putting t cells ≡ keeping c.registers.settings.adc_en
   kept_moved t l e = ap (putting t) (sym (listed_all cells 15 l)) ∙ kept_by t ∙ ap keeping e
 
+adc_is : (c : Chip) (f : Bool) (rest : List ℕ) → switch_at (chip_bytes c f ++ rest) ADC_EN ≡ c.registers.settings.adc_en
+unfolding chip_bytes plain_of switches_of words_of
+adc_is c f rest = bit_same c.registers.settings.adc_en
+
 -- and all of them
 swept_moved : (c : Chip) (f : Bool) (w : Swept) (rest : List ℕ) {counts : List ℕ} → SweptBy c counts w
     → swept_in w (chip_bytes c f ++ rest) ≡ chip_bytes (swept_chip w c) false ++ rest
 swept_moved c f w rest s =
-    ap (λ (b : List ℕ). shown_in w.shown (measured_in w.kept w.cells w.sum b)) (runs_moved c f w.runs rest s.scd s.ocd)
-    ∙ ap (shown_in w.shown) (kept_moved (with_runs w.runs c) f w.cells w.sum rest w.kept s.sized s.kept)
+    let kept : Bool = switch_at (chip_bytes c f ++ rest) ADC_EN in
+    ap (λ (b : List ℕ). shown_in w.shown (measured_in kept w.cells w.sum b)) (runs_moved c f w.runs rest s.scd s.ocd)
+    ∙ ap (shown_in w.shown) (kept_moved (with_runs w.runs c) f w.cells w.sum rest kept s.sized (adc_is c f rest))
     ∙ shown_moved (with_registers (scan_kept w.cells w.sum c.registers) (with_runs w.runs c)) f w.shown rest
 
 -- by what was read of them

@@ -153,17 +153,19 @@ module _ (b : List ℕ) (room : 96 ≤ length b) where
       ∙ ap (λ (l : List ℕ). l ++ drop 96 b) (append-nil (kept_bytes c false))
       ∙ ap (λ (t : Bool). cond t b (kept_bytes c false ++ drop 96 b)) (sym buffer_wide)
 
-  came_by : (step : Chip → Stepped) (r : Option Outcome) (new : List ℕ) → CameBy (take 96 b) (step (chip_of (take 96 b))) r new
-      → CameBy b (step (chip_of b)) r (new ++ drop 96 b)
-  came_by step (Some r) new h =
-      λ g.
-      let k : Came (take 96 b) (step (chip_of (take 96 b))) (flag_of r.byte) (byte_of r.byte) r.shown new = h (first_good ∙ g) in
+  came_of : (step : Chip → Stepped) (flag : Bool) (byte : ℕ) (shown : Shown) (new : List ℕ)
+      → Came (take 96 b) (step (chip_of (take 96 b))) flag byte shown new → Came b (step (chip_of b)) flag byte shown (new ++ drop 96 b)
+  came_of step flag byte shown new k =
       record {
         left = k.left;
         happens = k.happens ∙ ap step first_chip;
         shows = k.shows;
         leaves = ap (λ (l : List ℕ). l ++ drop 96 b) k.leaves ∙ first_kept k.left;
       }
+
+  came_by : (step : Chip → Stepped) (r : Option Outcome) (new : List ℕ) → CameBy (take 96 b) (step (chip_of (take 96 b))) r new
+      → CameBy b (step (chip_of b)) r (new ++ drop 96 b)
+  came_by step (Some r) new h = λ g. came_of step (flag_of r.byte) (byte_of r.byte) r.shown new (h (first_good ∙ g))
   came_by step None new h = ap (λ (l : List ℕ). l ++ drop 96 b) h ∙ take-append-drop 96 b
 
   module _ {x : List ℕ} (first : x ≡ take 96 b) where
@@ -173,9 +175,17 @@ module _ (b : List ℕ) (room : 96 ≤ length b) where
     pub same_first : x ++ drop 96 b ≡ b
     same_first = ap (λ (l : List ℕ). l ++ drop 96 b) first ∙ take-append-drop 96 b
 
+    pub good_first : good_of x ≡ good_of b
+    good_first = ap good_of first ∙ first_good
+
     pub came_first : (step : Chip → Stepped) (r : Option Outcome) (new : List ℕ) → CameBy x (step (chip_of x)) r new
         → CameBy b (step (chip_of b)) r (new ++ drop 96 b)
     came_first step r new h = came_by step r new (subst (λ (x : List ℕ). CameBy x (step (chip_of x)) r new) first h)
 
     pub did_first : (e : Event) (r : Option Outcome) (new : List ℕ) → DidBy x e r new → DidBy b e r (new ++ drop 96 b)
     did_first e r new h = came_first (happened e) r new h
+
+    pub did_of : (e : Event) (flag : Bool) (byte : ℕ) (shown : Shown) (new : List ℕ) → Did x e flag byte shown new
+        → Did b e flag byte shown (new ++ drop 96 b)
+    did_of e flag byte shown new h =
+        came_of (happened e) flag byte shown new (subst (λ (x : List ℕ). Did x e flag byte shown new) first h)

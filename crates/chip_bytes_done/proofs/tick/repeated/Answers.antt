@@ -1,18 +1,23 @@
--- Test by test; what is lent to a callee is the first 96 bytes.
-use Rattle.std.proofs.Common.{ap, not, of_z, rules, to_z, w32, ℤ, ◌∙◌, ◌≡◌}
+-- In NORMAL, over the first 96 bytes.
+use Rattle.std.proofs.Common.{None, Some, ap, length, not, of_z, rules, to_z, w32, ℤ, ◌∙◌, ◌≡◌}
+use Rattle.chip.specs.declared.Chip.{Chip}
+use Rattle.chip.specs.Chip.{ticked}
 use Rattle.protection.specs.Repeat.{ticks_judged}
-use Rattle.chip_bytes_layout.specs.Did.{Awake}
-use Rattle.chip_bytes_layout.proofs.Bytes.{awake}
+use Rattle.chip_bytes_layout.specs.Layout.{runs_at, settings_at}
+use Rattle.chip_bytes_layout.proofs.Bytes.{awake, of_first}
+use Rattle.chip_bytes_layout.proofs.DidLaws.{came_first, same_first, sized_first}
 use Rattle.chip_bytes_done.specs.TickLaws.{repeats_came}
 use Rattle.chip_bytes_done.proofs.tick.repeated.Goals as goal
-use Rattle.chip_bytes_done.proofs.tick.repeated.Goals.{Else-not-awake}
 
--- in NORMAL
-module _ (i : Else-not-awake) where
-  stands : Awake i.args.bytes.now
-  stands = awake i.args.bytes.now i.awake.result i.awake.ensures (ap not i.if-not-awake.false)
+pub returns-then-not-awake : goal.returns-then-not-awake
+returns-then-not-awake c = let f = c.in_ok-b.ensures.cases in same_first c.args.bytes.now f.enough f.same
 
 pub returns : goal.returns
-returns c = let y : to_z w32 (of_z w32 c.args.value) ≡ c.args.value = search rules in
-    repeats_came c.args.bytes.now c.args.value c.args.repeat (stands (goal.at.returns c).Else-not-awake) c.runs_at-runs.ensures c.settings_at.ensures
-    (c.ticked-judged.ensures ∙ ap (λ (z : ℤ). ticks_judged c.args.repeat c.settings_at.result z c.runs_at-runs.result) y) c.put_judged-shown.ensures
+returns c = let f = c.in_ok-b.ensures.cases in
+    let l : length c.in_ok-b.b.now ≡ 96 = sized_first c.args.bytes.now f.enough f.same in
+    let y : to_z w32 (of_z w32 c.args.value) ≡ c.args.value = search rules in
+    came_first c.args.bytes.now f.enough f.same (λ (x : Chip). ticked c.args.repeat c.args.value x)
+    (Some (record { byte = None; shown = c.put_judged.result })) c.put_judged.new.out
+    (repeats_came c.in_ok-b.b.now c.args.value c.args.repeat (awake l c.awake.ensures (ap not c.if-not-awake.false)) (of_first runs_at l c.runs_at.ensures)
+    (of_first settings_at l c.settings_at.ensures) (c.ticked-judged.ensures ∙ ap (λ (z : ℤ). ticks_judged c.args.repeat c.settings_at.result z c.runs_at.result) y)
+    c.put_judged.ensures)

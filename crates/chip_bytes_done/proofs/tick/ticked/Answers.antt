@@ -1,24 +1,29 @@
--- Test by test; what is lent to a callee is the first 96 bytes.
-use Rattle.std.proofs.Common.{ap, not, of_z, rules, to_z, w32, ℤ, ◌∙◌, ◌≡◌}
+-- Test by test, over the first 96 bytes.
+use Rattle.std.proofs.Common.{None, Some, ap, length, not, of_z, rules, to_z, w32, ℤ, ◌∙◌, ◌≡◌}
+use Rattle.events.specs.Event.{Sense}
 use Rattle.protection.specs.Judged.{tick_judged}
-use Rattle.chip_bytes_layout.specs.Did.{Awake}
-use Rattle.chip_bytes_layout.proofs.Bytes.{awake}
+use Rattle.chip_bytes_layout.specs.Layout.{runs_at, settings_at, shown_at}
+use Rattle.chip_bytes_layout.proofs.Bytes.{awake, of_first}
+use Rattle.chip_bytes_layout.proofs.DidLaws.{did_first, same_first, sized_first}
 use Rattle.chip_bytes_done.specs.TickLaws.{ticks_did, rises_did}
 use Rattle.chip_bytes_done.proofs.tick.ticked.Goals as goal
-use Rattle.chip_bytes_done.proofs.tick.ticked.Goals.{Else-not-awake}
 
--- in NORMAL
-module _ (i : Else-not-awake) where
-  stands : Awake i.args.bytes.now
-  stands = awake i.args.bytes.now i.awake.result i.awake.ensures (ap not i.if-not-awake.false)
+pub returns-then-not-awake : goal.returns-then-not-awake
+returns-then-not-awake c = let f = c.in_ok-b.ensures.cases in same_first c.args.bytes.now f.enough f.same
 
-pub returns-then-risen : goal.returns-then-risen
-returns-then-risen c = let y : to_z w32 (of_z w32 c.args.value) ≡ c.args.value = search rules in
-    rises_did c.args.bytes.now c.args.value (stands (goal.at.returns-then-risen c).Else-not-awake) c.runs_at-runs.ensures c.settings_at.ensures
-    (c.sensed-judged.ensures ∙ ap (λ (z : ℤ). tick_judged c.settings_at.result z c.runs_at-runs.result) y) c.put_judged-shown.ensures
+pub returns-then-judged : goal.returns-then-judged
+returns-then-judged c = let f = c.in_ok-b.ensures.cases in
+    let l : length c.in_ok-b.b.now ≡ 96 = sized_first c.args.bytes.now f.enough f.same in
+    let y : to_z w32 (of_z w32 c.args.value) ≡ c.args.value = search rules in
+    did_first c.args.bytes.now f.enough f.same (Sense c.args.value) (Some (record { byte = None; shown = c.put_judged.result })) c.put_judged.new.out
+    (rises_did c.in_ok-b.b.now c.args.value (awake l c.awake.ensures (ap not c.if-not-awake.false)) (of_first runs_at l c.runs_at.ensures)
+    (of_first settings_at l c.settings_at.ensures) (c.sensed-judged.ensures ∙ ap (λ (z : ℤ). tick_judged c.settings_at.result z c.runs_at.result) y) c.put_judged.ensures)
 
 pub returns : goal.returns
-returns c = let y : to_z w32 (of_z w32 c.args.value) ≡ c.args.value = search rules in
-    ticks_did c.args.bytes.now c.args.value (stands (goal.at.returns c).Else-not-awake) c.runs_at-runs.ensures c.settings_at.ensures
-    (c.sensed-judged.ensures ∙ ap (λ (z : ℤ). tick_judged c.settings_at.result z c.runs_at-runs.result) y) c.if-risen.false
-    c.shown_at-shown.ensures c.put_runs.ensures
+returns c = let f = c.in_ok-b.ensures.cases in
+    let l : length c.in_ok-b.b.now ≡ 96 = sized_first c.args.bytes.now f.enough f.same in
+    let y : to_z w32 (of_z w32 c.args.value) ≡ c.args.value = search rules in
+    did_first c.args.bytes.now f.enough f.same (Sense c.args.value) (Some (record { byte = None; shown = c.shown_at-shown.result })) c.put_runs.new.out
+    (ticks_did c.in_ok-b.b.now c.args.value (awake l c.awake.ensures (ap not c.if-not-awake.false)) (of_first runs_at l c.runs_at.ensures)
+    (of_first settings_at l c.settings_at.ensures) (c.sensed-judged.ensures ∙ ap (λ (z : ℤ). tick_judged c.settings_at.result z c.runs_at.result) y)
+    (simp (c.if-judged.false, c.if-judged-2.false)) (of_first shown_at l c.shown_at-shown.ensures) c.put_runs.ensures)
