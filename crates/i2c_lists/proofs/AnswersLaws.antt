@@ -1,5 +1,5 @@
 -- What the call owes, said over the grammar: which lines have which number, and that what is written reads back. Assumes nothing.
-use Rattle.std.specs.Prelude.{◌≡◌, refl, ◌⊎◌, ℕ, ◌+◌, ◌<◌, ◌≤◌, List, [], ◌∷◌, ◌++◌, Bool, true, false, cond, ◌&&◌, leb, ℤ, pos, negsuc}
+use Rattle.std.specs.Prelude.{◌≡◌, refl, ◌⊎◌, ℕ, ◌<◌, ◌≤◌, List, [], ◌∷◌, ◌++◌, Bool, true, false, cond, ◌&&◌, leb, ℤ, pos, negsuc}
 use Rattle.std.specs.Prelude.{neg_ℤ, length, drop}
 use Rattle.std.proofs.Common.{ap, sym, ◌∙◌, subst, inl, inr, append_assoc, arith, le-leb, leb-true, leb-false}
 use Rattle.std.proofs.Math.Bool.{and-false}

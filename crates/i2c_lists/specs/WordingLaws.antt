@@ -1,6 +1,6 @@
 -- The events of a list by its words, and which addresses and how many bytes these make. The laws stand in proofs/WordingLaws. Assumes
 -- nothing.
-use Rattle.std.specs.Prelude.{◌+◌, List, [], ◌∷◌, ◌++◌, Bool, true}
+use Rattle.std.specs.Prelude.{List, [], ◌∷◌, ◌++◌, Bool, true}
 use Rattle.events.specs.declared.BusEvent.{BusEvent}
 use Rattle.events.specs.declared.BusEvent.TheVariants.{Start, Out}
 use Rattle.i2c_words.specs.declared.Word.{Word}

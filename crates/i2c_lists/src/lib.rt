@@ -32,51 +32,38 @@ struct Judged {
 fn away(address: u8) -> bool
     ensures { result ≡ not (near address) }
 {
-    !((range::ADDRESS_LEAST <= address) & (address <= range::ADDRESS_MOST))
-}
-
-// What is left of room, or 0.
-fn less(left: usize, size: usize) -> usize
-    ensures { result ≡ left - size }
-{
-    if left < size {
-        return 0;
-    }
-    left - size
+    !(range::ADDRESS_LEAST..=range::ADDRESS_MOST).contains(&address)
 }
 
 // A message begins: no byte may be owed.
 fn begin(j: Judged, owed: u8, address: u8, size: usize) -> Judged
     ensures { result ≡ begun owed address size j }
 {
-    let far = j.far | away(address);
-    let left = less(j.left, size);
     Judged {
         owed,
-        wrong: j.wrong | (j.owed != 0),
-        far,
-        left,
+        wrong: j.wrong || j.owed != 0,
+        far: j.far || away(address),
+        left: j.left.saturating_sub(size),
     }
 }
 
 // A byte follows: one must be owed.
+#[tactic(auto, unfolding(crate::specs::Judging::followed))]
 fn follow(j: Judged) -> Judged
     ensures { result ≡ followed j }
 {
-    let left = less(j.left, BYTE);
+    let left = j.left.saturating_sub(BYTE);
     if j.owed == 0 {
         return Judged {
-            owed: 0,
             wrong: true,
-            far: j.far,
             left,
+            ..j
         };
     }
     Judged {
         owed: j.owed - 1,
-        wrong: j.wrong,
-        far: j.far,
         left,
+        ..j
     }
 }
 
@@ -86,22 +73,18 @@ fn judge_word(j: Judged, word: Word) -> Judged
 {
     match word {
         Word::Write(count, address) => begin(j, count, address, BEGINNING),
-        Word::Read(count, address) => begin(j, 0, address, BEGINNING + BYTE * (count as usize)),
+        Word::Read(count, address) => begin(j, 0, address, BEGINNING + BYTE * usize::from(count)),
         Word::Byte(_) => follow(j),
-        Word::Unknown => Judged {
-            owed: j.owed,
-            wrong: true,
-            far: j.far,
-            left: j.left,
-        },
+        Word::Unknown => Judged { wrong: true, ..j },
     }
 }
 
 // The number that all the words give. STOP has 4 bytes.
+#[tactic(auto, unfolding(crate::specs::Judging::number_in))]
 fn number(j: Judged) -> u8
     ensures { result ≡ number_in j }
 {
-    if j.wrong | (j.owed != 0) {
+    if j.wrong || j.owed != 0 {
         return number::NO_LIST;
     }
     if j.far {
