@@ -19,18 +19,17 @@ use Rattle.events.specs.Role.{role_of, by_role}
 use Rattle.events.specs.Setup.{groups, inputs, standing}
 use Rattle.events.specs.Event.{Event as Happening, Meant, means, unfit, event_of, Scan as Scanned, Temp as Warmed, Sense as Ticked}
 use Rattle.events.specs.Event.{OnBus as Signalled}
-use Rattle.records.specs.declared.Payload.{Payload}
-use Rattle.records.specs.declared.Payload.TheVariants.{Whole, Unfit}
+use Rattle.std.specs.Prelude.{Option, Some, None, Ok, Err}
 use Rattle.records.specs.declared.Read.TheVariants.{Record}
 use Rattle.records.specs.FramingLaws.{framed_reads}
 use Rattle.records.specs.ReadingLaws.{Placed, placed}
-use Rattle.records.specs.declared.Framed.TheVariants.{Header}
-use Rattle.records.specs.Frame.{header_of}
+use Rattle.records.specs.declared.Header.{Header}
+use Rattle.records.specs.Frame.{framed, header_of}
 use Rattle.records.specs.SoundLaws.{first_setup, no_setup}
-use Rattle.records.specs.Record.{payload_of, as_read, read_of, counts_in, counts_beside}
+use Rattle.records.specs.Record.{Payload, payload_of, as_read, read_of, counts_in, counts_beside}
 use Rattle.registers.specs.declared.Shown.{Shown}
 use Rattle.chip.specs.declared.Chip.{Chip}
-use Rattle.chip.specs.Answer.{Stepped}
+use Rattle.chip.specs.Answer.{Stepped, flag_of, byte_of}
 use Rattle.chip.specs.Chip.{happened, ticked, happened_as, happened_by}
 use Rattle.chip.specs.Calm.{Calmed}
 use Rattle.turn.specs.declared.Entry.{Entry}
@@ -40,13 +39,12 @@ use Rattle.stream_run.proofs.Steps.{other_is, done_turn}
 use Rattle.chip_bytes_layout.specs.Kept.{Kept}
 use Rattle.chip_bytes_layout.specs.Layout.{keeps, kept_of, good_of, chip_of, fresh_of, kept_in}
 use Rattle.chip_bytes_layout.proofs.GoodLaws.{good_keeps}
-use Rattle.chip_bytes_layout.specs.declared.Done.{Done}
-use Rattle.chip_bytes_layout.specs.declared.Done.TheVariants.{Shows, Not}
+use Rattle.chip_bytes_layout.specs.declared.Outcome.{Outcome}
 use Rattle.chip_bytes_layout.specs.Did.{says, CameBy, DidBy}
 use Rattle.chip_bytes_layout.proofs.DidLaws.{part_of}
 use Rattle.chip_bytes_done.specs.Seldom.{SeldomBy}
 use Rattle.feed.specs.Fed.{all_fit, answer_by, feeds_by, chip_after, entries_after, Fed}
-use Rattle.feed.specs.Alone.{done_bytes, One, OneBy, CountedBy, RecordBy, Signal, Alone, AloneBy}
+use Rattle.feed.specs.Alone.{done_bytes, outcome_bytes, One, OneBy, CountedBy, RecordBy, Signal, Alone, AloneBy}
 use Rattle.feed.proofs.Calls.{kept_calm, done_answer, done_feeds}
 
 -- what means an event of a chip that stands is neither SETUP nor a wiring record
@@ -58,39 +56,39 @@ meant_befalls = by_role (λ (e : Event). (x : Happening) → ((u : Setup) → ev
     unfit_not x h = let z : ◌≡◌ {A = ℕ} 0 1 = cc in absurd (omega arith)
 
 -- what was done in the bytes, with the payload that it was read from; a tick, ticks and the bus have no counts beside them
-module _ (b : List ℕ) (payload : Payload) (event : Event) (counts : Event → List ℕ) (w : payload ≡ Whole event) (new : List ℕ) where
-  one_of : (x : Event) (s : Stepped) (r : Done) → event ≡ x → role_of x ≡ Happens → s ≡ happened_by x (counts x) (chip_of b)
+module _ (b : List ℕ) (payload : Payload) (event : Event) (counts : Event → List ℕ) (w : payload ≡ Ok event) (new : List ℕ) where
+  one_of : (x : Event) (s : Stepped) (r : Option Outcome) → event ≡ x → role_of x ≡ Happens → s ≡ happened_by x (counts x) (chip_of b)
       → CameBy b s r new
       → OneBy b payload counts r new
-  one_of x s (Shows flag byte shown) e f q h =
+  one_of x s (Some r) e f q h =
       λ g. record {
         event = x;
         befalls = f;
-        is = w ∙ ap Whole e;
+        is = w ∙ ap Ok e;
         left = (h g).left;
         happens = (h g).happens ∙ q;
         shows = (h g).shows;
         leaves = (h g).leaves;
       }
-  one_of x s Not e f q h = h
+  one_of x s None e f q h = h
 
-  pub tick_one : (v : ℤ) (r : Done) → event ≡ Sense v → DidBy b (Ticked v) r new → OneBy b payload counts r new
+  pub tick_one : (v : ℤ) (r : Option Outcome) → event ≡ Sense v → DidBy b (Ticked v) r new → OneBy b payload counts r new
   tick_one v r e h = one_of (Sense v) (happened (Ticked v) (chip_of b)) r e refl refl h
 
-  pub bus_one : (s : BusEvent) (r : Done) → event ≡ OnBus s → DidBy b (Signalled s) r new → OneBy b payload counts r new
+  pub bus_one : (s : BusEvent) (r : Option Outcome) → event ≡ OnBus s → DidBy b (Signalled s) r new → OneBy b payload counts r new
   bus_one s r e h = one_of (OnBus s) (happened (Signalled s) (chip_of b)) r e refl refl h
 
-  pub ticks_one : (v : ℤ) (n : ℕ) (r : Done) → event ≡ Ticks v n → CameBy b (ticked n v (chip_of b)) r new → OneBy b payload counts r new
+  pub ticks_one : (v : ℤ) (n : ℕ) (r : Option Outcome) → event ≡ Ticks v n → CameBy b (ticked n v (chip_of b)) r new → OneBy b payload counts r new
   ticks_one v n r e h = one_of (Ticks v n) (ticked n v (chip_of b)) r e refl refl h
 
-  pub soak_one : (v : ℤ) (n : ℕ) (r : Done) → event ≡ Soak v n → CameBy b (ticked n v (chip_of b)) r new → OneBy b payload counts r new
+  pub soak_one : (v : ℤ) (n : ℕ) (r : Option Outcome) → event ≡ Soak v n → CameBy b (ticked n v (chip_of b)) r new → OneBy b payload counts r new
   soak_one v n r e h = one_of (Soak v n) (ticked n v (chip_of b)) r e refl refl h
 
 -- one that is seldom met, by what it means
-pub seldom_one : (b : List ℕ) (payload : Payload) (event : Event) (counts : Event → List ℕ) (new : List ℕ) (r : Done)
-    → payload ≡ Whole event
+pub seldom_one : (b : List ℕ) (payload : Payload) (event : Event) (counts : Event → List ℕ) (new : List ℕ) (r : Option Outcome)
+    → payload ≡ Ok event
     → SeldomBy b event r new → OneBy b payload counts r new
-seldom_one b payload event counts new (Shows flag byte shown) w h =
+seldom_one b payload event counts new (Some r) w h =
     λ g. record {
       event = event;
       befalls = meant_befalls event (h g).event (λ u. (h g).meant u []);
@@ -100,47 +98,47 @@ seldom_one b payload event counts new (Shows flag byte shown) w h =
       shows = (h g).did.shows;
       leaves = (h g).did.leaves;
     }
-seldom_one b payload event counts new Not w h = h
+seldom_one b payload event counts new None w h = h
 
-pub scan_one : (b : List ℕ) (payload : Payload) (event : Event) (p : List ℕ) (new xs : List ℕ) (r : Done) → payload ≡ Whole event
+pub scan_one : (b : List ℕ) (payload : Payload) (event : Event) (p : List ℕ) (new xs : List ℕ) (r : Option Outcome) → payload ≡ Ok event
     → event ≡ Scan
     → xs ≡ (counts_in Scan p).of → DidBy b (Scanned (take (inputs (chip_of b).setup) xs)) r new → CountedBy b payload p r new
-scan_one b payload event p new xs (Shows flag byte shown) w e c h =
+scan_one b payload event p new xs (Some r) w e c h =
     λ g. record {
       event = Scan;
       befalls = refl;
-      is = w ∙ ap Whole e;
+      is = w ∙ ap Ok e;
       left = (h g).left;
       happens = (h g).happens ∙ ap (λ (xs : List ℕ). happened (Scanned (take (inputs (chip_of b).setup) xs)) (chip_of b)) c;
       shows = (h g).shows;
       leaves = (h g).leaves;
     }
-scan_one b payload event p new xs Not w e c h = h
+scan_one b payload event p new xs None w e c h = h
 
-pub temp_one : (b : List ℕ) (payload : Payload) (event : Event) (p : List ℕ) (new xs : List ℕ) (r : Done) → payload ≡ Whole event
+pub temp_one : (b : List ℕ) (payload : Payload) (event : Event) (p : List ℕ) (new xs : List ℕ) (r : Option Outcome) → payload ≡ Ok event
     → event ≡ Temp
     → xs ≡ (counts_in Temp p).of → DidBy b (Warmed (take (groups (chip_of b).setup) xs)) r new → CountedBy b payload p r new
-temp_one b payload event p new xs (Shows flag byte shown) w e c h =
+temp_one b payload event p new xs (Some r) w e c h =
     λ g. record {
       event = Temp;
       befalls = refl;
-      is = w ∙ ap Whole e;
+      is = w ∙ ap Ok e;
       left = (h g).left;
       happens = (h g).happens ∙ ap (λ (xs : List ℕ). happened (Warmed (take (groups (chip_of b).setup) xs)) (chip_of b)) c;
       shows = (h g).shows;
       leaves = (h g).leaves;
     }
-temp_one b payload event p new xs Not w e c h = h
+temp_one b payload event p new xs None w e c h = h
 
 -- a payload of a kind
 pub signal_is : (kind part : ℕ) (p : List ℕ) {k : ℕ} (q : Payload) → kind ≡ k → q ≡ payload_of k part p → Signal kind part p q
-signal_is kind part p (Whole e) h m = ap (λ (k : ℕ). payload_of k part p) h ∙ sym m
-signal_is kind part p (Unfit n) h m = search rules
+signal_is kind part p (Ok e) h m = ap (λ (k : ℕ). payload_of k part p) h ∙ sym m
+signal_is kind part p (Err n) h m = search rules
 
-pub one_signal : (b : List ℕ) (kind part : ℕ) (p : List ℕ) (q : Payload) (counts : Event → List ℕ) (r : Done) (new : List ℕ)
+pub one_signal : (b : List ℕ) (kind part : ℕ) (p : List ℕ) (q : Payload) (counts : Event → List ℕ) (r : Option Outcome) (new : List ℕ)
     → Signal kind part p q
     → OneBy b q counts r new → OneBy b (payload_of kind part p) counts r new
-one_signal b kind part p q counts (Shows flag byte shown) new s h =
+one_signal b kind part p q counts (Some r) new s h =
     λ g. record {
       event = (h g).event;
       befalls = (h g).befalls;
@@ -150,10 +148,10 @@ one_signal b kind part p q counts (Shows flag byte shown) new s h =
       shows = (h g).shows;
       leaves = (h g).leaves;
     }
-one_signal b kind part p q counts Not new s h = h
+one_signal b kind part p q counts None new s h = h
 
 -- of another payload that is the same
-pub one_as : (b : List ℕ) {p q : Payload} (counts : Event → List ℕ) (r : Done) (new : List ℕ) → p ≡ q → OneBy b p counts r new
+pub one_as : (b : List ℕ) {p q : Payload} (counts : Event → List ℕ) (r : Option Outcome) (new : List ℕ) → p ≡ q → OneBy b p counts r new
     → OneBy b q counts r new
 one_as b counts r new e h = subst (λ (p : Payload). OneBy b p counts r new) e h
 
@@ -238,8 +236,14 @@ module _ (b s old : List ℕ) {chip new : List ℕ} (g : good_of b ≡ true) (t 
   abbrev k : Kept
   k = keeps (chip_of b) (fresh_of b)
 
+  abbrev flag : Bool
+  flag = flag_of t.outcome.byte
+
+  abbrev byte : ℕ
+  byte = byte_of t.outcome.byte
+
   abbrev one : One b (payload_of t.kind (get_or b 1 0) (take (length s - 4) (drop 4 s)))
-      (λ e. (counts_in e (take (length s - 4) (drop 4 s))).of) t.flag t.byte t.shown chip
+      (λ e. (counts_in e (take (length s - 4) (drop 4 s))).of) flag byte t.outcome.shown chip
   one = t.done g
 
   is : k ≡ kept_of b
@@ -247,11 +251,11 @@ module _ (b s old : List ℕ) {chip new : List ℕ} (g : good_of b ≡ true) (t 
 
   reads : read_of (chip_of b).setup.part s ≡ Record one.event (length s)
   reads =
-      ap (λ (p : ℕ). read_of p s) (part_of b t.room) ∙ framed_reads s t.kind (length s) t.header (get_or b 1 0)
+      ap (λ (p : ℕ). read_of p s) (part_of b t.room) ∙ framed_reads s (record { kind = t.kind; next = length s }) t.header (get_or b 1 0)
       ∙ ap (as_read (length s)) one.is
 
-  sole : Single (fresh_of b) (chip_of b) s (says t.flag t.byte one.left)
-  sole = single (fresh_of b) (chip_of b) s one.event (says t.flag t.byte one.left) reads one.befalls refl one.happens
+  sole : Single (fresh_of b) (chip_of b) s (says flag byte one.left)
+  sole = single (fresh_of b) (chip_of b) s one.event (says flag byte one.left) reads one.befalls refl one.happens
 
   wide : ltb (length b) 96 ≡ false
   wide = le-ltb (length b) 96 t.room
@@ -261,8 +265,8 @@ module _ (b s old : List ℕ) {chip new : List ℕ} (g : good_of b ≡ true) (t 
 
   wrote : new ≡ entries_after k s old
   wrote =
-      t.wrote ∙ sets-eq (done_bytes t.flag t.byte t.shown) old 0 t.fits
-      ∙ ap (λ (w : Shown). done_bytes t.flag t.byte w ++ drop 5 old) one.shows
+      t.wrote ∙ sets-eq (done_bytes flag byte t.outcome.shown) old 0 t.fits
+      ∙ ap (λ (w : Shown). done_bytes flag byte w ++ drop 5 old) one.shows
       ∙ ap (λ (l : List Entry). bytes_of l ++ drop (5 * length l) old) (sym sole.entry)
 
   pub fed_one : Fed b s old (pos 1) chip new
@@ -295,28 +299,26 @@ fed_as {b} {b'} {s} {old} {old'} {r} {r'} {chip} {new} e y f =
     (subst (λ (old : List ℕ). Fed b' s old r chip new) e.1 (subst (λ (r : ℤ). Fed b' s old' r chip new) y f))
 
 -- a record by its header, then what was done of it
-module _ (b s old : List ℕ) (kind next : ℕ) (header : header_of s ≡ Header kind next) (whole : next ≡ length s) where
-  pub alone_is : {r : Done} {chip new : List ℕ} (flag : Bool) (byte : ℕ) (shown : Shown) → 96 ≤ length b → 5 ≤ length old
-      → RecordBy b (get_or b 1 0) kind (take (next - 4) (drop 4 s)) r chip → r ≡ Shows flag byte shown
-      → new ≡ sets old 0 (done_bytes flag byte shown)
+module _ (b s old : List ℕ) (h : Header) (header : header_of s ≡ Some h) (whole : h.next ≡ length s) where
+  pub alone_is : {r : Option Outcome} {chip new : List ℕ} (o : Outcome) → 96 ≤ length b → 5 ≤ length old
+      → RecordBy b (get_or b 1 0) h.kind (take (h.next - 4) (drop 4 s)) r chip → r ≡ Some o → new ≡ sets old 0 (outcome_bytes o)
       → Alone b s old chip new
-  alone_is {r} {chip} flag byte shown room fits h e wrote =
+  alone_is {r} {chip} o room fits k e wrote =
       record {
         room = room;
         fits = fits;
-        kind = kind;
-        header = header ∙ ap (Header kind) whole;
-        flag = flag;
-        byte = byte;
-        shown = shown;
+        kind = h.kind;
+        header = header ∙ ap (framed h.kind) whole;
+        outcome = o;
         done =
-            subst (λ (n : ℕ). RecordBy b (get_or b 1 0) kind (take (n - 4) (drop 4 s)) (Shows flag byte shown) chip) whole
-            (subst (λ (r : Done). RecordBy b (get_or b 1 0) kind (take (next - 4) (drop 4 s)) r chip) e h);
+            subst (λ (n : ℕ). RecordBy b (get_or b 1 0) h.kind (take (n - 4) (drop 4 s)) (Some o) chip) whole
+            (subst (λ (r : Option Outcome). RecordBy b (get_or b 1 0) h.kind (take (h.next - 4) (drop 4 s)) r chip) e k);
         wrote = wrote;
       }
 
-pub not_done : (b : List ℕ) (part kind : ℕ) (p : List ℕ) {r : Done} {chip : List ℕ} → RecordBy b part kind p r chip → r ≡ Not → chip ≡ b
-not_done b part kind p {r} {chip} h e = subst (λ (r : Done). RecordBy b part kind p r chip) e h
+pub not_done : (b : List ℕ) (part kind : ℕ) (p : List ℕ) {r : Option Outcome} {chip : List ℕ} → RecordBy b part kind p r chip → r ≡ None
+    → chip ≡ b
+not_done b part kind p {r} {chip} h e = subst (λ (r : Option Outcome). RecordBy b part kind p r chip) e h
 
 -- a chip that good bytes have
 pub good_calm : (b : List ℕ) {c : Chip} → good_of b ≡ true → c ≡ chip_of b → Calmed c

@@ -1,5 +1,6 @@
 -- A record leaves a chip that could stand so: what bytes keep stays in reach over any stream. Assumes nothing.
 use Rattle.std.specs.Prelude.{◌≡◌, refl, Bool, true, false, cond, not, ◌&&◌, ◌||◌, List, [], ◌∷◌, ℕ, zero, suc, eqb, length, drop}
+use Rattle.std.specs.Prelude.{Ok, Err}
 use Rattle.std.proofs.Common.{sym, ap, ap₂, ◌∙◌, subst, true≢false, ne_eqb}
 use Rattle.std.proofs.Math.Bool.{and-true, and-false}
 use Rattle.std.proofs.lemmas.Bool.{eqb-false}
@@ -16,7 +17,7 @@ use Rattle.records.specs.Record.{setup_good, read_of, counts_beside}
 use Rattle.bits.specs.BoolLaws.{and_left, and_right}
 use Rattle.records.specs.SoundLaws.{IsSetup, first_setup, wires_by, later_means}
 use Rattle.wiring.specs.Rows.{has_row, wired_with}
-use Rattle.wiring.specs.declared.Wiring.TheVariants.{With, NoRow}
+use Rattle.constants.specs.declared.refusal.Refusal.TheVariants.{NoRow}
 use Rattle.registers.specs.State.{alert}
 use Rattle.chip.specs.declared.Chip.{Chip}
 use Rattle.chip.specs.Answer.{Stepped}
@@ -121,7 +122,7 @@ row_stands u n s r =
     by false = r
 
 wired_stands : (c : Chip) (o : Bool) (n : ℕ) → could_stand c o ≡ true → Sized c → (t : Bool) → has_row c.setup.part n ≡ t
-    → let s : Stepped = cond o (wired_as (cond t (With (with_cells n c.setup)) NoRow) c) (numbered 2 c) in
+    → let s : Stepped = cond o (wired_as (cond t (Ok (with_cells n c.setup)) (Err NoRow)) c) (numbered 2 c) in
     Stood s.chip (o && not (eqb s.number 0))
 wired_stands c true n h z true r =
     let p : Parts c true = parts c true h in

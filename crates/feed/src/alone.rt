@@ -2,12 +2,12 @@
 ghost use Rattle.std.specs.Prelude.{◌≡◌, ◌≤◌, length};
 ghost use Rattle.std.proofs.lemmas.List.Edits.{sets};
 ghost use Rattle.constants.specs.Size.{ENTRY};
-ghost use Rattle.feed.specs.Alone.{done_bytes, BareBy, CountedBy, RecordBy, Signal, AloneBy};
+ghost use Rattle.feed.specs.Alone.{outcome_bytes, BareBy, CountedBy, RecordBy, Signal, AloneBy};
 
-use chip_bytes_layout::{Done, place};
+use chip_bytes_layout::{Outcome, place};
+use constants::refusal::Refusal;
 use constants::{kind, number, size, weight};
 use events::Event;
-use records::{Framed, Payload};
 use registers::Shown;
 
 // The bytes of an entry.
@@ -22,116 +22,94 @@ const STAT: usize = 3;
 const PINS: usize = 4;
 
 // The entry of a record that is done.
-fn put_entry(entries: &mut [u8], flag: bool, byte: u8, shown: Shown)
+fn put_entry(entries: &mut [u8], outcome: Outcome)
     requires { ENTRY ≤ length entries.old }
-    ensures { entries.new ≡ sets entries.old 0 (done_bytes flag byte shown) }
+    ensures { entries.new ≡ sets entries.old 0 (outcome_bytes outcome) }
 {
-    let status = shown.status;
-    let stat = status.byte();
-    let pins = bits::weigh(status.alert(), weight::PIN_ALERT)
-        + bits::weigh(shown.chg_on, weight::PIN_CHG)
-        + bits::weigh(shown.dsg_on, weight::PIN_DSG);
+    let Shown { status, chg_on, dsg_on, .. } = outcome.shown;
     entries[NUMBER] = number::DONE;
-    entries[FLAG] = bits::weigh(flag, 1);
-    entries[BYTE] = byte;
-    entries[STAT] = stat;
-    entries[PINS] = pins;
+    entries[FLAG] = u8::from(chip::flag(Ok(outcome.byte)));
+    entries[BYTE] = chip::byte(Ok(outcome.byte));
+    entries[STAT] = status.byte();
+    entries[PINS] = bits::weigh(status.alert(), weight::PIN_ALERT)
+        + bits::weigh(chg_on, weight::PIN_CHG)
+        + bits::weigh(dsg_on, weight::PIN_DSG);
 }
 
 // A tick.
-fn tick_by(chip: &mut [u8], payload: Payload) -> Done
+fn tick_by(chip: &mut [u8], payload: Result<Event, Refusal>) -> Option<Outcome>
     ensures { BareBy chip.old payload result chip.new }
 {
-    let Payload::Whole(event) = payload else {
-        return Done::Not;
-    };
-    let Event::Sense(value) = event else {
-        return Done::Not;
+    let Ok(Event::Sense(value)) = payload else {
+        return None;
     };
     chip_bytes_done::tick::ticked(chip, value)
 }
 
 // A scan, whose counts are the payload.
-fn scan_by(chip: &mut [u8], payload: Payload, b: &[u8]) -> Done
+fn scan_by(chip: &mut [u8], payload: Result<Event, Refusal>, b: &[u8]) -> Option<Outcome>
     ensures { CountedBy chip.old payload b.now result chip.new }
 {
-    let Payload::Whole(event) = payload else {
-        return Done::Not;
-    };
-    let Event::Scan = event else {
-        return Done::Not;
+    let Ok(Event::Scan) = payload else {
+        return None;
     };
     let counts = records::counts_in(Event::Scan, b);
-    let of = counts.of;
-    chip_bytes_done::scan::scanned(chip, of)
+    chip_bytes_done::scan::scanned(chip, counts.of)
 }
 
 // TEMP, whose counts are the payload.
-fn temp_by(chip: &mut [u8], payload: Payload, b: &[u8]) -> Done
+fn temp_by(chip: &mut [u8], payload: Result<Event, Refusal>, b: &[u8]) -> Option<Outcome>
     ensures { CountedBy chip.old payload b.now result chip.new }
 {
-    let Payload::Whole(event) = payload else {
-        return Done::Not;
-    };
-    let Event::Temp = event else {
-        return Done::Not;
+    let Ok(Event::Temp) = payload else {
+        return None;
     };
     let counts = records::counts_in(Event::Temp, b);
-    let of = counts.of;
-    chip_bytes_done::seldom::warmed(chip, of)
+    chip_bytes_done::seldom::warmed(chip, counts.of)
 }
 
 // TICKS.
-fn ticks_by(chip: &mut [u8], payload: Payload) -> Done
+fn ticks_by(chip: &mut [u8], payload: Result<Event, Refusal>) -> Option<Outcome>
     ensures { BareBy chip.old payload result chip.new }
 {
-    let Payload::Whole(event) = payload else {
-        return Done::Not;
+    let Ok(Event::Ticks(value, repeat)) = payload else {
+        return None;
     };
-    let Event::Ticks(value, repeat) = event else {
-        return Done::Not;
-    };
-    chip_bytes_done::tick::repeated(chip, value, repeat as u32)
+    chip_bytes_done::tick::repeated(chip, value, u32::from(repeat))
 }
 
 // SOAK.
-fn soak_by(chip: &mut [u8], payload: Payload) -> Done
+fn soak_by(chip: &mut [u8], payload: Result<Event, Refusal>) -> Option<Outcome>
     ensures { BareBy chip.old payload result chip.new }
 {
-    let Payload::Whole(event) = payload else {
-        return Done::Not;
-    };
-    let Event::Soak(value, repeat) = event else {
-        return Done::Not;
+    let Ok(Event::Soak(value, repeat)) = payload else {
+        return None;
     };
     chip_bytes_done::tick::repeated(chip, value, repeat)
 }
 
 // START, OUT, IN and STOP.
-fn bus_by(chip: &mut [u8], payload: Payload) -> Done
+fn bus_by(chip: &mut [u8], payload: Result<Event, Refusal>) -> Option<Outcome>
     ensures { BareBy chip.old payload result chip.new }
 {
-    let Payload::Whole(event) = payload else {
-        return Done::Not;
-    };
-    let Event::OnBus(signal) = event else {
-        return Done::Not;
+    let Ok(Event::OnBus(signal)) = payload else {
+        return None;
     };
     chip_bytes_bus::heard(chip, signal)
 }
 
 // BOOT, COUNT, PIN, LOAD, XREADY and the outside level.
-fn seldom_by(chip: &mut [u8], payload: Payload) -> Done
+fn seldom_by(chip: &mut [u8], payload: Result<Event, Refusal>) -> Option<Outcome>
     ensures { BareBy chip.old payload result chip.new }
 {
-    let Payload::Whole(event) = payload else {
-        return Done::Not;
+    let Ok(event) = payload else {
+        return None;
     };
     chip_bytes_done::seldom::happened(chip, event)
 }
 
 // The payload of a kind of the bus; each kind by itself, so that the compiler keeps of the reader only what it needs.
-fn signal_of(kind: u16, part: u8, b: &[u8]) -> Payload
+fn signal_of(kind: u16, part: u8, b: &[u8]) -> Result<Event, Refusal>
     ensures { Signal kind part b.now result }
 {
     match kind {
@@ -139,12 +117,12 @@ fn signal_of(kind: u16, part: u8, b: &[u8]) -> Payload
         kind::OUT => records::payload_of(kind::OUT, part, b),
         kind::IN => records::payload_of(kind::IN, part, b),
         kind::STOP => records::payload_of(kind::STOP, part, b),
-        _ => Payload::Unfit(number::BAD_KIND),
+        _ => Err(Refusal::BadKind),
     }
 }
 
 // The same of a kind that is seldom met.
-fn seldom_of(kind: u16, part: u8, b: &[u8]) -> Payload
+fn seldom_of(kind: u16, part: u8, b: &[u8]) -> Result<Event, Refusal>
     ensures { Signal kind part b.now result }
 {
     match kind {
@@ -154,33 +132,23 @@ fn seldom_of(kind: u16, part: u8, b: &[u8]) -> Payload
         kind::LOAD => records::payload_of(kind::LOAD, part, b),
         kind::XREADY => records::payload_of(kind::XREADY, part, b),
         kind::LEVEL => records::payload_of(kind::LEVEL, part, b),
-        _ => Payload::Unfit(number::BAD_KIND),
+        _ => Err(Refusal::BadKind),
     }
 }
 
 // A record by its kind and payload.
-fn done_by(chip: &mut [u8], part: u8, kind: u16, b: &[u8]) -> Done
+fn done_by(chip: &mut [u8], part: u8, kind: u16, b: &[u8]) -> Option<Outcome>
     ensures { RecordBy chip.old part kind b.now result chip.new }
 {
-    if kind == kind::SENSE {
-        return tick_by(chip, records::payload_of(kind::SENSE, part, b));
+    match kind {
+        kind::SENSE => tick_by(chip, records::payload_of(kind::SENSE, part, b)),
+        kind::SCAN => scan_by(chip, records::payload_of(kind::SCAN, part, b), b),
+        kind::START | kind::OUT | kind::IN | kind::STOP => bus_by(chip, signal_of(kind, part, b)),
+        kind::TEMP => temp_by(chip, records::payload_of(kind::TEMP, part, b), b),
+        kind::TICKS => ticks_by(chip, records::payload_of(kind::TICKS, part, b)),
+        kind::SOAK => soak_by(chip, records::payload_of(kind::SOAK, part, b)),
+        _ => seldom_by(chip, seldom_of(kind, part, b)),
     }
-    if kind == kind::SCAN {
-        return scan_by(chip, records::payload_of(kind::SCAN, part, b), b);
-    }
-    if (kind::START <= kind) & (kind <= kind::STOP) {
-        return bus_by(chip, signal_of(kind, part, b));
-    }
-    if kind == kind::TEMP {
-        return temp_by(chip, records::payload_of(kind::TEMP, part, b), b);
-    }
-    if kind == kind::TICKS {
-        return ticks_by(chip, records::payload_of(kind::TICKS, part, b));
-    }
-    if kind == kind::SOAK {
-        return soak_by(chip, records::payload_of(kind::SOAK, part, b));
-    }
-    seldom_by(chip, seldom_of(kind, part, b))
 }
 
 // Does records that are one scan, one tick, ticks of one value, one event of the bus that does not ship, or one of those that are seldom met, on a chip in
@@ -188,24 +156,19 @@ fn done_by(chip: &mut [u8], part: u8, kind: u16, b: &[u8]) -> Done
 pub fn done(chip: &mut [u8], records: &[u8], entries: &mut [u8]) -> bool
     ensures { AloneBy chip.old records.now entries.old result chip.new entries.new }
 {
-    if chip.len() < size::KEPT_CHIP {
+    if chip.len() < size::KEPT_CHIP || entries.len() < size::ENTRY {
         return false;
     }
-    if entries.len() < size::ENTRY {
-        return false;
-    }
-    let framed = records::header_of(records);
-    let Framed::Header { kind, next } = framed else {
+    let Some(header) = records::header_of(records) else {
         return false;
     };
-    if next != records.len() {
+    if header.next != records.len() {
         return false;
     }
     let part = chip[place::PART];
-    let done = done_by(chip, part, kind, &records[size::HEADER..next]);
-    let Done::Shows(flag, byte, shown) = done else {
+    let Some(outcome) = done_by(chip, part, header.kind, &records[size::HEADER..header.next]) else {
         return false;
     };
-    put_entry(entries, flag, byte, shown);
+    put_entry(entries, outcome);
     true
 }
