@@ -1,5 +1,5 @@
 -- What the writer does not refuse: its part and counts fit, and its values are in range. Assumes nothing.
-use Rattle.std.specs.Prelude.{◌≡◌, refl, ℕ, ◌≤◌, List, Bool, true, false, cond, ◌&&◌, leb}
+use Rattle.std.specs.Prelude.{◌≡◌, refl, ℕ, ◌≤◌, List, Bool, true, false, cond, ◌&&◌, leb, Result}
 use Rattle.std.proofs.Common.{sym, ◌∙◌, arith}
 use Rattle.events.specs.Event.{counts_wanted, counts_fit}
 use Rattle.events.specs.declared.Counts.{Counts}
@@ -9,7 +9,9 @@ use Rattle.events.specs.declared.Event.TheVariants.{Level, Ticks, Soak, Wires}
 use Rattle.ranges.specs.CountedLaws.{fit_is}
 use Rattle.events.specs.Setup.{standing}
 use Rattle.events.specs.FewLaws.{few_groups, few_inputs}
-use Rattle.writer.specs.Write.{part_for, value_refusal, refusal_for, Puts}
+use Rattle.constants.proofs.RefusalLaws.{same_said}
+use Rattle.constants.specs.declared.refusal.Refusal.{Refusal}
+use Rattle.writer.specs.Write.{part_for, value_refusal, refusal_for, wrote, Puts}
 use Rattle.writer.specs.Write.{Wrote}
 
 pub wanted_few : (part : ℕ) (e : Event) → counts_wanted (standing part) e ≤ 15
@@ -59,3 +61,7 @@ accepted_few e k part h = omega (arith, (fit_is _ k (accepted e k part h).beside
 pub one_answer : (number : ℕ) (bytes old : List ℕ) (r r' : Wrote) (new new' : List ℕ) → Puts number bytes old r new
     → Puts number bytes old r' new' → (r ≡ r') × (new ≡ new')
 one_answer number bytes old r r' new new' p q = (p.answer ∙ sym q.answer, p.contents ∙ sym q.contents)
+
+-- and what is said of a result settles it
+pub same_wrote : (r s : Result ℕ Refusal) → wrote r ≡ wrote s → r ≡ s
+same_wrote r s e = same_said (λ n. n) (λ n. n) (λ n. refl) r s e
