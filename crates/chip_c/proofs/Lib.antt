@@ -1,2 +1,1 @@
-pub mod LeftStanding
-pub mod Standing
+pub mod Wide

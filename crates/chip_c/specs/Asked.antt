@@ -10,13 +10,17 @@ use Rattle.chip.specs.declared.Chip.{Chip}
 use Rattle.chip_voltage.specs.Voltage.{voltage_said, forecast_number}
 use Rattle.chip_voltage.specs.Care.{proposal_said, pack_of, linked_total}
 use Rattle.stream.specs.Forecast.{Contents}
-use Rattle.chip_bytes_layout.specs.declared.Kept.{Kept}
+use Rattle.chip_bytes_layout.specs.Kept.{Kept}
 
-unfoldable pub stands_number : Kept → ℕ
+abbrev pub stands_number : Kept → ℕ
 stands_number k = cond k.good (cond (eqb k.chip.setup.part 0) CUT DONE) NO_CHIP
 
-unfoldable pub kept_said : {A : Type 0} → Kept → Said A → Said A
+abbrev pub kept_said : {A : Type 0} → Kept → Said A → Said A
 kept_said k said = cond (eqb (stands_number k) 0) said (refuses (stands_number k))
+
+-- the chip that stands
+abbrev pub chip_said : Kept → Said Chip
+chip_said k = kept_said k (gives k.chip)
 
 -- 3 for an address above 0xFF
 abbrev pub address_said : ℕ → Chip → Said ℕ

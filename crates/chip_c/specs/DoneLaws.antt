@@ -47,7 +47,6 @@ signed_numbered (pos n) = fits_numbered (leb n 32767) n
 signed_numbered (negsuc n) = fits_numbered (leb n 32767) (65535 - n)
 
 asked_numbered : (p : Pack) (total : ℤ) (command r : ℕ) → Numbered (asked_for p total command r)
-unfolding asked_for
 asked_numbered p total command r =
     by (eqb command 0x08) p.external (eqb command 0x09) p.connected (unsigned_said (kelvins p.warmth))
     (unsigned_said (millivolts total)) (signed_said (milliamps p.cc r))
@@ -62,7 +61,6 @@ asked_numbered p total command r =
     by false e false k x y z p q r = r
 
 pub word_numbered : (p : Pack) (total : ℤ) (command r : ℕ) → Numbered (word_for p total command r)
-unfolding word_for
 word_numbered p total command r =
     by (known command) (leb 1 r && leb r 100) p.normal (asked_for p total command r) (asked_numbered p total command r)
   where

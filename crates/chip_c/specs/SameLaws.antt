@@ -5,7 +5,7 @@ use Rattle.values.specs.SameLaws.{same_reading}
 use Rattle.values.specs.declared.Reading.{Reading}
 use Rattle.chip.specs.declared.Chip.{Chip}
 use Rattle.stream.specs.Forecast.{Contents}
-use Rattle.chip_bytes_layout.specs.declared.Kept.{Kept}
+use Rattle.chip_bytes_layout.specs.Kept.{Kept}
 use Rattle.chip_c.specs.Asked.{is_read, ReadOf}
 
 same_contents : (t : Bool) (c : Chip) (old new other : List Float) → Contents t c old new → Contents t c old other → new ≡ other

@@ -1,31 +1,52 @@
 // What workshops and chargers ask of the chip that a stream leaves.
-ghost use Rattle.constants.specs.Answer.{gives};
+ghost use Rattle.constants.specs.Answer.{gives, number_said};
+ghost use Rattle.values.specs.Said.{said};
+ghost use Rattle.smart_battery.specs.Words.{word_for};
 ghost use Rattle.smart_battery.specs.Reply.{Replied};
+ghost use Rattle.chip_voltage.specs.Care.{proposal_said, pack_of, linked_total};
 ghost use Rattle.chip_c.specs.Asks.{proposal_at, word_at, Bled};
 
-use crate::MOST;
 use bleed::Choice;
-use chip_voltage::services::Proposal;
+use chip::Chip;
 use constants::number;
+use constants::refusal::Refusal;
 
 // A proposal is three bytes.
 const PROPOSAL_SIZE: usize = 3;
 
 // A proposal written, where it fits.
-pub fn put_choice(out: &mut [u8], choice: Choice) -> u8
-    ensures { Bled (gives choice) out.old result out.new }
+fn put_choice(out: &mut [u8], choice: Choice) -> Result<(), Refusal>
+    ensures { Bled (gives choice) out.old (number_said (said result)) out.new }
 {
     if out.len() < PROPOSAL_SIZE {
-        return number::NO_ROOM;
+        return Err(Refusal::NoRoom);
     }
-    out[0] = choice.one;
-    out[1] = choice.two;
-    out[2] = choice.three;
-    number::DONE
+    out[..PROPOSAL_SIZE].copy_from_slice(&[choice.one, choice.two, choice.three]);
+    Ok(())
+}
+
+// What a chip is proposed, written.
+pub fn propose(chip: Chip, margin: u32, out: &mut [u8]) -> Result<(), Refusal>
+    ensures { Bled (proposal_said margin chip) out.old (number_said (said result)) out.new }
+{
+    let choice = chip_voltage::services::bleeding(chip, margin)?;
+    put_choice(out, choice)
+}
+
+// A chip's reply to a command, which is another one where no byte holds it.
+#[tactic(auto, unfolding(smart_battery::specs::Words::word_for))]
+pub fn reply_to(chip: Chip, command: u32, milliohms: u32, out: &mut [u8]) -> u8
+    ensures { Replied (word_for (pack_of chip) (linked_total chip) command milliohms) command out.old result out.new }
+{
+    let Ok(command) = u8::try_from(command) else {
+        return number::BAD_COMMAND;
+    };
+    chip_voltage::services::reply(chip, command, milliohms, out)
 }
 
 // Plays a whole stream and proposes the three CELLBAL bytes for the chip that stands at its end.
 // Answers 0, or with nothing written the first record's number where no chip stands, 3 for the margin, 4 asleep, 10 where no cell is connected, 5 for room below 3.
+#[tactic(auto, unfolding(turn::specs::AskedLaws::standing_said))]
 #[unsafe(no_mangle)]
 pub extern "C" fn toralinge_bleed(stream: &[u8], margin: u32, cellbal: &mut [u8]) -> u8
     ensures { Bled (proposal_at stream.now margin) cellbal.old result cellbal.new }
@@ -34,15 +55,14 @@ pub extern "C" fn toralinge_bleed(stream: &[u8], margin: u32, cellbal: &mut [u8]
     if chip.setup.part == 0 {
         return records::first_number(stream);
     }
-    let answer = chip_voltage::services::bleeding(chip, margin);
-    match answer {
-        Proposal::No(number) => number,
-        Proposal::Is(choice) => put_choice(cellbal, choice),
-    }
+    propose(chip, margin, cellbal)
+        .err()
+        .map_or(number::DONE, Refusal::number)
 }
 
 // Plays a whole stream and replies to a Smart Battery command for the chip that stands at its end: low byte, high byte and the PEC.
 // Answers 0, or with nothing written the first record's number where no chip stands, 23 another command, 3 for the resistor, 4, 12, 10, 11, 5.
+#[tactic(auto, unfolding(turn::specs::AskedLaws::standing_said))]
 #[unsafe(no_mangle)]
 pub extern "C" fn toralinge_reply(
     stream: &[u8],
@@ -56,8 +76,5 @@ pub extern "C" fn toralinge_reply(
     if chip.setup.part == 0 {
         return records::first_number(stream);
     }
-    if MOST < command {
-        return number::BAD_COMMAND;
-    }
-    chip_voltage::services::reply(chip, command as u8, milliohms, reply)
+    reply_to(chip, command, milliohms, reply)
 }

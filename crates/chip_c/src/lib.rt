@@ -4,34 +4,41 @@
 
 ghost use Rattle.std.specs.Prelude.{◌≡◌};
 ghost use Rattle.chip_bytes_layout.specs.Layout.{kept_of};
-ghost use Rattle.constants.specs.Answer.{number_said};
-ghost use Rattle.chip_voltage.specs.Voltage.{said_forecast};
+ghost use Rattle.constants.specs.Answer.{gives};
+ghost use Rattle.values.specs.Said.{said, said_voltage};
 ghost use Rattle.values_c.specs.Convert.{Gives};
 ghost use Rattle.smart_battery.specs.Reply.{Replied};
 ghost use Rattle.chip_c.specs.Asks.{Bled};
-ghost use Rattle.chip_c.specs.Asked.{byte_or, stands_number, register_said, voltage_of, proposal_of, word_of, ReadOf};
+ghost use Rattle.chip_c.specs.Asked.{byte_or, chip_said, register_said, voltage_of, proposal_of, word_of, ReadOf};
 
-use chip_bytes_layout::Kept;
-use chip_voltage::services::Proposal;
-use chip_voltage::{CellAnswer, ForecastAnswer};
-use constants::{number, size};
+use chip::Chip;
+use constants::number;
+use constants::refusal::Refusal;
+use stream::forecast::put_reading;
+use values::Microvolts;
 
 mod left;
 
-// The most that an address and a command may be.
-const MOST: u32 = 0xFF;
+use left::{propose, reply_to};
 
-// 0 where a chip stands, 26 for bytes that are no chip, 9 for no chip yet.
-fn stands(kept: Kept) -> u8
-    ensures { result ≡ stands_number kept }
+// The chip that bytes keep, where one stands: 26 for bytes that are no chip, 9 for no chip yet.
+fn standing(bytes: &[u8]) -> Result<Chip, Refusal>
+    ensures { said result ≡ chip_said (kept_of bytes.now) }
 {
-    if kept.good {
-        if kept.chip.setup.part == 0 {
-            return number::CUT;
-        }
-        return number::DONE;
+    let kept = chip_bytes::decode(bytes).ok_or(Refusal::NoChip)?;
+    if kept.chip.setup.part == 0 {
+        return Err(Refusal::CutShort);
     }
-    number::NO_CHIP
+    Ok(kept.chip)
+}
+
+// What an address holds, the bus undisturbed: 3 for an address above 0xFF.
+fn register_of(bytes: &[u8], address: u32) -> Result<u8, Refusal>
+    ensures { said result ≡ register_said (kept_of bytes.now) address }
+{
+    let chip = standing(bytes)?;
+    let address = u8::try_from(address).map_err(|_| Refusal::BadValue)?;
+    Ok(chip.registers.read(chip.setup, address))
 }
 
 // What an address holds, the bus undisturbed. Answers 0, or with nothing written 26 for bytes that are no chip, 9 for no chip yet, 3 for an address above 0xFF.
@@ -39,25 +46,23 @@ fn stands(kept: Kept) -> u8
 pub extern "C" fn toralinge_register(chip: &[u8], address: u32, value: &mut u8) -> u8
     ensures { Gives (register_said (kept_of chip.now) address) value.old result value.new }
 {
-    let kept = chip_bytes::decode(chip);
-    let refused = stands(kept);
-    if refused != number::DONE {
-        return refused;
-    }
-    if MOST < address {
-        return number::BAD_VALUE;
-    }
-    let registers = kept.chip.registers;
-    let byte = registers.read(kept.chip.setup, address as u8);
-    *value = byte;
-    number::DONE
+    values::give(register_of(chip, address), value)
 }
 
 // A number of 32 bits as a byte; 0, which is no cell, where it is too large.
 fn byte_or_none(n: u32) -> u8
     ensures { result ≡ byte_or n }
 {
-    if n < 256 { n as u8 } else { 0 }
+    u8::try_from(n).unwrap_or(0)
+}
+
+// The voltage of a cell of the pack.
+#[tactic(auto, using(crate::proofs::Wide::cell_wide))]
+fn voltage_of(bytes: &[u8], cell: u32) -> Result<Microvolts, Refusal>
+    ensures { said_voltage result ≡ voltage_of (kept_of bytes.now) cell }
+{
+    let chip = standing(bytes)?;
+    chip_voltage::voltage(chip, byte_or_none(cell))
 }
 
 // The voltage of a cell of the pack. Answers 0, or with nothing written 26, 9, 4 asleep, 6 no such cell, 10 not connected.
@@ -65,22 +70,8 @@ fn byte_or_none(n: u32) -> u8
 pub extern "C" fn toralinge_voltage(chip: &[u8], cell: u32, microvolts: &mut i64) -> u8
     ensures { Gives (voltage_of (kept_of chip.now) cell) microvolts.old result microvolts.new }
 {
-    let kept = chip_bytes::decode(chip);
-    let refused = stands(kept);
-    if refused != number::DONE {
-        return refused;
-    }
-    let answer = chip_voltage::voltage(kept.chip, byte_or_none(cell));
-    match answer {
-        CellAnswer::Is(v) => {
-            let z = v.0;
-            *microvolts = z;
-            number::DONE
-        }
-        CellAnswer::Asleep => number::ASLEEP,
-        CellAnswer::NoCell => number::NO_CELL,
-        CellAnswer::NotConnected => number::NOT_CONNECTED,
-    }
+    let answer = voltage_of(chip, cell);
+    values::give(answer.map(|v: Microvolts| v.0), microvolts)
 }
 
 // A proposal of the three CELLBAL bytes. Answers 0, or with nothing written 26, 9, 3 for the margin, 4 asleep, 10 where no cell is connected, 5 for room below 3.
@@ -88,15 +79,11 @@ pub extern "C" fn toralinge_voltage(chip: &[u8], cell: u32, microvolts: &mut i64
 pub extern "C" fn toralinge_bleed_of(chip: &[u8], margin: u32, cellbal: &mut [u8]) -> u8
     ensures { Bled (proposal_of (kept_of chip.now) margin) cellbal.old result cellbal.new }
 {
-    let kept = chip_bytes::decode(chip);
-    let refused = stands(kept);
-    if refused != number::DONE {
-        return refused;
-    }
-    let answer = chip_voltage::services::bleeding(kept.chip, margin);
-    match answer {
-        Proposal::No(why) => why,
-        Proposal::Is(choice) => left::put_choice(cellbal, choice),
+    match standing(chip) {
+        Ok(chip) => propose(chip, margin, cellbal)
+            .err()
+            .map_or(number::DONE, Refusal::number),
+        Err(why) => why.number(),
     }
 }
 
@@ -111,25 +98,9 @@ pub extern "C" fn toralinge_reply_of(
 ) -> u8
     ensures { Replied (word_of (kept_of chip.now) command milliohms) command reply.old result reply.new }
 {
-    let kept = chip_bytes::decode(chip);
-    let refused = stands(kept);
-    if refused != number::DONE {
-        return refused;
-    }
-    if MOST < command {
-        return number::BAD_COMMAND;
-    }
-    chip_voltage::services::reply(kept.chip, command as u8, milliohms, reply)
-}
-
-// The number of a reading, 0 where it is given.
-fn unread(answer: ForecastAnswer) -> u8
-    ensures { result ≡ number_said (said_forecast answer) }
-{
-    match answer {
-        ForecastAnswer::Is(_) => number::DONE,
-        ForecastAnswer::Asleep => number::ASLEEP,
-        ForecastAnswer::NotConnected => number::NOT_CONNECTED,
+    match standing(chip) {
+        Ok(chip) => reply_to(chip, command, milliohms, reply),
+        Err(why) => why.number(),
     }
 }
 
@@ -138,21 +109,10 @@ fn unread(answer: ForecastAnswer) -> u8
 pub extern "C" fn toralinge_reading_of(chip: &[u8], reading: &mut [f64]) -> u8
     ensures { ReadOf (kept_of chip.now) reading.old result reading.new }
 {
-    let kept = chip_bytes::decode(chip);
-    let refused = stands(kept);
-    if refused != number::DONE {
-        return refused;
+    match standing(chip) {
+        Ok(chip) => put_reading(chip, reading)
+            .err()
+            .map_or(number::DONE, Refusal::number),
+        Err(why) => why.number(),
     }
-    let answer = chip_voltage::forecast(kept.chip);
-    let ForecastAnswer::Is(given) = answer else {
-        return unread(answer);
-    };
-    if reading.len() < size::READING {
-        return number::NO_ROOM;
-    }
-    reading[0] = given.least;
-    reading[1] = given.greatest;
-    reading[2] = given.total;
-    reading[3] = given.cc;
-    number::DONE
 }
