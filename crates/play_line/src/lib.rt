@@ -1,4 +1,4 @@
-// The line that `play` prints for a record, put into a lent buffer as far as it reaches.
+// The line that `play` prints for a record, put into a lent buffer as far as it reaches; std's Display would need a writer, and stop at the buffer's end.
 #![tactic(auto)]
 
 ghost use Rattle.std.specs.Prelude.{◌≡◌, ◌+◌, ◌<◌, [], ◌∷◌};

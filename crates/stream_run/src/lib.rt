@@ -178,7 +178,7 @@ fn act(chip: Chip, fresh: bool, event: Event, rest: &[u8], next: usize) -> Stepp
     }
 }
 
-// An entry written at its place, where it fits.
+// An entry written at its place, where it fits: byte by byte, since a copy of a slice is a call, and `turn::put` divides.
 fn note(out: &mut [u8], n: usize, e: Entry)
     requires { 5 * n + 5 < 2 ^ 64 }
     ensures { out.new ≡ noted out.old n e }
