@@ -1,6 +1,6 @@
 -- A reading of counts in fifteen places is one of the counts alone. Assumes nothing.
-use Rattle.std.specs.Prelude.{◌≡◌, Bool, true, false, cond, eqb, List, ℕ, ◌≤◌, ℤ, pos, ◌+ℤ◌, length, get_or, take}
-use Rattle.std.proofs.Common.{sym, ap, ap₂, subst, ◌∙◌, ne_eqb, arith}
+use Rattle.std.specs.Prelude.{◌≡◌, refl, Bool, true, false, cond, eqb, List, ℕ, ◌≤◌, ℤ, pos, ◌+ℤ◌, length, get_or, take}
+use Rattle.std.proofs.Common.{sym, ap, ap₂, subst, ◌∙◌, eq-eqb, ne_eqb, arith}
 use Rattle.std.proofs.Math.Seq.{take-length}
 use Rattle.cell_counts.specs.Scan.{padded}
 use Rattle.events.specs.declared.Counts.{Counts}
@@ -56,9 +56,15 @@ forecast_by : (c : Chip) (a t : Bool) → c.normal ≡ a → eqb (length (linked
     → ◌≡◌ {A = ℕ} (cond a (cond t 10 0) 4) (forecast_number c)
 forecast_by c a t e f = sym (ap₂ (λ a t. cond a (cond t 10 0) 4) e f)
 
+pub asleep_number : (c : Chip) → c.normal ≡ false → 4 ≡ forecast_number c
+asleep_number c e = forecast_by c false (eqb (length (linked_counts c)) 0) e refl
+
 module _ (c : Chip) (k : Counts) (q : k ≡ counts_of (linked_counts c)) (e : c.normal ≡ true) where
   many : k.many ≡ length (linked_counts c)
   many = ap (λ (k : Counts). k.many) q
+
+  pub none_number : k.many ≡ 0 → 10 ≡ forecast_number c
+  none_number z = forecast_by c true true e (eq-eqb _ _ (sym many ∙ z))
 
   pub given_number : (k.many ≡ 0 → ⊥) → forecast_number c ≡ 0
   given_number n = sym (forecast_by c true false e (ne_eqb _ _ (λ z. n (many ∙ z))))
