@@ -22,7 +22,7 @@ fn answer_of(written: Result<usize, Refusal>) -> i64
 {
     match written {
         Ok(n) => n as i64,
-        Err(why) => -i64::from(why.number()),
+        Err(refusal) => -i64::from(refusal.number()),
     }
 }
 
