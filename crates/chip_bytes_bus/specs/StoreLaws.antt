@@ -286,8 +286,8 @@ module _ (b : List ℕ) (v : ℕ) {new : List ℕ} where
             ∙ ctrl1_moved v (chip_here b) f rest;
       }
 
-  pub ctrl2_by : {k : Settings} {w : Shown} → k ≡ settings_with 0x05 v (settings_at (take 96 b)) → w ≡ shown_with 0x05 v (shown_at (take 96 b))
-      → new ≡ drives_in k w b → Wrote 0x05 v b new
+  pub ctrl2_by : {k : Settings} {w : Shown} → k ≡ settings_with 0x05 v (settings_at (take 96 b))
+      → w ≡ shown_with 0x05 v (shown_at (take 96 b)) → new ≡ drives_in k w b → Wrote 0x05 v b new
   unfolding settings_with shown_with
   ctrl2_by e h m =
       wrote_ctrl2 b v h

@@ -12,7 +12,7 @@ ghost use Rattle.chip_bytes_bus.specs.Heard.{bus_in, KeptBy};
 
 use bus::{Bus, Taken, Write};
 use chip::Heard;
-use chip_bytes_layout::{ChipBytes, Outcome, awake, place};
+use chip_bytes_layout::{ChipBytes, Outcome, awake_at, place};
 use chip_bytes_read::{bus_at, setup_at, shown_at};
 use chip_bytes_write::{first_of, second_of, tag_of};
 use events::BusEvent;
@@ -79,7 +79,7 @@ pub fn heard(bytes: &mut [u8], event: BusEvent) -> Option<Outcome>
     ensures { DidBy bytes.old (OnBus event) result bytes.new }
 {
     let b = bytes.first_chunk_mut()?;
-    if !awake(b) {
+    if !awake_at(b) {
         return None;
     }
     let heard = heard_at(b, event);

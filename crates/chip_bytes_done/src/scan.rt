@@ -12,7 +12,7 @@ ghost use Rattle.chip_bytes_done.specs.Swept.{measured_in, swept_in, SweptBy};
 
 use bits::bytes::put_words;
 use cell_counts::Looked;
-use chip_bytes_layout::{ChipBytes, Outcome, awake, place};
+use chip_bytes_layout::{ChipBytes, Outcome, awake_at, place};
 use chip_bytes_read::{runs_at, settings_at, setup_at, shown_at};
 use chip_bytes_write::put_shown;
 use events::Setup;
@@ -86,7 +86,7 @@ pub fn scanned(bytes: &mut [u8], counts: [u16; 15]) -> Option<Outcome>
     ensures { DidBy bytes.old (Scan (take (inputs (chip_of bytes.old).setup) counts)) result bytes.new }
 {
     let b = bytes.first_chunk_mut()?;
-    if !awake(b) {
+    if !awake_at(b) {
         return None;
     }
     let swept = sweep(b, counts);

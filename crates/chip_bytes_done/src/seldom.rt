@@ -9,7 +9,7 @@ ghost use Rattle.chip_bytes_layout.specs.Did.{DidBy};
 ghost use Rattle.chip_bytes_done.specs.Seldom.{readied_in, warmed_in, Moved, MovedBy, SeldomBy};
 
 use bits::bytes::put_words;
-use chip_bytes_layout::{ChipBytes, Outcome, awake, place};
+use chip_bytes_layout::{ChipBytes, Outcome, awake_at, place};
 use chip_bytes_read::{setup_at, shown_at, status_at};
 use events::Event;
 
@@ -84,7 +84,7 @@ pub fn happened(bytes: &mut [u8], event: Event) -> Option<Outcome>
     ensures { SeldomBy bytes.old event result bytes.new }
 {
     let b = bytes.first_chunk_mut()?;
-    if !awake(b) {
+    if !awake_at(b) {
         return None;
     }
     if !put_event(b, event) {
@@ -111,7 +111,7 @@ pub fn warmed(bytes: &mut [u8], counts: [u16; 15]) -> Option<Outcome>
     ensures { DidBy bytes.old (Temp (take (groups (chip_of bytes.old).setup) counts)) result bytes.new }
 {
     let b = bytes.first_chunk_mut()?;
-    if !awake(b) {
+    if !awake_at(b) {
         return None;
     }
     let ts = cell_counts::three(counts, setup_at(b).groups());

@@ -7,7 +7,7 @@ ghost use Rattle.chip_bytes_layout.specs.Did.{CameBy, DidBy};
 ghost use Rattle.chip_bytes_done.specs.Tick.{runs_in, raised_in, PutBy};
 
 use bits::bytes::put_words;
-use chip_bytes_layout::{ChipBytes, Outcome, awake, place};
+use chip_bytes_layout::{ChipBytes, Outcome, awake_at, place};
 use chip_bytes_read::{runs_at, settings_at, shown_at};
 use protection::{Judged, Runs};
 use registers::Shown;
@@ -25,7 +25,7 @@ pub fn ticked(bytes: &mut [u8], value: i32) -> Option<Outcome>
     ensures { DidBy bytes.old (Sense value) result bytes.new }
 {
     let b = bytes.first_chunk_mut()?;
-    if !awake(b) {
+    if !awake_at(b) {
         return None;
     }
     let judged = protection::sensed(runs_at(b), settings_at(b), value);
@@ -64,7 +64,7 @@ pub fn repeated(bytes: &mut [u8], value: i32, repeat: u32) -> Option<Outcome>
     ensures { CameBy bytes.old (ticked repeat value (chip_of bytes.old)) result bytes.new }
 {
     let b = bytes.first_chunk_mut()?;
-    if !awake(b) {
+    if !awake_at(b) {
         return None;
     }
     let judged = protection::ticked(runs_at(b), settings_at(b), value, repeat);

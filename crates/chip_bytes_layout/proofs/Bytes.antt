@@ -11,7 +11,7 @@ use mir.Syntax.{w8}
 use mir.Val.{Fits}
 use Rattle.bits.specs.BytesLaws.{Bytes}
 use Rattle.chip_bytes_layout.specs.Layout.{switch_at}
-use Rattle.chip_bytes_layout.specs.Did.{Awake}
+use Rattle.chip_bytes_layout.specs.Did.{Awake, AwakeBy}
 
 -- a slice's numbers are bytes
 pub bytes_all : (b : List ℕ) → ((i : ℕ) → Fits w8 (get_or b i 0)) → Bytes b
@@ -45,3 +45,9 @@ awake {b} {r} l h n =
       bytes = subst Bytes (sym (as_first l)) h.1;
       normal = sym (of_first (λ (b : List ℕ). switch_at b 22) l h.0) ∙ up r n;
     }
+
+-- of a buffer that begins with them
+pub awake_by : (b : List ℕ) {x : List ℕ} (r : Bool) → 96 ≤ length b → x ≡ take 96 b → (r ≡ switch_at x 22) × Bytes x → AwakeBy b r
+awake_by b true room first h =
+    record { room = room; bytes = subst Bytes first h.1; normal = ap (λ (x : List ℕ). switch_at x 22) (sym first) ∙ sym h.0 }
+awake_by b false room first h = tt

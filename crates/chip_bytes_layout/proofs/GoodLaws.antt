@@ -1,14 +1,16 @@
 -- What bytes keep, in steps. Assumes nothing.
 use Rattle.std.specs.Prelude.{◌≡◌, Bool, true, false, cond, ◌&&◌, ◌||◌, List, [], ◌∷◌, ℕ, zero, suc, ◌≤◌, eqb, leb, ltb, length, get_or}
-use Rattle.std.specs.Prelude.{take}
+use Rattle.std.specs.Prelude.{take, Option, Some, None}
 use Rattle.std.proofs.Math.Path.{refl}
-use Rattle.std.proofs.Common.{sym, ap, ap₂, ◌∙◌, arith}
+use Rattle.std.proofs.Common.{sym, ap, ap₂, ◌∙◌, arith, true≢false}
 use borrow.Author.Tests.{leb-true, ne_eqb}
 use Rattle.bits.specs.Numbers.{within}
 use Rattle.bits.specs.BoolLaws.{and_left, and_right}
+use Rattle.chip.specs.declared.Chip.{Chip}
 use Rattle.chip_bytes_layout.specs.Kept.{Kept}
+use Rattle.chip_bytes_layout.specs.declared.Kept.{Kept as Held}
 use Rattle.chip_bytes_layout.specs.Layout.{switch_at, chip_at, formed, could_stand, none, keeps, no_chip, kept_at, good_at, chip_in}
-use Rattle.chip_bytes_layout.specs.Layout.{kept_of, good_of, chip_of, fresh_of}
+use Rattle.chip_bytes_layout.specs.Layout.{kept_of, kept_seen, good_of, chip_of, fresh_of}
 use Rattle.chip_bytes_layout.proofs.OneLaws.{part_not}
 
 pub zero_at : (b : List ℕ) (i : ℕ) → within 0 b ≡ true → get_or b i 0 ≡ 0
@@ -57,3 +59,10 @@ good_is b = short (good_of b) ∙ ap (λ (k : Kept). k.good) (sym (kept_as b))
 
 pub good_keeps : (b : List ℕ) → good_of b ≡ true → kept_of b ≡ keeps (chip_of b) (fresh_of b)
 good_keeps b h = kept_as b ∙ ap (λ (t : Bool). cond t (keeps (chip_of b) (fresh_of b)) no_chip) h
+
+-- what a call answers loses nothing there
+pub same_kept : (a b : Option Held) → kept_seen a ≡ kept_seen b → a ≡ b
+same_kept None None e = refl
+same_kept (Some a) (Some b) e = ap₂ (λ (c : Chip) (f : Bool). Some (record { chip = c; fresh = f })) (ap (λ (k : Kept). k.chip) e) (ap (λ (k : Kept). k.fresh) e)
+same_kept None (Some b) e = absurd (true≢false (sym (ap (λ (k : Kept). k.good) e)))
+same_kept (Some a) None e = absurd (true≢false (ap (λ (k : Kept). k.good) e))

@@ -17,6 +17,10 @@ pub record Awake (b : List ℕ) : Type 0 where
   pub bytes : Bytes (take KEPT_CHIP b)
   pub normal : switch_at (take KEPT_CHIP b) NORMAL ≡ true
 
+abbrev pub AwakeBy : List ℕ → Bool → Type 0
+AwakeBy b true = Awake b
+AwakeBy b false = Unit
+
 -- the chip of the first 96 bytes
 abbrev pub chip_here : List ℕ → Chip
 chip_here b = chip_at (take KEPT_CHIP b)

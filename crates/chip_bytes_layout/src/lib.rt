@@ -5,6 +5,7 @@ ghost use Rattle.std.specs.Prelude.{◌≡◌};
 ghost use Rattle.bits.specs.BytesLaws.{Bytes};
 ghost use Rattle.chip_bytes_layout.specs.Place.{NORMAL};
 ghost use Rattle.chip_bytes_layout.specs.Layout.{switch_at};
+ghost use Rattle.chip_bytes_layout.specs.Did.{AwakeBy};
 
 use chip::Chip;
 use constants::size;
@@ -33,8 +34,18 @@ pub struct Outcome {
 }
 
 // Whether the chip that the bytes have is in NORMAL.
-pub fn awake(b: &ChipBytes) -> bool
+pub fn awake_at(b: &ChipBytes) -> bool
     ensures { (result ≡ switch_at b.now NORMAL) × Bytes b.now }
 {
     b[place::NORMAL] == 1
+}
+
+// Whether there is room for a chip, and the one that stands there is in NORMAL.
+pub fn awake(bytes: &[u8]) -> bool
+    ensures { AwakeBy bytes.now result }
+{
+    let Some(b) = bytes.first_chunk() else {
+        return false;
+    };
+    awake_at(b)
 }

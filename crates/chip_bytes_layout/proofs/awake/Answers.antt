@@ -1,7 +1,6 @@
--- What 96 bytes hold is bytes.
-use Rattle.std.proofs.Common.{refl, rules}
-use Rattle.chip_bytes_layout.proofs.Bytes.{bytes_all}
+-- By the room.
+use Rattle.chip_bytes_layout.proofs.Bytes.{awake_by}
 use Rattle.chip_bytes_layout.proofs.awake.Goals as goal
 
 pub returns : goal.returns
-returns c = (refl, bytes_all c.args.b.now (λ i. search rules))
+returns c = let f = c.in-Some.ensures.cases in awake_by c.args.bytes.now c.awake_at.result f.enough f.same c.awake_at.ensures

@@ -7,8 +7,8 @@ use Rattle.chip_bytes_done.specs.Seldom.{MovedBy}
 use Rattle.chip_bytes_done.specs.SeldomLaws.{moved_did, seldom_first}
 use Rattle.chip_bytes_done.proofs.seldom.happened.Goals as goal
 
-pub returns-then-not-awake : goal.returns-then-not-awake
-returns-then-not-awake c = let f = c.in_ok-b.ensures.cases in same_first c.args.bytes.now f.enough f.same
+pub returns-then-not-awake_at : goal.returns-then-not-awake_at
+returns-then-not-awake_at c = let f = c.in_ok-b.ensures.cases in same_first c.args.bytes.now f.enough f.same
 
 pub returns-then-not-put_event : goal.returns-then-not-put_event
 returns-then-not-put_event c = let f = c.in_ok-b.ensures.cases in
@@ -19,6 +19,6 @@ returns c = let f = c.in_ok-b.ensures.cases in
     let l : length c.in_ok-b.b.now ≡ 96 = sized_first c.args.bytes.now f.enough f.same in
     let m : length (set c.put_event.new.out 23 0) ≡ 96 = length-set c.put_event.new.out 23 0 ∙ c.put_event.array_long in
     seldom_first c.args.bytes.now c.in_ok-b.b.now f.enough f.same c.args.event (Some (record { byte = None; shown = c.shown_at.result })) (set c.put_event.new.out 23 0)
-    (moved_did c.in_ok-b.b.now c.put_event.new.out c.args.event (awake l c.awake.ensures (ap not c.if-not-awake.false))
+    (moved_did c.in_ok-b.b.now c.put_event.new.out c.args.event (awake l c.awake_at.ensures (ap not c.if-not-awake_at.false))
     (subst (λ (t : Bool). MovedBy c.args.event c.in_ok-b.b.now t c.put_event.new.out) (up c.put_event.result (ap not c.if-not-put_event.false)) c.put_event.ensures)
     refl (of_first shown_at m c.shown_at.ensures))

@@ -9,8 +9,8 @@ use Rattle.chip_bytes_layout.proofs.DidLaws.{came_first, same_first, sized_first
 use Rattle.chip_bytes_done.specs.TickLaws.{repeats_came}
 use Rattle.chip_bytes_done.proofs.tick.repeated.Goals as goal
 
-pub returns-then-not-awake : goal.returns-then-not-awake
-returns-then-not-awake c = let f = c.in_ok-b.ensures.cases in same_first c.args.bytes.now f.enough f.same
+pub returns-then-not-awake_at : goal.returns-then-not-awake_at
+returns-then-not-awake_at c = let f = c.in_ok-b.ensures.cases in same_first c.args.bytes.now f.enough f.same
 
 pub returns : goal.returns
 returns c = let f = c.in_ok-b.ensures.cases in
@@ -18,6 +18,6 @@ returns c = let f = c.in_ok-b.ensures.cases in
     let y : to_z w32 (of_z w32 c.args.value) ≡ c.args.value = search rules in
     came_first c.args.bytes.now f.enough f.same (λ (x : Chip). ticked c.args.repeat c.args.value x)
     (Some (record { byte = None; shown = c.put_judged.result })) c.put_judged.new.out
-    (repeats_came c.in_ok-b.b.now c.args.value c.args.repeat (awake l c.awake.ensures (ap not c.if-not-awake.false)) (of_first runs_at l c.runs_at.ensures)
+    (repeats_came c.in_ok-b.b.now c.args.value c.args.repeat (awake l c.awake_at.ensures (ap not c.if-not-awake_at.false)) (of_first runs_at l c.runs_at.ensures)
     (of_first settings_at l c.settings_at.ensures) (c.ticked-judged.ensures ∙ ap (λ (z : ℤ). ticks_judged c.args.repeat c.settings_at.result z c.runs_at.result) y)
     c.put_judged.ensures)
