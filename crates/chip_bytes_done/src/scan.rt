@@ -21,7 +21,7 @@ use registers::Shown;
 use settings::Settings;
 
 // What a scan leaves: the counts and their sum, the runs, and what is shown.
-#[derive(Clone, Copy)]
+#[derive(Clone, Copy, Debug, PartialEq, Eq)]
 pub struct Swept {
     pub cells: [u16; 15],
     pub sum: u32,

@@ -20,14 +20,14 @@ pub const LAYOUT: u8 = 1;
 pub type ChipBytes = [u8; size::KEPT_CHIP];
 
 // A chip as it was kept, and whether a wiring record is still taken. Part 0: no chip yet.
-#[derive(Clone, Copy)]
+#[derive(Clone, Copy, Debug, PartialEq, Eq)]
 pub struct Kept {
     pub chip: Chip,
     pub fresh: bool,
 }
 
 // What an event that is done on a kept chip came to, where the bytes have it: the byte that the bus gives back, and what the chip then shows.
-#[derive(Clone, Copy)]
+#[derive(Clone, Copy, Debug, PartialEq, Eq)]
 pub struct Outcome {
     pub byte: Option<u8>,
     pub shown: Shown,

@@ -26,7 +26,12 @@ fn put_entry(entries: &mut [u8], outcome: Outcome)
     requires { ENTRY ≤ length entries.old }
     ensures { entries.new ≡ sets entries.old 0 (outcome_bytes outcome) }
 {
-    let Shown { status, chg_on, dsg_on, .. } = outcome.shown;
+    let Shown {
+        status,
+        chg_on,
+        dsg_on,
+        ..
+    } = outcome.shown;
     entries[NUMBER] = number::DONE;
     entries[FLAG] = u8::from(chip::flag(Ok(outcome.byte)));
     entries[BYTE] = chip::byte(Ok(outcome.byte));
