@@ -8,7 +8,7 @@ words32 n = n % 65536 ∷ n / 65536 ∷ []
 abbrev pub words64 : ℕ → List ℕ
 words64 n = n % 65536 ∷ n / 65536 % 65536 ∷ n / 4294967296 % 65536 ∷ n / 281474976710656 % 65536 ∷ []
 
-unfoldable pub why_words : Why → List ℕ
+abbrev pub why_words : Why → List ℕ
 why_words w =
     words64 w.rose ++ words64 w.first ++ words32 w.cause ++ words32 w.many ++ words32 w.limit ++ words32 w.input
     ++ words32 w.value

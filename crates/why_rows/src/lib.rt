@@ -1,21 +1,13 @@
-// CHIP P17 and P18: the rows that say why a bit is up and since when a drive is off, in numbers.
+// CHIP P17 and P18: the rows that say why a bit is up and since when a drive is off, in bytes.
 #![tactic(auto)]
 
 ghost use Rattle.std.specs.Prelude.{◌≡◌};
+ghost use Rattle.bits.specs.Numbers.{word_bytes};
 ghost use Rattle.why_rows.specs.Row.{why_words, off_words};
-
-// How many numbers of 16 bits there are, and of 32 and 48: a row is put in numbers of two bytes.
-const TO_16: u64 = 65536;
-
-const HALF: u32 = 65536;
-
-const TO_32: u64 = 4294967296;
-
-const TO_48: u64 = 281474976710656;
 
 // Why a bit rose: the record, that of the first of the verdicts that made it due, the cause, how many verdicts, and the limit, input and count or value (32 bits) of
 // the last of them.
-#[derive(Clone, Copy)]
+#[derive(Clone, Copy, Debug, Default, PartialEq, Eq)]
 pub struct Why {
     pub rose: u64,
     pub first: u64,
@@ -26,41 +18,26 @@ pub struct Why {
     pub value: u32,
 }
 
-// A row in numbers of two bytes, the low ones first.
-pub fn why_words(why: Why) -> [u16; 18]
-    ensures { result ≡ why_words why }
+// A row, the low bytes of each number first.
+pub fn why_row(why: Why) -> [u8; 36]
+    ensures { result ≡ word_bytes (why_words why) }
 {
-    [
-        (why.rose % TO_16) as u16,
-        (why.rose / TO_16 % TO_16) as u16,
-        (why.rose / TO_32 % TO_16) as u16,
-        (why.rose / TO_48 % TO_16) as u16,
-        (why.first % TO_16) as u16,
-        (why.first / TO_16 % TO_16) as u16,
-        (why.first / TO_32 % TO_16) as u16,
-        (why.first / TO_48 % TO_16) as u16,
-        (why.cause % HALF) as u16,
-        (why.cause / HALF) as u16,
-        (why.many % HALF) as u16,
-        (why.many / HALF) as u16,
-        (why.limit % HALF) as u16,
-        (why.limit / HALF) as u16,
-        (why.input % HALF) as u16,
-        (why.input / HALF) as u16,
-        (why.value % HALF) as u16,
-        (why.value / HALF) as u16,
-    ]
+    let mut row = [0; 36];
+    row[..8].copy_from_slice(&why.rose.to_le_bytes());
+    row[8..16].copy_from_slice(&why.first.to_le_bytes());
+    row[16..20].copy_from_slice(&why.cause.to_le_bytes());
+    row[20..24].copy_from_slice(&why.many.to_le_bytes());
+    row[24..28].copy_from_slice(&why.limit.to_le_bytes());
+    row[28..32].copy_from_slice(&why.input.to_le_bytes());
+    row[32..].copy_from_slice(&why.value.to_le_bytes());
+    row
 }
 
-pub fn off_words(since: u64, held: u8) -> [u16; 6]
-    ensures { result ≡ off_words since held }
+pub fn off_row(since: u64, held: u8) -> [u8; 12]
+    ensures { result ≡ word_bytes (off_words since held) }
 {
-    [
-        (since % TO_16) as u16,
-        (since / TO_16 % TO_16) as u16,
-        (since / TO_32 % TO_16) as u16,
-        (since / TO_48 % TO_16) as u16,
-        held as u16,
-        0,
-    ]
+    let mut row = [0; 12];
+    row[..8].copy_from_slice(&since.to_le_bytes());
+    row[8] = held;
+    row
 }
