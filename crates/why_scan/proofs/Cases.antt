@@ -1,42 +1,58 @@
--- What a scan says, by the parts of the code. Assumes nothing.
-use mathlib.Core.Path.{◌≡◌, sym, ap, ap₂, ◌∙◌}
-use mathlib.Core.Bool.{Bool, true, false, ◌&&◌, cond}
-use mathlib.Core.List.{List, [], ◌∷◌, ◌++◌}
-use Prim.Native.Nat.{ℕ, suc, ◌+◌, ◌-◌, ◌<◌}
-use native.Mathlib.Omega.{arith}
-use native.Mathlib.Numerals.{add-one}
-use lib.Dec.{eqb, ltb}
-use lib.ListN.{length, take, get_or}
-use lib.Seq.{take-suc, length-take-le}
-use borrow.Author.Tests.{ne_eqb}
+-- The lowest input outside is the place of the first count that is outside, and one. Assumes nothing.
+use Rattle.std.proofs.Common.{◌≡◌, ◌∙◌, sym, ap, refl, Bool, true, false, ltb, List, [], ◌∷◌, ℕ, zero, suc, ◌+◌, ◌-◌, ◌<◌, length, get_or, take, min, arith, lt-ltb}
+use Rattle.std.proofs.lemmas.List.{take_min}
+use Rattle.std.specs.List.{AllWithin, HoldsAt}
 use Rattle.why_scan.specs.Scan.{lowest, says_at, says_scan}
 
--- ── the lowest, one count more ──
-lowest_snoc : (p : ℕ → Bool) (k : ℕ) (xs : List ℕ) (x : ℕ)
-    → lowest p (suc k) (xs ++ x ∷ []) ≡ cond (eqb (lowest p (suc k) xs) 0 && p x) (suc k + length xs) (lowest p (suc k) xs)
-lowest_snoc p k [] x = let e : suc k ≡ suc k + 0 = omega arith in ap (λ (n : ℕ). cond (p x) n 0) e
-lowest_snoc p k (y ∷ ys) x = by (p y) (lowest_snoc p (suc k) ys x)
-  where
-    far : suc (suc k) + length ys ≡ suc k + length (y ∷ ys)
-    far = omega arith
+-- what one test tells of a count, where it is one
+abbrev pub Tells : (ℕ → Bool) → Bool → ℕ → Type 0
+Tells such t x = x < 65536 → such x ≡ t
 
-    by : (t : Bool)
-        → lowest p (suc (suc k)) (ys ++ x ∷ []) ≡ cond (eqb (lowest p (suc (suc k)) ys) 0 && p x) (suc (suc k) + length ys) (lowest p (suc (suc k)) ys)
-        → cond t (suc k) (lowest p (suc (suc k)) (ys ++ x ∷ []))
-        ≡ cond (eqb (cond t (suc k) (lowest p (suc (suc k)) ys)) 0 && p x) (suc k + length (y ∷ ys)) (cond t (suc k) (lowest p (suc (suc k)) ys))
-    by true ih = simp (ne_eqb (suc k) 0 (λ z. omega (arith, z)))
-    by false ih = ih ∙ ap (λ (n : ℕ). cond (eqb (lowest p (suc (suc k)) ys) 0 && p x) n (lowest p (suc (suc k)) ys)) far
+abbrev Small : List ℕ → Type 0
+Small xs = (i : ℕ) → get_or xs i 0 < 65536
 
-pub lowest_next : {found new : ℕ} {such : Bool} (p : ℕ → Bool) (xs : List ℕ) (i : ℕ) → i < length xs → found ≡ lowest p 1 (take i xs) → such ≡ p (get_or xs i 0)
-    → new ≡ cond (eqb found 0 && such) (i + 1) found → new ≡ lowest p 1 (take (i + 1) xs)
-lowest_next p xs i h e s q =
-    let n : i + 1 ≡ 1 + length (take i xs) = omega (arith, length-take-le i xs (omega arith)) in
-    q ∙ ap₂ (λ (f : ℕ) (b : Bool). cond (eqb f 0 && b) (i + 1) f) e s
-    ∙ ap (λ (n : ℕ). cond (eqb (lowest p 1 (take i xs)) 0 && p (get_or xs i 0)) n (lowest p 1 (take i xs))) n
-    ∙ sym (lowest_snoc p 0 (take i xs) (get_or xs i 0)) ∙ ap (lowest p 1) (sym (take-suc xs i 0 h) ∙ ap (λ (k : ℕ). take k xs) (sym (add-one i)))
+pub small_front : (m : ℕ) (xs : List ℕ) → Small xs → Small (take m xs)
+small_front zero xs h i = omega arith
+small_front (suc m) [] h i = h i
+small_front (suc m) (x ∷ xs) h zero = h 0
+small_front (suc m) (x ∷ xs) h (suc i) = small_front m xs (λ j. h (suc j)) i
 
--- ── a scan ──
-pub scan_is : {i x : ℕ} (on : Bool) (p : ℕ → Bool) (xs : List ℕ) → i ≡ lowest p 1 xs → x ≡ cond (ltb 0 i) (get_or xs (i - 1) 0) 0
-    → record { many = 1; verdict = on && ltb 0 i; input = i; value = x; pin = false } ≡ says_scan on p xs
-unfolding says_scan
-scan_is {i} on p xs e q = (λ j. record { many = 1; verdict = on && ltb 0 i; input = i; value = q j; pin = false }) ∙ ap (λ (i : ℕ). says_at on i xs) e
+lowest_first : (such : ℕ → Bool) (k i : ℕ) (xs : List ℕ) → i < length xs → such (get_or xs i 0) ≡ true → ((j : ℕ) → j < i → such (get_or xs j 0) ≡ false)
+    → lowest such k xs ≡ k + i
+lowest_first such k i [] h s n = absurd (omega arith)
+lowest_first such k zero (x ∷ xs) h s n = rw s (omega arith)
+lowest_first such k (suc i) (x ∷ xs) h s n = rw (n 0 (omega arith)) (lowest_first such (suc k) i xs (omega arith) s (λ j l. n (suc j) (omega arith)) ∙ omega arith)
+
+lowest_none : (such : ℕ → Bool) (k : ℕ) (xs : List ℕ) → ((j : ℕ) → j < length xs → such (get_or xs j 0) ≡ false) → lowest such k xs ≡ 0
+lowest_none such k [] n = refl
+lowest_none such k (x ∷ xs) n = rw (n 0 (omega arith)) (lowest_none such (suc k) xs (λ j l. n (suc j) (omega arith)))
+
+pub such_counts : (n m : ℕ) (xs : List ℕ) → length xs ≡ 15 → m ≡ min n 15 → take m xs ≡ take n xs
+such_counts n m xs h e = ap (λ (m : ℕ). take m xs) (e ∙ ap (min n) (sym h)) ∙ take_min n xs
+
+scan_at : (on : Bool) (such : ℕ → Bool) (xs : List ℕ) (i : ℕ) → lowest such 1 xs ≡ i → says_at on i xs ≡ says_scan on such xs
+scan_at on such xs i e = ap (λ (i : ℕ). says_at on i xs) (sym e)
+
+last_but_one : (i : ℕ) → i + 1 - 1 ≡ i
+last_but_one i = omega arith
+
+module _ (on : Bool) (such : ℕ → Bool) (xs ys : List ℕ) (e : ys ≡ xs) (small : Small ys) where
+  pub scan_found : (i x : ℕ) → i < length ys → HoldsAt (Tells such true) ys i → AllWithin (Tells such false) ys 0 i → x ≡ get_or ys i 0
+      → record { many = 1; verdict = on; input = i + 1; value = x; pin = false } ≡ says_scan on such xs
+  scan_found i x l h n v =
+      let q : lowest such 1 ys ≡ i + 1 = lowest_first such 1 i ys l (h 0 (small i)) (λ j m. n j 0 (omega arith) m (small j)) ∙ omega arith in
+      let z : ltb 0 (i + 1) ≡ true = lt-ltb 0 (i + 1) (omega arith) in
+      by on v z ∙ scan_at on such ys (i + 1) q ∙ ap (says_scan on such) e
+    where
+      by : (t : Bool) → x ≡ get_or ys i 0 → ltb 0 (i + 1) ≡ true → record { many = 1; verdict = t; input = i + 1; value = x; pin = false } ≡ says_at t (i + 1) ys
+      by true v z = rw v (simp (z, last_but_one i))
+      by false v z = rw v (simp (z, last_but_one i))
+
+  pub scan_none : AllWithin (Tells such false) ys 0 (length ys) → record { many = 1; verdict = false; input = 0; value = 0; pin = false } ≡ says_scan on such xs
+  scan_none n =
+      let q : lowest such 1 ys ≡ 0 = lowest_none such 1 ys (λ j m. n j 0 (omega arith) m (small j)) in
+      by on ∙ scan_at on such ys 0 q ∙ ap (says_scan on such) e
+    where
+      by : (t : Bool) → record { many = 1; verdict = false; input = 0; value = 0; pin = false } ≡ says_at t 0 ys
+      by true = refl
+      by false = refl

@@ -19,5 +19,5 @@ says_none = record { many = 0; verdict = false; input = 0; value = 0; pin = fals
 abbrev pub says_at : Bool → ℕ → List ℕ → Says
 says_at on i xs = record { many = 1; verdict = on && ltb 0 i; input = i; value = cond (ltb 0 i) (get_or xs (i - 1) 0) 0; pin = false }
 
-unfoldable pub says_scan : Bool → (ℕ → Bool) → List ℕ → Says
+abbrev pub says_scan : Bool → (ℕ → Bool) → List ℕ → Says
 says_scan on such xs = says_at on (lowest such 1 xs) xs
