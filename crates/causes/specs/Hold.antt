@@ -1,5 +1,5 @@
 -- CHIP P18: the bits of SYS_STAT that hold a drive off. Assumes nothing.
-use Rattle.std.specs.Prelude.{Bool, cond, ◌||◌, ℕ, ◌+◌, eqb}
+use Rattle.std.specs.Prelude.{Bool, cond, ◌||◌, ℕ, ◌+◌, eqb, Option, Some, None}
 use Rattle.constants.specs.Weight.{OV, UV, SCD, OCD, XREADY, OVRD_ALERT, PIN_CHG, PIN_DSG}
 use Rattle.bits.specs.Bit.{bit, weighed}
 
@@ -14,3 +14,6 @@ held_by stat d =
 
 abbrev pub is_drive : ℕ → Bool
 is_drive d = eqb d PIN_DSG || eqb d PIN_CHG
+
+abbrev pub drive_of : ℕ → Option ℕ
+drive_of d = cond (is_drive d) (Some d) None

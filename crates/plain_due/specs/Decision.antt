@@ -1,11 +1,11 @@
 -- CHIP J9, J10, H1 and H2 as the plain engine decides: a scan or tick raises the bit of a fault where it says yes by the settings that
 -- stand, and is, with those in a row before it that said yes, as many as the delay asks for. No run is kept. Assumes nothing.
 use Rattle.std.specs.Prelude.{Bool, false, ◌&&◌, ℕ, ◌+◌, leb, ℤ}
-use Rattle.events.specs.declared.Faults.{Faults}
-use Rattle.events.specs.Fault.{Ov, Uv, Scd, Ocd}
+use Rattle.events.specs.Fault.{Faults}
+use Rattle.events.specs.declared.Fault.TheVariants.{Ov, Uv, Scd, Ocd}
 use Rattle.settings.specs.declared.Settings.{Settings}
 use Rattle.limits.specs.Rule.{rule, beyond}
-use Rattle.plain_due.specs.declared.Streaks.{Streaks}
+use Rattle.plain_due.specs.Streaks.{Streaks}
 
 -- these scans or ticks say yes, and with those in a row before they are as many as are asked for
 abbrev pub due : Bool → ℕ → ℕ → ℕ → Bool
