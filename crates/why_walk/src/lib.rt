@@ -1,15 +1,15 @@
 // CHIP P17: what each record of a stream says of a bit of SYS_STAT, and where a stream stands between two of its records.
 #![tactic(auto)]
 
-ghost use Rattle.std.specs.Prelude.{◌≡◌, cond, ◌+◌, ◌≤◌, ◌<◌, ◌^◌, length, take};
+ghost use Rattle.std.specs.Prelude.{◌≡◌, ◌≤◌, ◌<◌, ◌^◌, length, take};
 ghost use Rattle.events.specs.Setup.{inputs};
-ghost use Rattle.why_walk.specs.Says.{scan_says, ticks_say, event_says, says_in, streak_after};
+ghost use Rattle.limits.specs.Rule.{rule, beyond};
+ghost use Rattle.why_walk.specs.Says.{says_ticks, scan_says, ticks_say, event_says, says_in, streak_after};
 ghost use Rattle.why_walk.specs.Standing.{begun, advanced};
 
-use bits::bytes::bits_of;
 use chip::Chip;
-use constants::weight;
-use events::{Counts, Event};
+use constants::{size, weight};
+use events::{Counts, Event, Fault};
 use records::Read;
 use why_scan::Says;
 
@@ -26,118 +26,106 @@ pub struct Standing {
 }
 
 // What a SCAN says of OV and UV.
+#[tactic(auto, unfolding(crate::specs::Says::scan_says, limits::specs::Rule::rule))]
 fn scan_says(chip: Chip, counts: [u16; 15], bit: u8) -> Says
     ensures { result ≡ scan_says bit chip (take (inputs chip.setup) counts) }
 {
-    let setup = chip.setup;
     let s = chip.registers.settings;
-    if bit == weight::OV {
-        let line = limits::over_line(s);
-        return why_scan::scan_of(counts, setup.inputs(), s.adc_en, true, setup.floor, line);
+    let inputs = chip.setup.inputs();
+    match bit {
+        weight::OV => {
+            let line = limits::over_line(s);
+            why_scan::scan_of(&counts, inputs, s.adc_en, |x| line < x)
+        }
+        weight::UV => {
+            let floor = chip.setup.floor;
+            let line = limits::under_line(s);
+            why_scan::scan_of(&counts, inputs, s.adc_en, |x| (floor..line).contains(&x))
+        }
+        _ => Says::default(),
     }
-    if bit == weight::UV {
-        let line = limits::under_line(s);
-        return why_scan::scan_of(counts, setup.inputs(), s.adc_en, false, setup.floor, line);
+}
+
+// What ticks of one value say of a fault.
+#[tactic(auto, unfolding(bits::specs::Numbers::bits32))]
+fn ticks_of(chip: Chip, fault: Fault, value: i32, many: u32) -> Says
+    ensures { result ≡ says_ticks (beyond (rule fault chip.registers.settings) value) value many }
+{
+    Says {
+        many,
+        verdict: limits::rule_of(chip.registers.settings, fault).beyond(value),
+        value: value.cast_unsigned(),
+        ..Says::default()
     }
-    why_scan::says_none()
 }
 
 // What ticks of one value say of SCD and OCD.
+#[tactic(auto, unfolding(crate::specs::Says::ticks_say))]
 fn ticks_say(chip: Chip, value: i32, many: u32, bit: u8) -> Says
     ensures { result ≡ ticks_say bit chip value many }
 {
-    let s = chip.registers.settings;
-    let none = why_scan::says_none();
-    if bit == weight::SCD {
-        let verdict = limits::beyond_scd(s, value);
-        let value = bits_of(value);
-        return Says {
-            many,
-            verdict,
-            value,
-            ..none
-        };
+    match bit {
+        weight::SCD => ticks_of(chip, Fault::Scd, value, many),
+        weight::OCD => ticks_of(chip, Fault::Ocd, value, many),
+        _ => Says::default(),
     }
-    if bit == weight::OCD {
-        let verdict = limits::beyond_ocd(s, value);
-        let value = bits_of(value);
-        return Says {
-            many,
-            verdict,
-            value,
-            ..none
-        };
-    }
-    none
 }
 
 // What a record says that was read, by the chip that stands when it comes.
+#[tactic(auto, unfolding(crate::specs::Says::event_says))]
 fn event_says(chip: Chip, event: Event, counts: Counts, bit: u8) -> Says
     ensures { result ≡ event_says bit chip event counts }
 {
     match event {
-        Event::Scan => {
-            let of = counts.of;
-            scan_says(chip, of, bit)
-        }
+        Event::Scan => scan_says(chip, counts.of, bit),
         Event::Sense(value) => ticks_say(chip, value, 1, bit),
-        Event::Ticks(value, repeat) => ticks_say(chip, value, repeat as u32, bit),
-        Event::Soak(value, repeat) => ticks_say(chip, value, repeat, bit),
-        Event::Pin => {
-            let none = why_scan::says_none();
-            Says { pin: true, ..none }
-        }
-        Event::Setup(_)
-        | Event::Por
-        | Event::Boot
-        | Event::Temp
-        | Event::Count(_)
-        | Event::Load(_)
-        | Event::Xready
-        | Event::OnBus(_)
-        | Event::Level(_)
-        | Event::Wires(_) => why_scan::says_none(),
+        Event::Ticks(value, n) => ticks_say(chip, value, u32::from(n), bit),
+        Event::Soak(value, n) => ticks_say(chip, value, n, bit),
+        Event::Pin => Says {
+            pin: true,
+            ..Says::default()
+        },
+        _ => Says::default(),
     }
 }
 
 // What the record says which the rest begins with; a refused one says nothing.
+#[tactic(auto, unfolding(crate::specs::Says::says_in))]
 pub fn said_by(chip: Chip, rest: &[u8], bit: u8) -> Says
     ensures { result ≡ says_in bit chip rest.now }
 {
     match records::read_rest(rest, chip.setup.part) {
-        Read::Cut => why_scan::says_none(),
-        Read::Refused { number: _, next: _ } => why_scan::says_none(),
         Read::Record { event, next } => {
-            let counts = records::counts_in(event, &rest[4..next]);
+            let counts = records::counts_in(event, &rest[size::HEADER..next]);
             event_says(chip, event, counts, bit)
         }
+        _ => Says::default(),
     }
 }
 
 // The streak after a record; where the chip is in SHIP after it, none.
+#[tactic(auto, unfolding(crate::specs::Says::streak_after))]
 fn streak_after(said: Says, normal: bool, streak: u64) -> u64
     requires { streak < 2 ^ 63 }
     ensures { result ≡ streak_after said normal streak }
 {
     if !normal {
-        return 0;
+        0
+    } else if said.many == 0 {
+        streak
+    } else if said.verdict {
+        streak + u64::from(said.many)
+    } else {
+        0
     }
-    if said.many == 0 {
-        return streak;
-    }
-    if said.verdict {
-        return streak + said.many as u64;
-    }
-    0
 }
 
 // Before the first record.
 pub fn begun() -> Standing
     ensures { result ≡ begun }
 {
-    let chip = turn::no_chip();
     Standing {
-        chip,
+        chip: turn::no_chip(),
         fresh: false,
         at: 0,
         streak: 0,
@@ -146,33 +134,24 @@ pub fn begun() -> Standing
     }
 }
 
-fn place_after(at: usize, next: usize, last: bool, end: usize) -> usize
-    requires { at + next < 2 ^ 64 }
-    ensures { result ≡ cond last end (at + next) }
-{
-    if last {
-        return end;
-    }
-    at + next
-}
-
 // Past the record at which a stream stands; at its end it stays there.
+#[tactic(auto, unfolding(crate::specs::Standing::advanced))]
 pub fn advance(s: &[u8], from: Standing, bit: u8) -> Standing
     requires { (from.at ≤ length s.now) × (from.streak < 2 ^ 63) }
     ensures { result ≡ advanced s.now bit from }
 {
-    let start = from.at;
-    let rest = &s[start..];
+    let rest = &s[from.at..];
     let said = said_by(from.chip, rest, bit);
     let turned = turn::turn(from.chip, from.fresh, rest);
-    let chip = turned.chip;
-    let streak = streak_after(said, chip.normal, from.streak);
-    let at = place_after(start, turned.next, turned.last, s.len());
     Standing {
-        chip,
+        chip: turned.chip,
         fresh: turned.fresh,
-        at,
-        streak,
+        at: if turned.last {
+            s.len()
+        } else {
+            from.at + turned.next
+        },
+        streak: streak_after(said, turned.chip.normal, from.streak),
         stat: turned.entry.stat,
         pins: turned.entry.pins,
     }

@@ -1,14 +1,11 @@
--- Of OV, of UV, and of another bit.
-use Rattle.std.proofs.Common.{refl, take}
-use Rattle.events.specs.Setup.{inputs}
-use Rattle.why_walk.proofs.Cases.{scan_ov, scan_uv, scan_none}
+-- Of UV: between the floor and the line.
+use Rattle.std.proofs.Common.{false, rules}
+use borrow.Author.Tests.{tests}
+use Rattle.why_scan.specs.Scan.{is_outside}
+use Rattle.why_walk.proofs.Cases.{scan_uv}
 use Rattle.why_walk.proofs.scan_says.Goals as goal
 
-pub returns-then-bit-eq-OV : goal.returns-then-bit-eq-OV
-returns-then-bit-eq-OV c = scan_ov c.args.bit c.args.chip (take (inputs c.args.chip.setup) c.args.counts) c.args.counts c.if-bit-eq-OV.true refl c.inputs.ensures c.over_line-line.ensures c.scan_of.ensures
-
-pub returns-then-bit-eq-UV : goal.returns-then-bit-eq-UV
-returns-then-bit-eq-UV c = scan_uv c.args.bit c.args.chip (take (inputs c.args.chip.setup) c.args.counts) c.args.counts c.if-bit-eq-OV.false c.if-bit-eq-UV.true refl c.inputs-then-bit-eq-UV.ensures c.under_line-line.ensures c.scan_of-then-bit-eq-UV.ensures
-
-pub returns : goal.returns
-returns c = scan_none c.args.bit c.args.chip (take (inputs c.args.chip.setup) c.args.counts) c.if-bit-eq-OV.false c.if-bit-eq-UV.false c.says_none.ensures
+pub returns-in-8 : goal.returns-in-8
+returns-in-8 c =
+    scan_uv c.args.bit c.args.chip c.args.counts c.in-8.is c.inputs-inputs.ensures c.under_line-line.ensures
+    (c.scan_of-in-8.ensures (is_outside false c.args.chip.setup.floor c.under_line-line.result) (λ x t l p. search (rules, tests)))
