@@ -3,11 +3,12 @@ use mathlib.Core.Path.{◌≡◌, refl, sym, ap, subst, ◌∙◌}
 use mathlib.Core.Bool.{Bool, true, false, ◌&&◌, cond, true≢false}
 use mathlib.Core.Logic.{⊎_elim}
 use mathlib.Core.List.{List, [], ◌∷◌}
-use Prim.Native.Nat.{ℕ, zero, suc, ◌+◌, ◌-◌, ◌*◌, ◌≤◌, ◌<◌}
+use Prim.Native.Nat.{ℕ, zero, suc, ◌+◌, ◌-◌, ◌*◌, ◌≤◌, ◌<◌, ◌^◌}
 use native.Mathlib.Omega.{arith}
 use native.Mathlib.Nat.{not-suc-le-zero}
 use lib.IntN.{ℤ}
 use lib.Dec.{leb}
+use Rattle.std.specs.Prelude.{Option, Some, None}
 use lib.ListN.{length, take, drop, length-drop, drop_of_length-le}
 use lib.Seq.{drop-drop}
 use borrow.Author.Tests.{leb-true}
@@ -29,7 +30,7 @@ use Rattle.bits.specs.BoolLaws.{and_right}
 use Rattle.records.specs.SoundLaws.{first_setup, IsSetup, Meaning, is_wires, wires_by, later_means}
 use Rattle.chip.specs.declared.Chip.{Chip}
 use Rattle.chip.specs.Chip.{in_ship, stepped_by}
-use Rattle.events.specs.Fault.{Ov, Uv, Scd, Ocd}
+use Rattle.events.specs.declared.Fault.TheVariants.{Ov, Uv, Scd, Ocd}
 use Rattle.protection.specs.Streak.{streak}
 use Rattle.limits.specs.Rule.{rule, over, under, beyond}
 use Rattle.turn.proofs.Runs.{rest_is}
@@ -37,13 +38,13 @@ use Rattle.demands.specs.Demand.{verdicts}
 use Rattle.demands.specs.Aside.{with_meant}
 use Rattle.demands.specs.Streams.{rest_after, heard_next, heard_by, heard}
 use Rattle.demands.proofs.Streams.{a_part}
-use Rattle.plain_due.specs.declared.Streaks.{Streaks}
+use Rattle.plain_due.specs.Streaks.{Streaks}
 use Rattle.plain_back.specs.declared.Walk.{Walk}
 use Rattle.plain_back.specs.declared.Passed.{Passed}
 use Rattle.plain_due.specs.Streaks.{streaks_of, no_streaks}
 use Rattle.plain_back.specs.Said.{verdicts_after, verdicts_in, streaks_in}
 use Rattle.plain_back.specs.Moved.{moved_by}
-use Rattle.plain_back.specs.Walk.{goes_on, scan_in, ticks_in, scan_said, ticks_said, walked_by, passed, passed_on, Tracks, tracks_none}
+use Rattle.plain_back.specs.Walk.{Small, goes_on, scan_in, ticks_in, scan_said, ticks_said, walked_by, passed, passed_on, Tracks, tracks_none}
 use Rattle.plain_back.specs.Walk.{tracks_walked}
 
 -- ── no streak outgrows the bytes: a record has four at least, and 16,777,216 ticks at most ──
@@ -219,7 +220,7 @@ module _ (s : List ℕ) (next : ℕ) (w : Walk) (at : ℕ) (g : Walking s next w
   walking_end h =
       ended (g.whole ∙ ap (λ (l : List ℕ). heard_by g.setup (length s - 1 - g.steps) l g.past) (drop_of_length-le s h) ∙ heard_nil g.setup (length s - 1 - g.steps) g.past)
 
-  module _ (h : at < length s) (p : Passed) (q : p ≡ passed_on (take (length s - at) (drop at s)) w) where
+  module _ (h : at < length s) (p : Option Passed) (q : p ≡ passed_on (take (length s - at) (drop at s)) w) where
     abbrev rest : List ℕ
     rest = drop at s
 
@@ -238,34 +239,34 @@ module _ (s : List ℕ) (next : ℕ) (w : Walk) (at : ℕ) (g : Walking s next w
         g.whole ∙ ap (λ (f : ℕ). heard_by g.setup f rest g.past) fuel
         ∙ heard_cons g.setup (length s - 1 - (g.steps + 1)) rest g.past (simp length-drop (omega arith))
 
+    -- what it comes to: the end of what is whole, or the walk one record on
+    abbrev Outcome : Option Passed → Type 0
+    Outcome None = w.said ≡ streaks_in s
+    Outcome (Some p) = Walking s next p.walk (at + p.next) × (4 ≤ p.next) × (at + p.next ≤ length s)
+
     -- by what was read
     abbrev Goes : Read → Type 0
     Goes x = p ≡ passed rest w x → heard g.setup next s ≡ heard_by g.setup (length s - 1 - (g.steps + 1)) (rest_after rest x) (heard_next g.setup rest x g.past)
-        → Placed (length rest) x → read_of g.setup.part rest ≡ x → (p.next ≡ 0 → w.said ≡ streaks_in s) × ((p.next ≡ 0 → ⊥) → Walking s next p.walk (at + p.next) × (4 ≤ p.next) × (at + p.next ≤ length s))
+        → Placed (length rest) x → read_of g.setup.part rest ≡ x → Outcome p
 
-    go_on : (n : ℕ) (v : Walk) (past : List Event) → p ≡ record { walk = v; next = n } → 4 ≤ n → n ≤ length rest → Tracks g.setup v past → Below (more * at + more) v.said
-        → heard g.setup next s ≡ heard_by g.setup (length s - 1 - (g.steps + 1)) (drop n rest) past
-        → (p.next ≡ 0 → w.said ≡ streaks_in s) × ((p.next ≡ 0 → ⊥) → Walking s next p.walk (at + p.next) × (4 ≤ p.next) × (at + p.next ≤ length s))
+    go_on : (n : ℕ) (v : Walk) (past : List Event) → p ≡ Some (record { walk = v; next = n }) → 4 ≤ n → n ≤ length rest → Tracks g.setup v past → Below (more * at + more) v.said
+        → heard g.setup next s ≡ heard_by g.setup (length s - 1 - (g.steps + 1)) (drop n rest) past → Outcome p
     go_on n v past e a b t m l =
         let i : n ≤ length s - at = subst (λ (k : ℕ). n ≤ k) (length-drop at s) b in
-        let j : p.next ≡ n = ap (λ (p : Passed). p.next) e in (
-          λ z. absurd (omega (arith, j, z)),
-          λ z. (
-            subst (λ (p : Passed). Walking s next p.walk (at + p.next)) (sym e)
-                record {
-                  setup = g.setup;
-                  first = g.first;
-                  past = past;
-                  tracks = t;
-                  steps = g.steps + 1;
-                  whole = l ∙ ap (λ (r : List ℕ). heard_by g.setup (length s - 1 - (g.steps + 1)) r past) (drop-drop n at s);
-                  slow = omega (arith, g.slow);
-                  inside = omega arith;
-                  below = below_more (more * at + more) (more * (at + n)) v.said (omega arith) m;
-                },
-            omega (arith, j),
-            omega (arith, j),
-          ),
+        subst Outcome (sym e) (
+          record {
+            setup = g.setup;
+            first = g.first;
+            past = past;
+            tracks = t;
+            steps = g.steps + 1;
+            whole = l ∙ ap (λ (r : List ℕ). heard_by g.setup (length s - 1 - (g.steps + 1)) r past) (drop-drop n at s);
+            slow = omega (arith, g.slow);
+            inside = omega arith;
+            below = below_more (more * at + more) (more * (at + n)) v.said (omega arith) m;
+          },
+          a,
+          omega arith,
         )
 
     goes : (x : Read) → Goes x
@@ -283,20 +284,24 @@ module _ (s : List ℕ) (next : ℕ) (w : Walk) (at : ℕ) (g : Walking s next w
             let m : Meaning g.setup e k = later_means g.setup rest e n (a_part s g.setup next g.first) b i in
             go_on n (walked_by e k w) (with_meant g.setup (meant_of g.setup e k) g.past) z a.0 a.1 (tracks_walked g.setup g.past w g.tracks e k m)
             (walked_below g.setup e k (more * at) w m g.below) l
-    goes (Refused k n) = λ z l a b. go_on n w g.past z a.0 a.1 g.tracks (below_more (more * at) (more * at + more) w.said (omega arith) g.below) l
-    goes Cut = λ z l a b. (
-      λ y. ended (l ∙ heard_nil g.setup (length s - 1 - (g.steps + 1)) g.past),
-      λ y. absurd (y (ap (λ (p : Passed). p.next) z)),
-    )
+    goes (Refused why n) = λ z l a b. go_on n w g.past z a.0 a.1 g.tracks (below_more (more * at) (more * at + more) w.said (omega arith) g.below) l
+    goes Cut = λ z l a b. subst Outcome (sym z) (ended (l ∙ heard_nil g.setup (length s - 1 - (g.steps + 1)) g.past))
 
-    went : (p.next ≡ 0 → w.said ≡ streaks_in s) × ((p.next ≡ 0 → ⊥) → Walking s next p.walk (at + p.next) × (4 ≤ p.next) × (at + p.next ≤ length s))
+    went : Outcome p
     went = goes (read_of g.setup.part rest) read_as step (placed g.setup.part rest) refl
 
-    pub walking_cut : p.next ≡ 0 → w.said ≡ streaks_in s
-    walking_cut = went.0
+    pub walking_cut : p ≡ None → w.said ≡ streaks_in s
+    walking_cut e = subst Outcome e went
 
-    pub walking_more : (p.next ≡ 0 → ⊥) → Walking s next p.walk (at + p.next)
-    walking_more z = (went.1 z).0
+    pub walking_more : (t : Passed) → p ≡ Some t → Walking s next t.walk (at + t.next) × (4 ≤ t.next) × (at + t.next ≤ length s)
+    walking_more t e = subst Outcome e went
 
-    pub walking_place : (p.next ≡ 0 → ⊥) → (4 ≤ p.next) × (at + p.next ≤ length s)
-    walking_place z = ((went.1 z).1, (went.1 z).2)
+-- ── what the walk carries is small: at most 65,536 bytes ──
+pub small : (s : List ℕ) (next : ℕ) (w : Walk) (at : ℕ) → Walking s next w at → length s ≤ 65536 → Small w.said
+small s next w at g h = below_more (more * at) (2 ^ 40) w.said (omega (arith, g.inside, h)) g.below
+
+-- ── a tick passed in place ──
+pub tick_passes : (r : List ℕ) (w : Walk) (v : ℤ) (n : ℕ) → read_of w.chip.setup.part r ≡ Record (Sense v) n
+    → Some (record { walk = record { chip = w.chip; said = ticks_said w.chip v 1 w.said }; next = n }) ≡ passed_on r w
+unfolding passed_on walked_by
+tick_passes r w v n q = sym (ap (passed r w) q)

@@ -1,13 +1,12 @@
 -- CHIP P11: what the records lent so far say of a fault, by themselves: the verdicts of the waking spell in which they end, each by
 -- the settings that stood when its scan or tick came, and how many of the newest are true. No run is kept. Assumes nothing.
-use Rattle.std.specs.Prelude.{◌≡◌, refl, Bool, cond, List, [], ℕ, leb, length}
-use Rattle.std.proofs.Common.{sym, ap, ◌∙◌}
+use Rattle.std.specs.Prelude.{◌≡◌, refl, Bool, cond, List, [], ℕ, leb, length, Result}
 use Rattle.constants.specs.Range.{STREAM_MOST}
 use Rattle.events.specs.declared.Setup.{Setup as SetupValues}
 use Rattle.events.specs.declared.Event.{Event as Coded}
 use Rattle.events.specs.declared.Event.TheVariants.{Setup, Por, Boot, Scan, Temp, Count, Sense, Pin, Load, Xready, OnBus, Level, Ticks}
 use Rattle.events.specs.declared.Event.TheVariants.{Soak, Wires}
-use Rattle.events.specs.Fault.{Fault}
+use Rattle.events.specs.declared.Fault.{Fault}
 use Rattle.records.specs.declared.Read.{Read}
 use Rattle.records.specs.declared.Read.TheVariants.{Record, Refused, Cut}
 use Rattle.events.specs.Setup.{standing}
@@ -16,10 +15,10 @@ use Rattle.constants.specs.Answer.{Said, gives, refuses}
 use Rattle.protection.specs.Streak.{streak}
 use Rattle.demands.specs.Demand.{verdicts}
 use Rattle.demands.specs.Streams.{heard}
-use Rattle.plain_due.specs.declared.Streaks.{Streaks}
-use Rattle.plain_due.specs.Streaks.{streaks_of}
-use Rattle.plain_back.specs.declared.Back.{Back}
-use Rattle.plain_back.specs.declared.Back.TheVariants.{Is, TooLong}
+use Rattle.plain_due.specs.Streaks.{Streaks, streaks_of}
+use Rattle.constants.specs.declared.refusal.Refusal.{Refusal}
+use Rattle.constants.specs.Refusal.{said_of}
+use Rattle.constants.proofs.RefusalLaws.{same_said}
 
 -- the setup of the first record; where it is no SETUP no chip stands
 abbrev pub setup_read : Coded → SetupValues
@@ -59,21 +58,12 @@ most = STREAM_MOST
 abbrev pub too_long : ℕ
 too_long = 24
 
-abbrev pub said_back : Back → Said Streaks
-said_back (Is w) = gives w
-said_back TooLong = refuses too_long
+abbrev pub said_back : Result Streaks Refusal → Said Streaks
+said_back a = said_of (λ w. w) a
 
 abbrev pub back_said : List ℕ → Said Streaks
 back_said s = cond (leb (length s) most) (gives (streaks_in s)) (refuses too_long)
 
 -- what is said loses nothing: two answers that say the same are the same
-abbrev back_of : Said Streaks → Back
-back_of (gives w) = Is w
-back_of (refuses n) = TooLong
-
-back_again : (a : Back) → back_of (said_back a) ≡ a
-back_again (Is w) = refl
-back_again TooLong = refl
-
-pub same_back : (a b : Back) → said_back a ≡ said_back b → a ≡ b
-same_back a b h = sym (back_again a) ∙ ap back_of h ∙ back_again b
+pub same_back : (a b : Result Streaks Refusal) → said_back a ≡ said_back b → a ≡ b
+same_back a b h = same_said (λ w. w) (λ w. w) (λ w. refl) a b h

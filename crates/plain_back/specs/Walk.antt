@@ -1,6 +1,6 @@
 -- The walk over the records: what it carries from one to the next, and that this is what the events heard so far say, with no run among
 -- it: the mode, the line and the settings move by the events alone, and each verdict by those. Assumes nothing.
-use Rattle.std.specs.Prelude.{◌≡◌, ◌&&◌, ℤ, take, replicate}
+use Rattle.std.specs.Prelude.{◌≡◌, ◌&&◌, ℤ, take, replicate, Option, Some, None}
 use Rattle.std.proofs.Math.Path.{refl, ap, subst}
 use Rattle.std.proofs.Common.{sym, ◌∙◌, true≢false, arith}
 use Rattle.std.proofs.Math.Bool.{Bool, true, false, cond}
@@ -18,7 +18,8 @@ use Rattle.events.specs.declared.Event.TheVariants.{Load as CodedLoad}
 use Rattle.events.specs.declared.Event.TheVariants.{OnBus as CodedOnBus, Level as CodedLevel, Ticks as CodedTicks, Soak as CodedSoak}
 use Rattle.events.specs.declared.Event.TheVariants.{Wires as CodedWires}
 use Rattle.events.specs.Setup.{inputs}
-use Rattle.events.specs.Fault.{Fault, Ov, Uv, Scd, Ocd}
+use Rattle.events.specs.declared.Fault.{Fault}
+use Rattle.events.specs.declared.Fault.TheVariants.{Ov, Uv, Scd, Ocd}
 use Rattle.events.specs.Event.{Event, Por, Boot, Pin, Xready, Scan, Count, Sense, Load, OnBus, Level, fits, sense_fits, ticks_fit, Meant}
 use Rattle.events.specs.Event.{means, ticks, unfit, event_of, meant_of, counts_fit, counts_wanted, in_range}
 use Rattle.records.specs.declared.Read.{Read}
@@ -28,21 +29,21 @@ use Rattle.bits.specs.BoolLaws.{and_left, and_right}
 use Rattle.records.specs.SoundLaws.{Meaning}
 use Rattle.settings.specs.declared.Settings.{Settings}
 use Rattle.protection.specs.Streak.{streak}
-use Rattle.limits.specs.Rule.{Rule, rule, over, under, beyond, opinion}
+use Rattle.limits.specs.declared.Rule.{Rule}
+use Rattle.limits.specs.Rule.{rule, over, under, beyond, opinion}
 use Rattle.chip.specs.declared.Chip.{Chip}
-use Rattle.chip.specs.declared.Stepped.{Stepped}
+use Rattle.chip.specs.Answer.{Stepped}
 use Rattle.chip.specs.Chip.{numbered, in_ship, settled, normally, asleep, happened, stepped, next, stepped_as, stepped_by}
 use Rattle.chip.specs.Core.{Core, core_of, bare, core_next}
 use Rattle.chip.proofs.MovesLaws.{setup-next}
 use Rattle.demands.specs.Demand.{core, standing, verdicts}
 use Rattle.demands.proofs.History.{asleep_none}
 use Rattle.demands.specs.Aside.{with_meant}
-use Rattle.plain_due.specs.declared.Streaks.{Streaks}
+use Rattle.plain_due.specs.Streaks.{Streaks}
 use Rattle.plain_back.specs.declared.Walk.{Walk}
 use Rattle.plain_back.specs.Moved.{moved_to, moved_by}
 use Rattle.plain_back.specs.declared.Passed.{Passed}
 use Rattle.plain_back.specs.declared.Tick.{Tick}
-use Rattle.plain_back.specs.declared.Tick.TheVariants.{Of, Not}
 use Rattle.plain_due.specs.Streaks.{streaks_of, no_streaks}
 
 -- ── what one record adds ──
@@ -100,18 +101,18 @@ walked_by (CodedSoak v n) k w = ticked_by v n w
 walked_by (CodedWires n) k w = w
 
 -- the record at the start of r
-abbrev pub passed : List ℕ → Walk → Read → Passed
-passed r w (Record e next) = record { walk = walked_by e (counts_beside r (Record e next)) w; next = next }
-passed r w (Refused k next) = record { walk = w; next = next }
-passed r w Cut = record { walk = w; next = 0 }
+abbrev pub passed : List ℕ → Walk → Read → Option Passed
+passed r w (Record e next) = Some (record { walk = walked_by e (counts_beside r (Record e next)) w; next = next })
+passed r w (Refused why next) = Some (record { walk = w; next = next })
+passed r w Cut = None
 
-unfoldable pub passed_on : List ℕ → Walk → Passed
+unfoldable pub passed_on : List ℕ → Walk → Option Passed
 passed_on r w = passed r w (read_of w.chip.setup.part r)
 
 -- a tick that the rest begins with
-abbrev pub TickIn : ℕ → List ℕ → Tick → Type 0
-TickIn part r (Of v next) = read_of part r ≡ Record (CodedSense v) next
-TickIn part r Not = Unit
+abbrev pub TickIn : ℕ → List ℕ → Option Tick → Type 0
+TickIn part r (Some t) = read_of part r ≡ Record (CodedSense t.value) t.next
+TickIn part r None = Unit
 
 -- room for one more
 abbrev pub Small : Streaks → Type 0

@@ -3,19 +3,19 @@
 // is done as the base engine does it, by `chip`.
 #![tactic(auto)]
 
-ghost use Rattle.std.specs.Prelude.{◌≡◌, cond, ◌≤◌, ◌^◌, length, take};
+ghost use Rattle.std.specs.Prelude.{◌≡◌, ◌≤◌, ◌^◌, length, take};
 ghost use Rattle.events.specs.Setup.{inputs};
 ghost use Rattle.chip.specs.Core.{core_of, bare};
-ghost use Rattle.plain_due.specs.Streaks.{no_streaks};
 ghost use Rattle.plain_back.specs.Moved.{moved_by};
 ghost use Rattle.plain_back.specs.Said.{streaks_in, said_back, back_said};
 ghost use Rattle.plain_back.specs.Walk.{Small, goes_on, scan_said, ticks_said, walked_by, passed_on, TickIn};
 
 use chip::Chip;
-use constants::{kind, range};
-use events::{Counts, Event, Setup};
+use constants::refusal::Refusal;
+use constants::{kind, range, size};
+use events::{Counts, Event, Fault, Setup};
 use plain_due::Streaks;
-use records::{Framed, Payload, Read};
+use records::{Header, Read};
 
 // What is carried from record to record: a chip that has its mode, the bus's line and the settings alone, and what was said so far.
 #[derive(Clone, Copy)]
@@ -24,21 +24,14 @@ pub struct Walk {
     pub said: Streaks,
 }
 
-#[derive(Clone, Copy)]
-pub enum Back {
-    Is(Streaks),
-    // Number 24: more than 65,536 bytes.
-    TooLong,
+// The value of a tick, and the place after it.
+#[derive(Clone, Copy, Debug, PartialEq, Eq)]
+pub struct Tick {
+    pub value: i32,
+    pub next: usize,
 }
 
-// The value of a tick and the place after it, or another record.
-#[derive(Clone, Copy)]
-pub enum Tick {
-    Of { value: i32, next: usize },
-    Not,
-}
-
-// A record passed, and the place after it; 0 for one that is cut short.
+// A record passed, and the place after it.
 #[derive(Clone, Copy)]
 pub struct Passed {
     pub walk: Walk,
@@ -50,10 +43,15 @@ fn go_on(verdict: bool, more: u32, streak: u64) -> u64
     requires { streak ≤ 2 ^ 40 }
     ensures { result ≡ goes_on verdict more streak }
 {
-    if verdict { streak + more as u64 } else { 0 }
+    if verdict {
+        streak + u64::from(more)
+    } else {
+        0
+    }
 }
 
 // A SCAN, by the settings that stand when it comes; in SHIP it says nothing.
+#[tactic(auto, unfolding(crate::specs::Walk::scan_said, limits::specs::Rule::rule, limits::specs::Rule::over, limits::specs::Rule::under, cell_counts::specs::Scan::looked_at))]
 fn scan_said(chip: Chip, counts: [u16; 15], said: Streaks) -> Streaks
     requires { Small said }
     ensures { result ≡ scan_said chip (take (inputs chip.setup) counts) said }
@@ -62,16 +60,22 @@ fn scan_said(chip: Chip, counts: [u16; 15], said: Streaks) -> Streaks
         return said;
     }
     let s = chip.registers.settings;
-    let over = limits::over_line(s);
-    let under = limits::under_line(s);
-    let setup = chip.setup;
-    let looked = cell_counts::look(counts, setup.inputs(), over, setup.floor, under);
-    let ov = go_on(s.adc_en & looked.over, 1, said.ov);
-    let uv = go_on(s.adc_en & looked.under, 1, said.uv);
-    Streaks { ov, uv, ..said }
+    let looked = cell_counts::look(
+        counts,
+        chip.setup.inputs(),
+        limits::over_line(s),
+        chip.setup.floor,
+        limits::under_line(s),
+    );
+    Streaks {
+        ov: go_on(s.adc_en && looked.over, 1, said.ov),
+        uv: go_on(s.adc_en && looked.under, 1, said.uv),
+        ..said
+    }
 }
 
 // That many ticks of one value.
+#[tactic(auto, unfolding(crate::specs::Walk::ticks_said))]
 fn ticks_said(chip: Chip, value: i32, more: u32, said: Streaks) -> Streaks
     requires { Small said }
     ensures { result ≡ ticks_said chip value more said }
@@ -80,9 +84,11 @@ fn ticks_said(chip: Chip, value: i32, more: u32, said: Streaks) -> Streaks
         return said;
     }
     let s = chip.registers.settings;
-    let scd = go_on(limits::beyond_scd(s, value), more, said.scd);
-    let ocd = go_on(limits::beyond_ocd(s, value), more, said.ocd);
-    Streaks { scd, ocd, ..said }
+    Streaks {
+        scd: go_on(limits::rule_of(s, Fault::Scd).beyond(value), more, said.scd),
+        ocd: go_on(limits::rule_of(s, Fault::Ocd).beyond(value), more, said.ocd),
+        ..said
+    }
 }
 
 // The mode, the line and the settings of a chip, and nothing else of it.
@@ -90,114 +96,76 @@ fn bared(chip: Chip) -> Chip
     ensures { result ≡ bare chip.setup (core_of chip) }
 {
     let mut ship = chip::in_ship(chip.setup);
-    let line = chip.bus.line;
-    let mut bus = ship.bus;
-    bus.line = line;
-    let settings = chip.registers.settings;
-    let mut registers = ship.registers;
-    registers.settings = settings;
     ship.normal = chip.normal;
-    ship.bus = bus;
-    ship.registers = registers;
+    ship.bus.line = chip.bus.line;
+    ship.registers.settings = chip.registers.settings;
     ship
 }
 
-// What was said stands in NORMAL alone: SHIP ends the spell.
-fn said_in(normal: bool, said: Streaks) -> Streaks
-    ensures { result ≡ cond normal said no_streaks }
-{
-    if normal { said } else { plain_due::none_said() }
-}
-
-// Any other event moves the mode, the line and the settings, and says nothing.
+// Any other event moves the mode, the line and the settings, and says nothing; what was said stands in NORMAL alone: SHIP ends the spell.
+#[tactic(auto, unfolding(crate::specs::Moved::moved_by))]
 fn moved(walk: Walk, event: Event, counts: Counts) -> Walk
     ensures { result ≡ moved_by event counts walk }
 {
-    let chip = walk.chip;
-    let step = chip.step(event, counts);
-    let chip = bared(step.chip);
-    let said = said_in(chip.normal, walk.said);
-    Walk { chip, said }
+    let chip = bared(walk.chip.step(event, counts).chip);
+    Walk {
+        chip,
+        said: if chip.normal {
+            walk.said
+        } else {
+            Streaks::default()
+        },
+    }
 }
 
 // A record that was read. A second SETUP is never read, and a wiring record moves none of this.
+#[tactic(auto, unfolding(crate::specs::Walk::walked_by))]
 fn walked(walk: Walk, event: Event, counts: Counts) -> Walk
     requires { Small walk.said }
     ensures { result ≡ walked_by event counts walk }
 {
-    let chip = walk.chip;
-    let before = walk.said;
     let said = match event {
-        Event::Scan => {
-            let of = counts.of;
-            scan_said(chip, of, before)
-        }
-        Event::Sense(value) => ticks_said(chip, value, 1, before),
-        Event::Ticks(value, repeat) => ticks_said(chip, value, repeat as u32, before),
-        Event::Soak(value, repeat) => ticks_said(chip, value, repeat, before),
-        Event::Setup(_) | Event::Wires(_) => before,
-        Event::Por
-        | Event::Boot
-        | Event::Temp
-        | Event::Count(_)
-        | Event::Pin
-        | Event::Load(_)
-        | Event::Xready
-        | Event::OnBus(_)
-        | Event::Level(_) => return moved(walk, event, counts),
+        Event::Scan => scan_said(walk.chip, counts.of, walk.said),
+        Event::Sense(value) => ticks_said(walk.chip, value, 1, walk.said),
+        Event::Ticks(value, n) => ticks_said(walk.chip, value, u32::from(n), walk.said),
+        Event::Soak(value, n) => ticks_said(walk.chip, value, n, walk.said),
+        Event::Setup(_) | Event::Wires(_) => walk.said,
+        _ => return moved(walk, event, counts),
     };
-    Walk { chip, said }
+    Walk { said, ..walk }
 }
 
-// The record that the rest begins with; a refused one says nothing.
-fn pass(walk: Walk, rest: &[u8]) -> Passed
+// The record that the rest begins with, where it is whole; a refused one says nothing.
+#[tactic(auto, unfolding(crate::specs::Walk::passed_on))]
+fn pass(walk: Walk, rest: &[u8]) -> Option<Passed>
     requires { Small walk.said }
     ensures { result ≡ passed_on rest.now walk }
 {
     match records::read_rest(rest, walk.chip.setup.part) {
-        Read::Cut => Passed { walk, next: 0 },
-        Read::Refused { number: _, next } => Passed { walk, next },
+        Read::Cut => None,
+        Read::Refused { next, .. } => Some(Passed { walk, next }),
         Read::Record { event, next } => {
-            let counts = records::counts_in(event, &rest[4..next]);
-            let walk = walked(walk, event, counts);
-            Passed { walk, next }
+            let counts = records::counts_in(event, &rest[size::HEADER..next]);
+            Some(Passed {
+                walk: walked(walk, event, counts),
+                next,
+            })
         }
     }
 }
 
-// Whether the rest begins with a tick, the record that a walk mostly meets, and with which.
-fn tick_in(setup: Setup, rest: &[u8]) -> Tick
+// The tick that the rest begins with, the record that a walk mostly meets.
+fn tick_in(setup: Setup, rest: &[u8]) -> Option<Tick>
     ensures { TickIn setup.part rest.now result }
 {
-    let framed = records::header_of(rest);
-    let Framed::Header { kind, next } = framed else {
-        return Tick::Not;
-    };
+    let Header { kind, next } = records::header_of(rest)?;
     if kind != kind::SENSE {
-        return Tick::Not;
+        return None;
     }
-    let payload = records::payload_of(kind::SENSE, setup.part, &rest[4..next]);
-    let Payload::Whole(event) = payload else {
-        return Tick::Not;
-    };
-    let Event::Sense(value) = event else {
-        return Tick::Not;
-    };
-    Tick::Of { value, next }
-}
-
-// It says what one tick does, and moves nothing.
-fn tick_said(chip: Chip, value: i32, said: Streaks) -> Streaks
-    requires { Small said }
-    ensures { result ≡ ticks_said chip value 1 said }
-{
-    if !chip.normal {
-        return said;
+    match records::payload_of(kind, setup.part, &rest[size::HEADER..next]) {
+        Ok(Event::Sense(value)) => Some(Tick { value, next }),
+        _ => None,
     }
-    let s = chip.registers.settings;
-    let scd = go_on(limits::beyond_scd(s, value), 1, said.scd);
-    let ocd = go_on(limits::beyond_ocd(s, value), 1, said.ocd);
-    Streaks { scd, ocd, ..said }
 }
 
 // The first record makes the chip, and the others are passed one by one; ticks by themselves, in place.
@@ -205,42 +173,40 @@ fn walk_over(s: &[u8]) -> Streaks
     requires { length s.now ≤ 65536 }
     ensures { result ≡ streaks_in s.now }
 {
-    let first = records::read_rest(s, 0);
-    let Read::Record { event, next } = first else {
-        return plain_due::none_said();
+    // One pattern for both was tried; the proof that any other event is refused did not close.
+    let Read::Record { event, next } = records::read_rest(s, 0) else {
+        return Streaks::default();
     };
     let Event::Setup(setup) = event else {
-        return plain_due::none_said();
+        return Streaks::default();
     };
-    let chip = chip::in_ship(setup);
-    let said = plain_due::none_said();
-    let mut walk = Walk { chip, said };
+    let mut walk = Walk {
+        chip: chip::in_ship(setup),
+        said: Streaks::default(),
+    };
     let mut at = next;
     while at < s.len() {
         let rest = &s[at..];
-        let tick = tick_in(walk.chip.setup, rest);
-        let Tick::Of { value, next } = tick else {
-            let passed = pass(walk, rest);
-            if passed.next == 0 {
-                return walk.said;
-            }
-            walk = passed.walk;
-            at = at + passed.next;
+        if let Some(tick) = tick_in(walk.chip.setup, rest) {
+            walk.said = ticks_said(walk.chip, tick.value, 1, walk.said);
+            at += tick.next;
             continue;
+        }
+        let Some(passed) = pass(walk, rest) else {
+            return walk.said;
         };
-        let now_said = tick_said(walk.chip, value, walk.said);
-        walk.said = now_said;
-        at = at + next;
+        walk = passed.walk;
+        at += passed.next;
     }
     walk.said
 }
 
 // What the records of these bytes say, at most 65,536 of them.
-pub fn look(s: &[u8]) -> Back
+pub fn look(s: &[u8]) -> Result<Streaks, Refusal>
     ensures { said_back result ≡ back_said s.now }
 {
     if range::STREAM_MOST < s.len() {
-        return Back::TooLong;
+        return Err(Refusal::TooLong);
     }
-    Back::Is(walk_over(s))
+    Ok(walk_over(s))
 }

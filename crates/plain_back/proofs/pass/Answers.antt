@@ -1,9 +1,8 @@
--- The record that the rest begins with.
+-- The record that the rest begins with lies within it.
 use Rattle.std.proofs.Common.{arith, length, sym, ℕ, ◌∙◌, ◌≡◌, ◌≤◌}
 use Rattle.events.specs.declared.Event.{Event}
 use Rattle.records.specs.declared.Read.TheVariants.{Record}
 use Rattle.records.specs.ReadingLaws.{WholeAt, read_whole}
-use Rattle.plain_back.proofs.Cases.{pass_cut, pass_refused, pass_record}
 use Rattle.plain_back.proofs.pass.Goals as goal
 use Rattle.plain_back.proofs.pass.Goals.{After-read_rest}
 
@@ -21,12 +20,3 @@ slice_bounds-counts_in-start c = omega (arith, inside (goal.at.slice_bounds-coun
 
 pub slice_bounds-counts_in-end : goal.slice_bounds-counts_in-end
 slice_bounds-counts_in-end c = omega (arith, inside (goal.at.slice_bounds-counts_in-end c).After-read_rest _ _ c.in-Record.is)
-
-pub returns-in-Cut : goal.returns-in-Cut
-returns-in-Cut c = pass_cut c.args.rest.now c.args.walk c.read_rest.result c.read_rest.ensures c.in-Cut.is
-
-pub returns-in-Refused : goal.returns-in-Refused
-returns-in-Refused c = pass_refused c.args.rest.now c.args.walk c.read_rest.result c.read_rest.ensures _ _ c.in-Refused.is
-
-pub returns-in-Record : goal.returns-in-Record
-returns-in-Record c = pass_record c.args.rest.now c.args.walk c.read_rest.result c.read_rest.ensures _ _ c.in-Record.is c.counts_in-counts.ensures c.walked-walk.ensures
