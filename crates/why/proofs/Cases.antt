@@ -9,7 +9,6 @@ use native.Mathlib.Numerals.{add-one}
 use lib.Dec.{eqb, leb, ltb}
 use lib.IntN.{ℤ, pos, neg_ℤ}
 use lib.ListN.{length, take, drop}
-use lib.Seq.{sets, sets-eq}
 use borrow.Author.Tests.{ne_eqb, le-leb, lt-leb, leb-true, leb-false}
 use Rattle.bits.specs.Bit.{bit}
 use Rattle.settings.specs.declared.Settings.{Settings}
@@ -18,10 +17,14 @@ use Rattle.turn.specs.Frames.{frames_of}
 use Rattle.turn.specs.CountedLaws.{entries_count}
 use Rattle.turn.proofs.Runs.{rest_is}
 use Rattle.bits.specs.Numbers.{word_bytes}
-use Rattle.bits.specs.BytesLaws.{words_length}
 use Rattle.why_rows.specs.declared.Why.{Why}
-use Rattle.causes.specs.Cause.{is_judged, cause_of, need_of, limit_of, known_bit}
-use Rattle.causes.specs.Hold.{held_by, is_drive}
+use Rattle.std.specs.Prelude.{◌||◌, Option, Some, None}
+use Rattle.events.specs.declared.Fault.{Fault}
+use Rattle.events.specs.declared.Fault.TheVariants.{Ov, Uv, Scd, Ocd}
+use Rattle.limits.specs.declared.Rule.{Rule}
+use Rattle.limits.specs.Rule.{rule}
+use Rattle.causes.specs.Cause.{is_judged, cause_of, need_of, limit_of, is_known, known, known_bit, fault_of}
+use Rattle.causes.specs.Hold.{drive_of, held_by, is_drive}
 use Rattle.why_rows.specs.Row.{why_words, off_words}
 use Rattle.why_scan.specs.declared.Says.{Says}
 use Rattle.why_walk.specs.declared.Standing.{Standing}
@@ -54,8 +57,32 @@ search_next s b least n r e q h =
     h ∙ ap (λ (g : Standing). searched_on least n g r) q ∙ ap (λ (r : Found). searched_on least n (advanced s b r.place) r) e ∙ ap (searched s b least) (sym (add-one n))
 
 -- ── why it rose ──
-module _ (s : List ℕ) (b : ℕ) (r : Rose) {w : Says} {cause : ℕ} {j : Bool}
-    (e : w ≡ says_in b r.stood.chip (take (length s - r.stood.at) (drop r.stood.at s))) (p : cause ≡ cause_of b w.pin) (q : j ≡ is_judged b) where
+-- the rule of a bit that is judged
+by_fault : (b : ℕ) (t : Settings) (k : Fault) → fault_of b ≡ Some k → (is_judged b ≡ true) × (need_of b t ≡ (rule k t).need) × (limit_of b t ≡ (rule k t).limit)
+by_fault b t k h = by (eqb b 4) (eqb b 8) (eqb b 2) (eqb b 1) h
+  where
+    by : (o u s c : Bool) → cond o (Some Ov) (cond u (Some Uv) (cond s (Some Scd) (cond c (Some Ocd) None))) ≡ Some k
+        → ((o || u || s || c) ≡ true)
+        × (cond o (rule Ov t).need (cond u (rule Uv t).need (cond s (rule Scd t).need (rule Ocd t).need)) ≡ (rule k t).need)
+        × (cond o (rule Ov t).limit (cond u (rule Uv t).limit (cond s (rule Scd t).limit (rule Ocd t).limit)) ≡ (rule k t).limit)
+    by true u s c h = let e : Ov ≡ k = cc in (refl, ap (λ (k : Fault). (rule k t).need) e, ap (λ (k : Fault). (rule k t).limit) e)
+    by false true s c h = let e : Uv ≡ k = cc in (refl, ap (λ (k : Fault). (rule k t).need) e, ap (λ (k : Fault). (rule k t).limit) e)
+    by false false true c h = let e : Scd ≡ k = cc in (refl, ap (λ (k : Fault). (rule k t).need) e, ap (λ (k : Fault). (rule k t).limit) e)
+    by false false false true h = let e : Ocd ≡ k = cc in (refl, ap (λ (k : Fault). (rule k t).need) e, ap (λ (k : Fault). (rule k t).limit) e)
+    by false false false false h = absurd cc
+
+no_fault : (b : ℕ) → fault_of b ≡ None → is_judged b ≡ false
+no_fault b h = by (eqb b 4) (eqb b 8) (eqb b 2) (eqb b 1) h
+  where
+    by : (o u s c : Bool) → cond o (Some Ov) (cond u (Some Uv) (cond s (Some Scd) (cond c (Some Ocd) None))) ≡ None → (o || u || s || c) ≡ false
+    by true u s c h = absurd cc
+    by false true s c h = absurd cc
+    by false false true c h = absurd cc
+    by false false false true h = absurd cc
+    by false false false false h = refl
+
+module _ (s : List ℕ) (b : ℕ) (r : Rose) {w : Says} {cause : ℕ}
+    (e : w ≡ says_in b r.stood.chip (take (length s - r.stood.at) (drop r.stood.at s))) (p : cause ≡ cause_of b w.pin) where
   abbrev said : Says
   said = says_in b r.stood.chip (drop r.stood.at s)
 
@@ -68,20 +95,23 @@ module _ (s : List ℕ) (b : ℕ) (r : Rose) {w : Says} {cause : ℕ} {j : Bool}
   abbrev t : Settings
   t = r.stood.chip.registers.settings
 
-  why_as_is : (u : Bool) → j ≡ u → cond u (judged s b r t said (cause_of b said.pin)) (unjudged r (cause_of b said.pin)) ≡ why_of s b r
+  why_as_is : (u : Bool) → is_judged b ≡ u → cond u (judged s b r t said (cause_of b said.pin)) (unjudged r (cause_of b said.pin)) ≡ why_of s b r
   unfolding why_of
-  why_as_is u h = sym (ap (λ (u : Bool). cond u (judged s b r t said (cause_of b said.pin)) (unjudged r (cause_of b said.pin))) (sym q ∙ h))
+  why_as_is u h = sym (ap (λ (u : Bool). cond u (judged s b r t said (cause_of b said.pin)) (unjudged r (cause_of b said.pin))) h)
 
-  pub why_unjudged : j ≡ false → record { rose = r.rose; first = r.rose; cause = cause; many = 0; limit = 0; input = 0; value = 0 } ≡ why_of s b r
-  why_unjudged h = ap (unjudged r) cause_is ∙ why_as_is false h
+  pub why_unjudged : fault_of b ≡ None → record { rose = r.rose; first = r.rose; cause = cause; many = 0; limit = 0; input = 0; value = 0 } ≡ why_of s b r
+  why_unjudged h = ap (unjudged r) cause_is ∙ why_as_is false (no_fault b h)
 
-  pub why_judged : {need limit least : ℕ} {f : Found} → j ≡ true → need ≡ need_of b t → limit ≡ limit_of b t → least ≡ least_of r.stood.streak need → f ≡ searched s b least (r.rose + 1)
-      → record { rose = r.rose; first = f.first; cause = cause; many = need; limit = limit; input = w.input; value = w.value } ≡ why_of s b r
-  why_judged {need} {limit} {least} {f} h n l m k =
+  pub why_judged : {least many : ℕ} {f : Found} {y : Rule} (k : Fault) → fault_of b ≡ Some k → y ≡ rule k t → least ≡ least_of r.stood.streak y.need → f ≡ searched s b least (r.rose + 1) → many ≡ y.need
+      → record { rose = r.rose; first = f.first; cause = cause; many = many; limit = y.limit; input = w.input; value = w.value } ≡ why_of s b r
+  why_judged {least} {many} {f} {y} k h q m z v =
+      let g = by_fault b t k h in
+      let n : y.need ≡ need_of b t = ap (λ (y : Rule). y.need) q ∙ sym g.1 in
+      let l : y.limit ≡ limit_of b t = ap (λ (y : Rule). y.limit) q ∙ sym g.2 in
       let first_is : f.first ≡ (searched s b (least_of r.stood.streak (need_of b t)) (suc r.rose)).first =
-      ap (λ (f : Found). f.first) (k ∙ ap₂ (λ (x y : ℕ). searched s b x y) (m ∙ ap (least_of r.stood.streak) n) (add-one r.rose)) in
-      (λ i. record { rose = r.rose; first = first_is i; cause = cause_is i; many = n i; limit = l i; input = (said_is i).input; value = (said_is i).value })
-      ∙ why_as_is true h
+      ap (λ (f : Found). f.first) (z ∙ ap₂ (λ (x y : ℕ). searched s b x y) (m ∙ ap (least_of r.stood.streak) n) (add-one r.rose)) in
+      (λ i. record { rose = r.rose; first = first_is i; cause = cause_is i; many = (v ∙ n) i; limit = l i; input = (said_is i).input; value = (said_is i).value })
+      ∙ why_as_is true g.0
 
 -- ── the calls ──
 pub explained_by : (s : List ℕ) (n b : ℕ) (old new : List ℕ) (z : ℤ) (k : ℕ) → why_number s n b (length old) ≡ k → z ≡ neg_ℤ (pos k)
@@ -148,38 +178,51 @@ module _ (s : List ℕ) (n b w : ℕ) (r : Rose) (e : r ≡ risen s w 0 (n + 1))
           such_up_at g z q = ap (λ (t : Bool). cond t (not (bit g.pins 0)) (bit g.stat (suc w))) z ∙ q
 
 -- ── the row ──
-pub row_whole : (ws old : List ℕ) (n : ℕ) {new : List ℕ} → 2 * length ws ≡ n → n ≤ length old → new ≡ sets old 0 (word_bytes ws) → new ≡ word_bytes ws ++ drop n old
-row_whole ws old n l h e =
-    let k : 0 + length (word_bytes ws) ≡ n = omega (arith, words_length ws, l) in
-    e ∙ sets-eq (word_bytes ws) old 0 (omega (arith, k, h)) ∙ ap (λ (n : ℕ). word_bytes ws ++ drop n old) k
+module _ (s : List ℕ) (n b w : ℕ) (r : Rose) (old : List ℕ) (e : r ≡ risen s w 0 (n + 1)) (k : w ≡ known_bit b) where
+  pub row_is : {y : Why} {row : List ℕ} → y ≡ why_of s w r → row ≡ word_bytes (why_words y) → row ++ drop 36 old ≡ why_row s n b ++ drop 36 old
+  row_is q h =
+      ap (λ (l : List ℕ). l ++ drop 36 old)
+      (h ∙ ap (λ (y : Why). word_bytes (why_words y)) (q ∙ ap₂ (λ (w : ℕ) (r : Rose). why_of s w r) k (e ∙ ap₂ (λ (w n : ℕ). risen s w 0 n) k (add-one n))))
 
-pub why_length : (w : Why) → length (why_words w) ≡ 18
-unfolding why_words
-why_length w = refl
+pub off_row_is : {row : List ℕ} {held : ℕ} (s : List ℕ) (n d w : ℕ) → w ≡ d → (r : Rose) (old : List ℕ) → r ≡ risen s 0 w (n + 1) → held ≡ held_by r.last.stat w
+    → row ≡ word_bytes (off_words r.rose held) → row ++ drop 12 old ≡ off_row s n d ++ drop 12 old
+off_row_is s n d w k r old e q h =
+    ap (λ (l : List ℕ). l ++ drop 12 old)
+    (h ∙ ap (λ (k : ℕ). word_bytes (off_words r.rose k)) q
+    ∙ ap₂ (λ (r : Rose) (w : ℕ). word_bytes (off_words r.rose (held_by r.last.stat w))) (e ∙ ap₂ (risen s 0) k (add-one n)) k)
 
-pub row_is : {w : ℕ} {y : Why} {ws new : List ℕ} (s : List ℕ) (n b : ℕ) (r : Rose) (old : List ℕ) → r ≡ risen s w 0 (n + 1) → w ≡ known_bit b → y ≡ why_of s w r → ws ≡ why_words y
-    → 36 ≤ length old → new ≡ sets old 0 (word_bytes ws) → new ≡ why_row s n b ++ drop 36 old
-row_is {w} {y} {ws} s n b r old e k q h l m =
-    row_whole ws old 36 (ap (λ (l : List ℕ). 2 * length l) h ∙ ap (λ (k : ℕ). 2 * k) (why_length y)) l m
-    ∙ ap (λ (l : List ℕ). word_bytes l ++ drop 36 old)
-    (h ∙ ap why_words (q ∙ ap₂ (λ (w : ℕ) (r : Rose). why_of s w r) k (e ∙ ap₂ (λ (w n : ℕ). risen s w 0 n) k (add-one n))))
-
-pub off_row_is : {ws new : List ℕ} {held : ℕ} (s : List ℕ) (n d : ℕ) (r : Rose) (old : List ℕ) → r ≡ risen s 0 d (n + 1) → held ≡ held_by r.last.stat d → ws ≡ off_words r.rose held
-    → 12 ≤ length old → new ≡ sets old 0 (word_bytes ws) → new ≡ off_row s n d ++ drop 12 old
-off_row_is {ws} {new} {held} s n d r old e q h l m =
-    row_whole ws old 12 (ap (λ (l : List ℕ). 2 * length l) h) l m
-    ∙ ap (λ (l : List ℕ). word_bytes l ++ drop 12 old)
-    (h ∙ ap (off_words r.rose) q ∙ ap (λ (r : Rose). off_words r.rose (held_by r.last.stat d)) (e ∙ ap (risen s 0 d) (add-one n)))
-
-pub drive_small : (d : ℕ) → is_drive d ≡ true → d ≤ 2
-drive_small d h = by (leb d 2) refl
+-- ── a bit or a drive that is known, and none ──
+pub bit_known : (b w : ℕ) → known b ≡ Some w → w ≡ known_bit b
+bit_known b w h = by (is_known b) h
   where
-    by : (t : Bool) → leb d 2 ≡ t → d ≤ 2
-    by true e = omega (arith, leb-true d 2 e)
-    by false e =
-        let m : 2 < d = leb-false d 2 e in
-        let n : is_drive d ≡ false = simp (ne_eqb d 1 (λ z. omega (arith, z)), ne_eqb d 2 (λ z. omega (arith, z))) in
-        absurd (true≢false (sym h ∙ n))
+    by : (t : Bool) → cond t (Some b) None ≡ Some w → w ≡ cond t b 0
+    by true h = cc
+    by false h = absurd cc
 
-pub off_is : {x : Bool} (s : List ℕ) (n d : ℕ) (r : Rose) → r ≡ risen s 0 d (n + 1) → x ≡ bit r.last.pins d → bit (risen s 0 d (suc n)).last.pins d ≡ x
-off_is s n d r e q = sym (q ∙ ap (λ (r : Rose). bit r.last.pins d) (e ∙ ap (risen s 0 d) (add-one n)))
+pub bit_none : (b : ℕ) → known b ≡ None → known_bit b ≡ 0
+bit_none b h = by (is_known b) h
+  where
+    by : (t : Bool) → cond t (Some b) None ≡ None → cond t b 0 ≡ 0
+    by true h = absurd cc
+    by false h = refl
+
+pub never_up : (s : List ℕ) (n b : ℕ) → known b ≡ None → bit (risen s (known_bit b) 0 (suc n)).last.stat (known_bit b) ≡ false
+never_up s n b h =
+    ap (λ (w : ℕ). bit (risen s w 0 (suc n)).last.stat w) (bit_none b h) ∙ ap (λ (q : ℕ). eqb (q % 2) 1) (div-zero (risen s 0 0 (suc n)).last.stat)
+
+pub drive_known : (d w : ℕ) → drive_of d ≡ Some w → (is_drive d ≡ true) × (w ≡ d)
+drive_known d w h = by (is_drive d) h
+  where
+    by : (t : Bool) → cond t (Some d) None ≡ Some w → (t ≡ true) × (w ≡ d)
+    by true h = (refl, cc)
+    by false h = absurd cc
+
+pub drive_none : (d : ℕ) → drive_of d ≡ None → is_drive d ≡ false
+drive_none d h = by (is_drive d) h
+  where
+    by : (t : Bool) → cond t (Some d) None ≡ None → t ≡ false
+    by true h = absurd cc
+    by false h = refl
+
+pub off_is : {x : Bool} (s : List ℕ) (n d w : ℕ) → w ≡ d → (r : Rose) → r ≡ risen s 0 w (n + 1) → x ≡ bit r.last.pins w → bit (risen s 0 d (suc n)).last.pins d ≡ x
+off_is s n d w k r e q = sym (q ∙ ap₂ (λ (r : Rose) (w : ℕ). bit r.last.pins w) (e ∙ ap₂ (risen s 0) k (add-one n)) k)

@@ -68,7 +68,7 @@ by false true x y a b = b
 by false false x y a b = omega arith
 
 scan_many : (b : ℕ) (c : Chip) (xs : List ℕ) → (scan_says b c xs).many ≤ more
-unfolding scan_says says_scan
+unfolding scan_says
 scan_many b c xs = by (eqb b 4) (eqb b 8) _ _ (omega arith) (omega arith)
 
 ticks_many : (b : ℕ) (c : Chip) (v : ℤ) (n : ℕ) → n ≤ more → (ticks_say b c v n).many ≤ more

@@ -1,9 +1,11 @@
 -- CHIP P17: why a bit of SYS_STAT is up: the record at which it rose, what raised it, and for OV, UV, SCD and OCD the newest verdicts, as
 -- many as the delay then set, that made it due. Assumes nothing.
-use Rattle.std.specs.Prelude.{◌≡◌, cond, List, ◌++◌, ℕ, suc, ◌-◌, eqb, leb, ltb, ℤ, length, drop}
+use Rattle.std.specs.Prelude.{◌≡◌, cond, List, ◌++◌, ℕ, suc, ◌-◌, eqb, leb, ltb, ℤ, length, drop, Result, Ok, Err}
 use Rattle.constants.specs.Number.{DONE, NO_ROOM, TOO_LONG, NO_RECORD, NOT_SO}
 use Rattle.constants.specs.Size.{WHY_ROW}
 use Rattle.constants.specs.Answer.{minus}
+use Rattle.constants.specs.Refusal.{number_of}
+use Rattle.constants.specs.declared.refusal.Refusal.{Refusal}
 use Rattle.bits.specs.Bit.{bit}
 use Rattle.settings.specs.declared.Settings.{Settings}
 use Rattle.turn.specs.Entries.{entries}
@@ -59,6 +61,11 @@ why_number s n b room =
     cond (ltb stream_most (length s)) TOO_LONG
     (cond (leb (length (entries s)) n) NO_RECORD
     (cond (bit (risen s (known_bit b) 0 (suc n)).last.stat (known_bit b)) (cond (ltb room WHY_ROW) NO_ROOM DONE) NOT_SO))
+
+-- what is answered: 0, or minus the number of a refusal
+abbrev pub answered : Result Unit Refusal → ℤ
+answered (Ok u) = minus DONE
+answered (Err why) = minus (number_of why)
 
 -- 0 and the row, or minus a number and nothing written
 pub record Explained (s : List ℕ) (n b : ℕ) (old : List ℕ) (r : ℤ) (new : List ℕ) : Type 0 where

@@ -3,11 +3,10 @@
 
 ghost use Rattle.std.specs.Prelude.{◌≡◌, ◌<◌, ◌≤◌, ◌^◌, length};
 ghost use Rattle.why.specs.Rise.{is_such, rose_on, searched_on, risen, searched, Few};
-ghost use Rattle.why.specs.Why.{least_of, why_of, Explained};
+ghost use Rattle.why.specs.Why.{least_of, why_of, answered, Explained};
 ghost use Rattle.why.specs.Off.{Held};
 
-use bits::bytes::put_words;
-use constants::{answer, size};
+use constants::refusal::Refusal;
 use why_rows::Why;
 use why_walk::Standing;
 
@@ -29,43 +28,49 @@ pub struct Found {
 // Streams that are longer are refused by `toralinge_why`: its streaks are counted in 64 bits.
 const STREAM_MOST: usize = 4294967295;
 
-// No record.
-const NEVER: u64 = 18446744073709551615;
+// No record, in a row for C too.
+const NEVER: u64 = u64::MAX;
 
 // Whether a bit of SYS_STAT is up; of no bit, whether a drive is off.
 fn is_such(at: Standing, bit: u8, drive: u8) -> bool
     ensures { result ≡ is_such bit drive at }
 {
     if bit == 0 {
-        return !bits::bit(at.pins, drive);
+        !bits::bit(at.pins, drive)
+    } else {
+        bits::bit(at.stat, bit)
     }
-    bits::bit(at.stat, bit)
 }
 
 // One record more.
-fn rose_on(mut from: Rose, n: u64, next: Standing, bit: u8, drive: u8) -> Rose
+#[tactic(auto, unfolding(crate::specs::Rise::rose_on))]
+fn rose_on(from: Rose, n: u64, next: Standing, bit: u8, drive: u8) -> Rose
     ensures { result ≡ rose_on bit drive n next from }
 {
-    let last = from.last;
-    let now_such = is_such(next, bit, drive);
-    let was_such = is_such(last, bit, drive);
-    if now_such & !was_such {
-        from.rose = n;
-        from.stood = last;
+    if is_such(next, bit, drive) && !is_such(from.last, bit, drive) {
+        Rose {
+            rose: n,
+            stood: from.last,
+            last: next,
+        }
+    } else {
+        Rose { last: next, ..from }
     }
-    from.last = next;
-    from
 }
 
 // One record more.
-fn searched_on(mut from: Found, n: u64, next: Standing, least: u64) -> Found
+#[tactic(auto, unfolding(crate::specs::Rise::searched_on))]
+fn searched_on(from: Found, n: u64, next: Standing, least: u64) -> Found
     ensures { result ≡ searched_on least n next from }
 {
-    if from.place.streak <= least {
-        from.first = n;
+    Found {
+        first: if from.place.streak <= least {
+            n
+        } else {
+            from.first
+        },
+        place: next,
     }
-    from.place = next;
-    from
 }
 
 // Over the first `many` records.
@@ -79,11 +84,9 @@ fn rise(s: &[u8], many: u64, bit: u8, drive: u8) -> Rose
         stood: begun,
         last: begun,
     };
-    let mut n = 0u64;
-    while n < many {
+    for n in 0..many {
         let next = why_walk::advance(s, found.last, bit);
         found = rose_on(found, n, next, bit, drive);
-        n = n + 1;
     }
     found
 }
@@ -93,16 +96,13 @@ fn search(s: &[u8], many: u64, bit: u8, least: u64) -> Found
     requires { Few s.now bit }
     ensures { result ≡ searched s.now bit least many }
 {
-    let begun = why_walk::begun();
     let mut found = Found {
         first: 0,
-        place: begun,
+        place: why_walk::begun(),
     };
-    let mut n = 0u64;
-    while n < many {
+    for n in 0..many {
         let next = why_walk::advance(s, found.place, bit);
         found = searched_on(found, n, next, least);
-        n = n + 1;
     }
     found
 }
@@ -112,10 +112,7 @@ fn least_of(streak: u64, need: u16) -> u64
     requires { streak < 2 ^ 63 }
     ensures { result ≡ least_of streak need }
 {
-    if need as u64 <= streak {
-        return streak + 1 - need as u64;
-    }
-    0
+    (streak + 1).saturating_sub(u64::from(need))
 }
 
 // Why a bit rose that rose at a record.
@@ -123,10 +120,9 @@ fn why_of(s: &[u8], bit: u8, found: Rose) -> Why
     requires { (Few s.now bit) × (found.stood.at ≤ length s.now) × (found.stood.streak < 2 ^ 63) × (found.rose < 18446744073709551615) }
     ensures { result ≡ why_of s.now bit found }
 {
-    let start = found.stood.at;
-    let said = why_walk::said_by(found.stood.chip, &s[start..], bit);
-    let cause = causes::cause_of(bit, said.pin);
-    if !causes::is_judged(bit) {
+    let said = why_walk::said_by(found.stood.chip, &s[found.stood.at..], bit);
+    let cause = causes::cause_of(bit, said.pin).number();
+    let Some(fault) = causes::fault_of(bit) else {
         return Why {
             rose: found.rose,
             first: found.rose,
@@ -136,21 +132,74 @@ fn why_of(s: &[u8], bit: u8, found: Rose) -> Why
             input: 0,
             value: 0,
         };
-    }
-    let settings = found.stood.chip.registers.settings;
-    let need = causes::need_of(bit, settings);
-    let limit = causes::limit_of(bit, settings);
-    let least = least_of(found.stood.streak, need);
+    };
+    let rule = limits::rule_of(found.stood.chip.registers.settings, fault);
+    let least = least_of(found.stood.streak, rule.need);
     let place = search(s, found.rose + 1, bit, least);
     Why {
         rose: found.rose,
         first: place.first,
         cause,
-        many: need as u32,
-        limit,
+        many: u32::from(rule.need),
+        limit: rule.limit,
         input: said.input,
         value: said.value,
     }
+}
+
+// What a call for C answers: 0, or minus the number of the refusal.
+fn answer_of(said: Result<(), Refusal>) -> i64
+    ensures { result ≡ answered said }
+{
+    match said {
+        Ok(()) => 0,
+        Err(why) => -i64::from(why.number()),
+    }
+}
+
+// The row of a bit, put where it fits.
+fn explain(bytes: &[u8], number: u64, bit: u32, row: &mut [u8]) -> Result<(), Refusal>
+    ensures { Explained bytes.now number bit row.old (answered result) row.new }
+{
+    if STREAM_MOST < bytes.len() {
+        return Err(Refusal::TooLong);
+    }
+    if turn::frames::count(bytes) as u64 <= number {
+        return Err(Refusal::NoRecord);
+    }
+    let Some(weight) = causes::known_bit(bit) else {
+        return Err(Refusal::NotSo);
+    };
+    let found = rise(bytes, number + 1, weight, 0);
+    if !bits::bit(found.last.stat, weight) {
+        return Err(Refusal::NotSo);
+    }
+    let Some(out) = row.first_chunk_mut() else {
+        return Err(Refusal::NoRoom);
+    };
+    *out = why_rows::why_row(why_of(bytes, weight, found));
+    Ok(())
+}
+
+// The row of a drive, put where it fits.
+fn hold(bytes: &[u8], number: u64, drive: u32, row: &mut [u8]) -> Result<(), Refusal>
+    ensures { Held bytes.now number drive row.old (answered result) row.new }
+{
+    if turn::frames::count(bytes) as u64 <= number {
+        return Err(Refusal::NoRecord);
+    }
+    let Some(pin) = causes::drive_of(drive) else {
+        return Err(Refusal::NotSo);
+    };
+    let found = rise(bytes, number + 1, 0, pin);
+    if bits::bit(found.last.pins, pin) {
+        return Err(Refusal::NotSo);
+    }
+    let Some(out) = row.first_chunk_mut() else {
+        return Err(Refusal::NoRoom);
+    };
+    *out = why_rows::off_row(found.rose, causes::held_by(found.last.stat, pin));
+    Ok(())
 }
 
 // Since when and why a bit of SYS_STAT is up that is up after a record. Answers 0, or with nothing written -24 for more than 4,294,967,295 bytes, -27 no such
@@ -159,23 +208,7 @@ fn why_of(s: &[u8], bit: u8, found: Rose) -> Why
 pub extern "C" fn toralinge_why(bytes: &[u8], number: u64, bit: u32, row: &mut [u8]) -> i64
     ensures { Explained bytes.now number bit row.old result row.new }
 {
-    if STREAM_MOST < bytes.len() {
-        return answer::TOO_LONG;
-    }
-    if turn::frames::count(bytes) as u64 <= number {
-        return answer::NO_RECORD;
-    }
-    let weight = causes::known_bit(bit);
-    let found = rise(bytes, number + 1, weight, 0);
-    if !bits::bit(found.last.stat, weight) {
-        return answer::NOT_SO;
-    }
-    if row.len() < size::WHY_ROW {
-        return answer::NO_ROOM;
-    }
-    let words = why_rows::why_words(why_of(bytes, weight, found));
-    put_words(row, 0, &words);
-    0
+    answer_of(explain(bytes, number, bit, row))
 }
 
 // Since when a drive is off that is off after a record, and which bits of SYS_STAT hold it. Answers 0, or with nothing written -27 no such record, -28 the drive is
@@ -184,21 +217,5 @@ pub extern "C" fn toralinge_why(bytes: &[u8], number: u64, bit: u32, row: &mut [
 pub extern "C" fn toralinge_off(bytes: &[u8], number: u64, drive: u32, row: &mut [u8]) -> i64
     ensures { Held bytes.now number drive row.old result row.new }
 {
-    if turn::frames::count(bytes) as u64 <= number {
-        return answer::NO_RECORD;
-    }
-    if !causes::is_drive(drive) {
-        return answer::NOT_SO;
-    }
-    let pin = drive as u8;
-    let found = rise(bytes, number + 1, 0, pin);
-    if bits::bit(found.last.pins, pin) {
-        return answer::NOT_SO;
-    }
-    if row.len() < size::OFF_ROW {
-        return answer::NO_ROOM;
-    }
-    let words = why_rows::off_words(found.rose, causes::held_by(found.last.stat, pin));
-    put_words(row, 0, &words);
-    0
+    answer_of(hold(bytes, number, drive, row))
 }

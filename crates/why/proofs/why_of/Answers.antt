@@ -1,10 +1,10 @@
 -- By whether the bit is judged.
 use Rattle.why.proofs.Cases.{why_unjudged, why_judged}
+use Rattle.std.proofs.Common.{sym, ◌∙◌}
 use Rattle.why.proofs.why_of.Goals as goal
 
-pub returns-then-not-is_judged : goal.returns-then-not-is_judged
-returns-then-not-is_judged c = why_unjudged c.args.s.now c.args.bit c.args.found c.said_by-said.ensures c.cause_of-cause.ensures c.is_judged.ensures c.if-not-is_judged.true
+pub returns-in_default : goal.returns-in_default
+returns-in_default c = why_unjudged c.args.s.now c.args.bit c.args.found c.said_by-said.ensures (c.number-cause.ensures ∙ c.cause_of.ensures) (sym c.fault_of.ensures ∙ c.in_default.is)
 
 pub returns : goal.returns
-returns c = why_judged c.args.s.now c.args.bit c.args.found c.said_by-said.ensures c.cause_of-cause.ensures c.is_judged.ensures c.if-not-is_judged.false
-    c.need_of-need.ensures c.limit_of-limit.ensures c.least_of-least.ensures c.search-place.ensures
+returns c = why_judged c.args.s.now c.args.bit c.args.found c.said_by-said.ensures (c.number-cause.ensures ∙ c.cause_of.ensures) c.in-Some.fault (sym c.fault_of.ensures ∙ c.in-Some.is) c.rule_of-rule.ensures c.least_of-least.ensures c.search-place.ensures c.from.ensures
