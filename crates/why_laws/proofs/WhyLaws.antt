@@ -16,7 +16,8 @@ use Rattle.events.specs.declared.Event.{Event as Coded}
 use Rattle.events.specs.declared.Event.TheVariants.{Setup, Scan}
 use Rattle.events.specs.Setup.{inputs}
 use Rattle.events.specs.Event.{Event, Scan as Scanned, unfit, counts_fit, counts_wanted, event_of, meant_of, events_in}
-use Rattle.events.specs.Fault.{Fault, Ov, Uv, Scd, Ocd}
+use Rattle.events.specs.declared.Fault.{Fault}
+use Rattle.events.specs.declared.Fault.TheVariants.{Ov, Uv, Scd, Ocd}
 use Rattle.settings.specs.declared.Settings.{Settings}
 use Rattle.records.specs.declared.Read.{Read}
 use Rattle.records.specs.declared.Read.TheVariants.{Record, Refused, Cut}

@@ -3,7 +3,7 @@ use Rattle.std.specs.Prelude.{◌≡◌, refl, Bool, true, false, cond, ◌||◌
 use Rattle.std.proofs.Common.{sym, ap, ◌∙◌, true≢false, eqb-true, eq-eqb}
 use Rattle.events.specs.declared.Setup.{Setup}
 use Rattle.events.specs.Event.{Event, Sense, Meant, means, ticks, unfit, ticks_fit, events_in}
-use Rattle.events.specs.Fault.{Fault}
+use Rattle.events.specs.declared.Fault.{Fault}
 use Rattle.registers.specs.Fault.{bit_of}
 use Rattle.protection.specs.Streak.{last_all}
 use Rattle.protection.specs.StreakLaws.{last_all_is}

@@ -6,7 +6,7 @@ use Rattle.bits.specs.Bit.{bit, weighed}
 use Rattle.registers.specs.declared.Status.{Status}
 use Rattle.registers.specs.Read.{status_byte}
 use Rattle.registers.specs.Write.{holds_chg, holds_dsg}
-use Rattle.events.specs.Fault.{Ov, Uv, Scd, Ocd}
+use Rattle.events.specs.declared.Fault.TheVariants.{Ov, Uv, Scd, Ocd}
 use Rattle.demands.proofs.BytesLaws.{status_bit}
 use Rattle.causes.specs.Hold.{held_by}
 

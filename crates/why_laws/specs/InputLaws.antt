@@ -9,7 +9,8 @@ use Rattle.events.specs.declared.Event.{Event as Coded}
 use Rattle.events.specs.declared.Event.TheVariants.{Setup, Por, Boot, Scan, Temp, Count, Sense, Pin, Load, Xready, OnBus, Level, Ticks}
 use Rattle.events.specs.declared.Event.TheVariants.{Soak, Wires}
 use Rattle.events.specs.Event.{Event, Scan as Scanned, unfit, counts_fit, counts_wanted, event_of, meant_of}
-use Rattle.events.specs.Fault.{Fault, Ov, Uv, Scd, Ocd}
+use Rattle.events.specs.declared.Fault.{Fault}
+use Rattle.events.specs.declared.Fault.TheVariants.{Ov, Uv, Scd, Ocd}
 use Rattle.bits.specs.BoolLaws.{and_left, and_right}
 use Rattle.settings.specs.declared.Settings.{Settings}
 use Rattle.cell_counts.specs.Scan.{some}
@@ -103,7 +104,6 @@ module _ (u : SetupValues) (k : Fault) (cells : of_cells k ≡ true) where
 names_by : (u : SetupValues) (k : Fault) (cells : of_cells k ≡ true) (past : List Event) (xs : List ℕ) (w : Says) (on : Bool)
     → some (outside_of k u.floor (rule k (standing u past)).limit) xs ≡ true
     → w ≡ says_scan on (outside_of k u.floor (rule k (standing u past)).limit) xs → Names u k cells past w
-unfolding says_scan
 names_by u k cells past xs w on h q =
     let such : ℕ → Bool = outside_of k u.floor (rule k (standing u past)).limit in
     subst (Names u k cells past) (sym q)

@@ -10,7 +10,8 @@ use Rattle.events.specs.declared.Event.{Event as Coded}
 use Rattle.events.specs.declared.Event.TheVariants.{Setup, Por, Boot, Scan, Temp, Count, Sense, Pin, Load, Xready, OnBus, Level, Ticks}
 use Rattle.events.specs.declared.Event.TheVariants.{Soak, Wires}
 use Rattle.events.specs.Setup.{inputs}
-use Rattle.events.specs.Fault.{Fault, Ov, Uv, Scd, Ocd}
+use Rattle.events.specs.declared.Fault.{Fault}
+use Rattle.events.specs.declared.Fault.TheVariants.{Ov, Uv, Scd, Ocd}
 use Rattle.settings.specs.declared.Settings.{Settings}
 use Rattle.limits.specs.Rule.{rule, over, under, beyond}
 use Rattle.chip.specs.declared.Chip.{Chip}
@@ -18,7 +19,7 @@ use Rattle.chip.specs.Chip.{stepped_by}
 use Rattle.chip.specs.Core.{core_of, bare}
 use Rattle.demands.proofs.BytesLaws.{place}
 use Rattle.demands.specs.Wired.{celled}
-use Rattle.plain_due.specs.declared.Streaks.{Streaks}
+use Rattle.plain_due.specs.Streaks.{Streaks}
 use Rattle.plain_due.specs.Streaks.{streak_of, no_streaks}
 use Rattle.plain_back.specs.declared.Walk.{Walk}
 use Rattle.plain_back.specs.Moved.{moved_by}
@@ -119,7 +120,7 @@ module _ (c : Chip) (w : Streaks) (asleep : (k : Fault) → c.normal ≡ false �
 
   -- a scan
   scan_adds : (k : Fault) (xs : List ℕ) → streak_after (scan_says (place k) c xs) c.normal (streak_of k w) ≡ streak_of k (scan_said c xs w)
-  unfolding streak_after scan_says says_scan scan_said over under rule
+  unfolding streak_after scan_says scan_said over under rule
   scan_adds Ov xs =
       let s : Settings = c.registers.settings in
       judged a _ (over (rule Ov s) xs) 1 w.ov (ap (λ (t : Bool). s.adc_en && t) (above_some c.setup.floor (rule Ov s).limit xs))
