@@ -13,7 +13,7 @@ use Rattle.protection.specs.Fault.{no_runs}
 use Rattle.chip.specs.declared.Chip.{Chip}
 use Rattle.chip.specs.Chip.{numbered}
 use Rattle.turn.specs.Turn.{none, Turn, turned}
-use Rattle.plain_due.specs.declared.Streaks.{Streaks}
+use Rattle.plain_due.specs.Streaks.{Streaks}
 use Rattle.plain_back.specs.Said.{streaks_in}
 use Rattle.plain.specs.Decision.{scan_shown, ticks_shown, scan_done, ticks_done}
 use Rattle.plain.specs.Plain.{plain_done, plain_turned, plain_turn}

@@ -14,18 +14,19 @@ use Rattle.events.specs.declared.Event.TheVariants.{Setup, Por, Boot, Scan, Temp
 use Rattle.events.specs.declared.Event.TheVariants.{Soak, Wires}
 use Rattle.events.specs.Setup.{inputs}
 use Rattle.events.specs.Event.{Scan as Scanned, Sense as Sensed, sense_fits, ticks_most, soak_most, ticks_fit, Meant, ticks, meant_of}
-use Rattle.events.specs.Fault.{Fault, Ov, Uv, Scd, Ocd}
+use Rattle.events.specs.declared.Fault.{Fault}
+use Rattle.events.specs.declared.Fault.TheVariants.{Ov, Uv, Scd, Ocd}
 use Rattle.records.specs.declared.Read.{Read}
 use Rattle.records.specs.declared.Read.TheVariants.{Record, Refused, Cut}
 use Rattle.records.specs.Record.{read_of, counts_beside}
 use Rattle.bits.specs.BoolLaws.{and_left, and_right}
 use Rattle.records.specs.SoundLaws.{IsSetup, first_setup, Meaning, later_means}
-use Rattle.protection.specs.declared.Runs.{Runs}
+use Rattle.protection.specs.Fault.{Runs}
 use Rattle.protection.specs.Streak.{streak}
 use Rattle.protection.specs.Fault.{run_of, runs_of}
 use Rattle.limits.specs.Rule.{cap}
 use Rattle.chip.specs.declared.Chip.{Chip}
-use Rattle.chip.specs.declared.Stepped.{Stepped}
+use Rattle.chip.specs.Answer.{Stepped}
 use Rattle.chip.specs.Chip.{numbered, happened, stepped, ticked, stepped_as, stepped_by}
 use Rattle.chip.specs.Calm.{Calmed}
 use Rattle.chip.proofs.Calm.{ship_calm}

@@ -1,5 +1,5 @@
 -- What is no scan and no tick goes by no run: a chip without runs answers it alike, and is left alike, without runs. Assumes nothing.
-use Rattle.std.specs.Prelude.{◌≡◌, refl, Bool, true, false, cond, List, ℕ}
+use Rattle.std.specs.Prelude.{◌≡◌, refl, Bool, true, false, cond, List, ℕ, Some, None, Ok, Err}
 use Rattle.std.proofs.Common.{sym, ap, true≢false}
 use Rattle.events.specs.declared.Counts.{Counts}
 use Rattle.events.specs.declared.BusEvent.{BusEvent}
@@ -15,17 +15,16 @@ use Rattle.events.specs.Setup.{groups, with_cells}
 use Rattle.events.specs.Event.{Event, Por, Boot, Pin, Xready, Scan, Temp, Count, Sense, Load, OnBus, Level, fits, means, unfit, meant_of}
 use Rattle.events.specs.Event.{counts_fit}
 use Rattle.wiring.specs.Rows.{has_row, wired_with}
-use Rattle.wiring.specs.declared.Wiring.TheVariants.{With, NoRow}
+use Rattle.constants.specs.declared.refusal.Refusal.TheVariants.{NoRow}
 use Rattle.records.specs.declared.Read.TheVariants.{Record}
 use Rattle.records.specs.Record.{counts_beside}
 use Rattle.bus.specs.declared.Line.{Line}
-use Rattle.bus.specs.declared.Store.{Store}
-use Rattle.bus.specs.declared.Store.TheVariants.{Nothing, At}
+use Rattle.bus.specs.Bus.{Store}
 use Rattle.bus.specs.Bus.{outed}
 use Rattle.settings.specs.Write.{ships}
 use Rattle.protection.specs.Fault.{no_runs}
 use Rattle.chip.specs.declared.Chip.{Chip}
-use Rattle.chip.specs.declared.Stepped.{Stepped}
+use Rattle.chip.specs.Answer.{Stepped}
 use Rattle.chip.specs.Chip.{numbered, with_runs, in_ship, accepted, stored_at, stored, on_bus, settled, normally, asleep, happened, stepped}
 use Rattle.chip.specs.Chip.{stepped_as}
 use Rattle.turn.specs.Turn.{Turn, wired_as, acted, stays_fresh, turn, turned}
@@ -57,10 +56,11 @@ aside (Level l) = true
 -- ── the bus ──
 stored-unrun : (l : Line) (t : Store) (c : Chip) → stored l t (unrun c) ≡ unrun (stored l t c)
 unfolding stored_at
-stored-unrun l Nothing c = refl
-stored-unrun l (At a v) c = by (ships a v c.registers.settings)
+stored-unrun l None c = refl
+stored-unrun l (Some w) c = by (ships w.at w.value c.registers.settings)
   where
-    by : (b : Bool) → cond b (in_ship c.setup) (accepted l a v (unrun c)) ≡ unrun (cond b (in_ship c.setup) (accepted l a v c))
+    by : (b : Bool) → cond b (in_ship c.setup) (accepted l w.at w.value (unrun c))
+        ≡ unrun (cond b (in_ship c.setup) (accepted l w.at w.value c))
     by true = refl
     by false = refl
 
@@ -119,8 +119,8 @@ by_counts true e c h = stepped-unrun e c h
 by_counts false e c h = refl
 
 wires_unrun : (o t : Bool) (n : ℕ) (c : Chip)
-    → cond o (wired_as (cond t (With (with_cells n c.setup)) NoRow) (unrun c)) (numbered 2 (unrun c))
-    ≡ unrun_in (cond o (wired_as (cond t (With (with_cells n c.setup)) NoRow) c) (numbered 2 c))
+    → cond o (wired_as (cond t (Ok (with_cells n c.setup)) (Err NoRow)) (unrun c)) (numbered 2 (unrun c))
+    ≡ unrun_in (cond o (wired_as (cond t (Ok (with_cells n c.setup)) (Err NoRow)) c) (numbered 2 c))
 wires_unrun true true n c = refl
 wires_unrun true false n c = refl
 wires_unrun false t n c = refl

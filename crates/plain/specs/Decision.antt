@@ -1,17 +1,17 @@
 -- A scan and ticks as the plain engine does them: what is due is shown. No run is kept. Assumes nothing.
 use Rattle.std.specs.Prelude.{cond, List, ℕ, ℤ}
 use Rattle.constants.specs.Number.{DONE, ASLEEP}
-use Rattle.events.specs.declared.Faults.{Faults}
-use Rattle.events.specs.Fault.{Ov, Uv}
+use Rattle.events.specs.Fault.{Faults}
+use Rattle.events.specs.declared.Fault.TheVariants.{Ov, Uv}
 use Rattle.cell_counts.specs.Scan.{some_above, some_between}
 use Rattle.settings.specs.declared.Settings.{Settings}
 use Rattle.registers.specs.Judging.{scanned}
 use Rattle.limits.specs.Rule.{rule}
 use Rattle.chip.specs.declared.Chip.{Chip}
-use Rattle.chip.specs.declared.Stepped.{Stepped}
+use Rattle.chip.specs.Answer.{Stepped}
 use Rattle.chip.specs.Chip.{numbered, with_registers, watched}
 use Rattle.chip.specs.Parts.{raised_by}
-use Rattle.plain_due.specs.declared.Streaks.{Streaks}
+use Rattle.plain_due.specs.Streaks.{Streaks}
 use Rattle.plain_due.specs.Decision.{scan_due, ticks_due}
 
 -- ── what is due is shown and puts off its drive, then the outside level is looked at (CHIP J13, L2) ──

@@ -5,16 +5,18 @@ use Rattle.std.proofs.Math.Path.{refl, ap}
 use Rattle.std.proofs.Common.{sym, ◌∙◌, arith, le-leb, leb-true, leb-false, lt-ltb}
 use Rattle.std.proofs.Math.Bool.{true, false, cond}
 use Rattle.std.proofs.lemmas.Bool.{lt-leb}
-use Rattle.events.specs.declared.Faults.{Faults}
+use Rattle.events.specs.Fault.{Faults}
 use Rattle.events.specs.Event.{Scan, Sense}
-use Rattle.events.specs.Fault.{Fault, Ov, Uv, Scd, Ocd, among}
+use Rattle.events.specs.declared.Fault.{Fault}
+use Rattle.events.specs.declared.Fault.TheVariants.{Ov, Uv, Scd, Ocd}
+use Rattle.events.specs.Fault.{among}
 use Rattle.cell_counts.specs.Scan.{some_above, some_between}
 use Rattle.settings.specs.declared.Settings.{Settings}
 use Rattle.registers.specs.declared.Shown.{Shown}
 use Rattle.registers.specs.State.{with_shown}
 use Rattle.registers.specs.Fault.{raised}
 use Rattle.registers.specs.Judging.{scanned}
-use Rattle.protection.specs.declared.Runs.{Runs}
+use Rattle.protection.specs.Fault.{Runs}
 use Rattle.protection.specs.declared.Judged.{Judged}
 use Rattle.protection.specs.Streak.{last_all, streak}
 use Rattle.protection.specs.StreakLaws.{bumps-streak}
@@ -25,13 +27,13 @@ use Rattle.protection.specs.Judged.{lasts}
 use Rattle.protection.specs.Repeat.{ticks_judged, alike, alike_over, ticks_alike_lem}
 use Rattle.protection.specs.TablesLaws.{need_fair, ended_waits, run_tells}
 use Rattle.chip.specs.declared.Chip.{Chip}
-use Rattle.chip.specs.declared.Stepped.{Stepped}
+use Rattle.chip.specs.Answer.{Stepped}
 use Rattle.chip.specs.Chip.{numbered, with_registers, watched, settled, normally, asleep, happened, ticking, ticked}
 use Rattle.chip.specs.Parts.{raised_by, tick_parts}
 use Rattle.chip.specs.Calm.{Calmed}
 use Rattle.chip.proofs.Calm.{calm_tick}
 use Rattle.chip.proofs.RepeatLaws.{ticking_is}
-use Rattle.plain_due.specs.declared.Streaks.{Streaks}
+use Rattle.plain_due.specs.Streaks.{Streaks}
 use Rattle.plain_due.specs.Streaks.{streak_of}
 use Rattle.plain_due.specs.Decision.{due, scan_due, ticks_due}
 use Rattle.plain_back.specs.Said.{verdicts_in, streaks_in}

@@ -1,7 +1,9 @@
 -- CHIP P11: the plain engine. It decides at a scan and at ticks by what the records before them say; every other record is the base
 -- engine's. The chip that it keeps has no runs. Assumes nothing.
 use Rattle.std.specs.Prelude.{◌≡◌, Bool, false, cond, not, ◌&&◌, List, [], ◌∷◌, ◌++◌, ℕ, zero, suc, ◌*◌, eqb, leb, ℤ, pos, length, take}
-use Rattle.std.specs.Prelude.{drop}
+use Rattle.std.specs.Prelude.{drop, Result, Ok, Err}
+use Rattle.constants.specs.Refusal.{number_of}
+use Rattle.constants.specs.declared.refusal.Refusal.{Refusal}
 use Rattle.constants.specs.Number.{NO_ROOM, TOO_LONG}
 use Rattle.constants.specs.Size.{ENTRY}
 use Rattle.constants.specs.Answer.{minus}
@@ -13,7 +15,7 @@ use Rattle.records.specs.declared.Read.{Read}
 use Rattle.records.specs.declared.Read.TheVariants.{Record, Refused, Cut}
 use Rattle.records.specs.Record.{read_of, counts_beside}
 use Rattle.chip.specs.declared.Chip.{Chip}
-use Rattle.chip.specs.declared.Stepped.{Stepped}
+use Rattle.chip.specs.Answer.{Stepped}
 use Rattle.turn.specs.declared.Entry.{Entry}
 use Rattle.turn.specs.Turn.{none, Turn, turn, turned}
 use Rattle.turn.specs.Entries.{bytes_of, entered}
@@ -67,6 +69,11 @@ plain_entries s = plain_runs (length s) [] false none s
 -- a run that is lent a buffer: the entries that fit
 abbrev pub Noted : List ℕ → List ℕ → List ℕ → Type 0
 Noted s old new = new ≡ entered old (plain_entries s)
+
+-- what a call answers: how many, or minus the number of a refusal
+abbrev pub answered : Result ℤ Refusal → ℤ
+answered (Ok n) = n
+answered (Err why) = minus (number_of why)
 
 -- the answer of the C call: −24 for a longer stream, then −5 where the entries do not fit, with nothing written; else their count, and
 -- the entries

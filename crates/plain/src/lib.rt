@@ -10,15 +10,16 @@
 
 ghost use Rattle.std.specs.Prelude.{◌≡◌, ◌≤◌, length, take};
 ghost use Rattle.events.specs.Setup.{inputs};
+ghost use Rattle.chip.specs.Answer.{as_step};
 ghost use Rattle.turn.specs.TurnedLaws.{as_turn};
 ghost use Rattle.plain_back.specs.Said.{streaks_in};
 ghost use Rattle.plain.specs.Decision.{shows, scan_done, ticks_done};
-ghost use Rattle.plain.specs.Plain.{decided, plain_turn, Noted, PlainPlayed};
+ghost use Rattle.plain.specs.Plain.{decided, plain_turn, answered, Noted, PlainPlayed};
 
 use chip::{Chip, Stepped};
-use constants::{answer, number, range, size};
+use constants::refusal::Refusal;
+use constants::{range, size};
 use events::{Event, Faults};
-use plain_back::Back;
 use plain_due::Streaks;
 use records::Read;
 use turn::Turned;
@@ -29,98 +30,78 @@ fn look_back(before: &[u8]) -> Streaks
     requires { length before.now ≤ 65536 }
     ensures { result ≡ streaks_in before.now }
 {
-    let answer = plain_back::look(before);
-    match answer {
-        Back::Is(said) => said,
-        Back::TooLong => Streaks {
-            ov: 0,
-            uv: 0,
-            scd: 0,
-            ocd: 0,
-        },
-    }
+    plain_back::look(before).unwrap_or_default()
 }
 
 // What is due is shown and puts off its drive; then the outside level is looked at (CHIP J13, L2).
 fn show(mut chip: Chip, risen: Faults) -> Chip
     ensures { result ≡ shows risen chip }
 {
-    let registers = chip.registers;
-    let raised = registers.raised(risen);
-    chip.registers = raised.pulled_by_level();
+    chip.registers = chip.registers.raised(risen).pulled_by_level();
     chip
 }
 
 // A SCAN.
 fn scan(mut chip: Chip, before: &[u8], counts: [u16; 15]) -> Stepped
     requires { length before.now ≤ 65536 }
-    ensures { result ≡ scan_done (streaks_in before.now) (take (inputs chip.setup) counts) chip }
+    ensures { as_step result ≡ scan_done (streaks_in before.now) (take (inputs chip.setup) counts) chip }
 {
     if !chip.normal {
-        return turn::numbered(number::ASLEEP, chip);
+        return chip.refused(Refusal::Asleep);
     }
     let s = chip.registers.settings;
-    let over = limits::over_line(s);
-    let under = limits::under_line(s);
-    let setup = chip.setup;
-    let looked = cell_counts::look(counts, setup.inputs(), over, setup.floor, under);
+    let looked = cell_counts::look(
+        counts,
+        chip.setup.inputs(),
+        limits::over_line(s),
+        chip.setup.floor,
+        limits::under_line(s),
+    );
     let risen = plain_due::due_at_scan(s, looked, look_back(before));
-    let registers = chip.registers;
-    let cells = looked.cells;
-    chip.registers = registers.scanned(cells, looked.sum);
-    turn::numbered(number::DONE, show(chip, risen))
+    chip.registers = chip.registers.scanned(looked.cells, looked.sum);
+    show(chip, risen).done()
 }
 
 // A SENSE, or the ticks that a TICKS or SOAK stands for. What is due at one of them is due at the last; and since the outside level was looked at after
 // the record before, once after the last is enough (CHIP L5).
+#[tactic(auto, unfolding(crate::specs::Decision::ticks_done))]
 fn ticks(chip: Chip, before: &[u8], value: i32, these: u32) -> Stepped
     requires { length before.now ≤ 65536 }
-    ensures { result ≡ ticks_done (streaks_in before.now) value these chip }
+    ensures { as_step result ≡ ticks_done (streaks_in before.now) value these chip }
 {
     if !chip.normal {
-        return turn::numbered(number::ASLEEP, chip);
+        return chip.refused(Refusal::Asleep);
     }
     let said = look_back(before);
     let risen = plain_due::due_at_ticks(chip.registers.settings, value, these, said);
-    turn::numbered(number::DONE, show(chip, risen))
+    show(chip, risen).done()
 }
 
 // A scan or ticks as a turn: a wiring record may follow where it might before, and this one was refused (CHIP W1).
 fn decided(fresh: bool, step: Stepped, next: usize) -> Turned
-    ensures { as_turn result ≡ decided fresh step next }
+    ensures { as_turn result ≡ decided fresh (as_step step) next }
 {
-    turn::told(step, fresh & (step.number != number::DONE), next, false)
+    turn::told(step, fresh && step.answer.is_err(), next, false)
 }
 
 // A record, with the records before it at hand: scans and ticks are decided here, all else is done as the base engine does it.
+#[tactic(auto, unfolding(crate::specs::Plain::plain_turn, turn::specs::Turn::turn_of))]
 fn take_turn(chip: Chip, fresh: bool, before: &[u8], rest: &[u8]) -> Turned
     requires { length before.now ≤ 65536 }
     ensures { as_turn result ≡ plain_turn before.now fresh chip rest.now }
 {
-    let read = records::read_rest(rest, chip.setup.part);
-    let Read::Record { event, next } = read else {
+    let Read::Record { event, next } = records::read_rest(rest, chip.setup.part) else {
         return turn::turn(chip, fresh, rest);
     };
     match event {
         Event::Scan => {
             let counts = records::counts_in(event, &rest[size::HEADER..next]);
-            let of = counts.of;
-            decided(fresh, scan(chip, before, of), next)
+            decided(fresh, scan(chip, before, counts.of), next)
         }
         Event::Sense(value) => decided(fresh, ticks(chip, before, value, 1), next),
-        Event::Ticks(value, n) => decided(fresh, ticks(chip, before, value, n as u32), next),
+        Event::Ticks(value, n) => decided(fresh, ticks(chip, before, value, u32::from(n)), next),
         Event::Soak(value, n) => decided(fresh, ticks(chip, before, value, n), next),
-        Event::Setup(_)
-        | Event::Por
-        | Event::Boot
-        | Event::Temp
-        | Event::Count(_)
-        | Event::Pin
-        | Event::Load(_)
-        | Event::Xready
-        | Event::OnBus(_)
-        | Event::Level(_)
-        | Event::Wires(_) => turn::turn(chip, fresh, rest),
+        _ => turn::turn(chip, fresh, rest),
     }
 }
 
@@ -141,8 +122,33 @@ fn run(s: &[u8], out: &mut [u8])
         }
         chip = turned.chip;
         fresh = turned.fresh;
-        n = n + 1;
-        at = at + turned.next;
+        n += 1;
+        at += turned.next;
+    }
+}
+
+// Plays a whole stream into the entries, where it is not too long and they all fit: how many records there are.
+fn play(bytes: &[u8], entries: &mut [u8]) -> Result<i64, Refusal>
+    ensures { PlainPlayed bytes.now entries.old (answered result) entries.new }
+{
+    if range::STREAM_MOST < bytes.len() {
+        return Err(Refusal::TooLong);
+    }
+    let n = turn::frames::count(bytes);
+    if entries.len() / size::ENTRY < n {
+        return Err(Refusal::NoRoom);
+    }
+    run(bytes, entries);
+    Ok(n as i64)
+}
+
+// What a call for C answers: how many, or minus the number of the refusal.
+fn answer_of(said: Result<i64, Refusal>) -> i64
+    ensures { result ≡ answered said }
+{
+    match said {
+        Ok(n) => n,
+        Err(why) => -i64::from(why.number()),
     }
 }
 
@@ -152,13 +158,5 @@ fn run(s: &[u8], out: &mut [u8])
 pub extern "C" fn toralinge_plain(bytes: &[u8], entries: &mut [u8]) -> i64
     ensures { PlainPlayed bytes.now entries.old result entries.new }
 {
-    if range::STREAM_MOST < bytes.len() {
-        return answer::TOO_LONG;
-    }
-    let n = turn::frames::count(bytes);
-    if entries.len() / size::ENTRY < n {
-        return answer::NO_ROOM;
-    }
-    run(bytes, entries);
-    n as i64
+    answer_of(play(bytes, entries))
 }

@@ -43,11 +43,7 @@ fn go_on(verdict: bool, more: u32, streak: u64) -> u64
     requires { streak ≤ 2 ^ 40 }
     ensures { result ≡ goes_on verdict more streak }
 {
-    if verdict {
-        streak + u64::from(more)
-    } else {
-        0
-    }
+    if verdict { streak + u64::from(more) } else { 0 }
 }
 
 // A SCAN, by the settings that stand when it comes; in SHIP it says nothing.
