@@ -113,7 +113,8 @@ module _ (kind : ℕ) (e : Event) (vs : List ℤ) (ke : kind_for e ≡ kind) whe
   bare_backs : values_for e (counts_by e vs) ≡ [] → Backs kind vs (bare_by e vs)
   bare_backs z =
       cond_backs kind vs (eqb (length vs) 0) _ _
-      (λ t. whole_backs kind vs e (record { kind_same = ke; values_same = z ∙ none_back vs (eqb-true _ 0 t) })) (unfit_backs kind vs BadKind)
+      (λ t. whole_backs kind vs e (record { kind_same = ke; values_same = z ∙ none_back vs (eqb-true _ 0 t) }))
+      (unfit_backs kind vs BadKind)
 
 -- one value up to the most, which the event holds
 one_backs : (kind : ℕ) (vs : List ℤ) (f : ℕ → Event) (most : ℕ) (n : Refusal) → most < 2 ^ 63 → ((m : ℕ) → kind_for (f m) ≡ kind)

@@ -2,7 +2,8 @@
 use Rattle.std.specs.Prelude.{◌≡◌, refl, Ok}
 use Rattle.constants.specs.declared.kind.Kind.{Kind}
 use Rattle.constants.specs.Kind.{code_of, kind_of}
-use Rattle.records.specs.Kind.{SETUP, POR, BOOT, SCAN, TEMP, COUNT, SENSE, PIN, LOAD, XREADY, START, OUT, IN, STOP, TICKS, LEVEL, WIRES, SOAK}
+use Rattle.records.specs.Kind.{SETUP, POR, BOOT, SCAN, TEMP, COUNT, SENSE, PIN, LOAD, XREADY, START, OUT, IN, STOP, TICKS, LEVEL, WIRES}
+use Rattle.records.specs.Kind.{SOAK}
 
 pub code_back : (k : Kind) → kind_of (code_of k) ≡ Ok k
 code_back Kind.Setup = refl
