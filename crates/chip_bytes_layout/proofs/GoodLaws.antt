@@ -63,6 +63,7 @@ good_keeps b h = kept_as b ∙ ap (λ (t : Bool). cond t (keeps (chip_of b) (fre
 -- what a call answers loses nothing there
 pub same_kept : (a b : Option Held) → kept_seen a ≡ kept_seen b → a ≡ b
 same_kept None None e = refl
-same_kept (Some a) (Some b) e = ap₂ (λ (c : Chip) (f : Bool). Some (record { chip = c; fresh = f })) (ap (λ (k : Kept). k.chip) e) (ap (λ (k : Kept). k.fresh) e)
+same_kept (Some a) (Some b) e =
+    ap₂ (λ (c : Chip) (f : Bool). Some (record { chip = c; fresh = f })) (ap (λ (k : Kept). k.chip) e) (ap (λ (k : Kept). k.fresh) e)
 same_kept None (Some b) e = absurd (true≢false (sym (ap (λ (k : Kept). k.good) e)))
 same_kept (Some a) None e = absurd (true≢false (ap (λ (k : Kept). k.good) e))

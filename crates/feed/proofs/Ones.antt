@@ -78,10 +78,12 @@ module _ (b : List ℕ) (payload : Payload) (event : Event) (counts : Event → 
   pub bus_one : (s : BusEvent) (r : Option Outcome) → event ≡ OnBus s → DidBy b (Signalled s) r new → OneBy b payload counts r new
   bus_one s r e h = one_of (OnBus s) (happened (Signalled s) (chip_of b)) r e refl refl h
 
-  pub ticks_one : (v : ℤ) (n : ℕ) (r : Option Outcome) → event ≡ Ticks v n → CameBy b (ticked n v (chip_of b)) r new → OneBy b payload counts r new
+  pub ticks_one : (v : ℤ) (n : ℕ) (r : Option Outcome) → event ≡ Ticks v n → CameBy b (ticked n v (chip_of b)) r new
+      → OneBy b payload counts r new
   ticks_one v n r e h = one_of (Ticks v n) (ticked n v (chip_of b)) r e refl refl h
 
-  pub soak_one : (v : ℤ) (n : ℕ) (r : Option Outcome) → event ≡ Soak v n → CameBy b (ticked n v (chip_of b)) r new → OneBy b payload counts r new
+  pub soak_one : (v : ℤ) (n : ℕ) (r : Option Outcome) → event ≡ Soak v n → CameBy b (ticked n v (chip_of b)) r new
+      → OneBy b payload counts r new
   soak_one v n r e h = one_of (Soak v n) (ticked n v (chip_of b)) r e refl refl h
 
 -- one that is seldom met, by what it means
