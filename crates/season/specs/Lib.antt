@@ -1,6 +1,9 @@
 pub mod Column
+pub mod Columns
 pub mod Report
+pub mod Inputs
 pub mod PlacesLaws
+pub mod InputsLaws
 pub mod SingleLaws
 pub mod CasesLaws
 pub mod OrderedLaws

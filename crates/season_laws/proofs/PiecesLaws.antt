@@ -14,15 +14,14 @@ use Rattle.events.specs.declared.Setup.{Setup}
 use Rattle.bits.specs.Numbers.{bit_of}
 use Rattle.wiring.specs.Rows.{has_row}
 use Rattle.registers.specs.State.{alert}
-use Rattle.season.specs.declared.Season.{Season}
-use Rattle.season.specs.declared.Reported.{Reported}
-use Rattle.season.specs.Report.{season_of, reported}
+use Rattle.season.specs.Columns.{Season, Reported, reported}
+use Rattle.season.specs.Report.{season_of}
 use Rattle.chip.specs.declared.Chip.{Chip}
 use Rattle.turn.specs.Turn.{none}
 use Rattle.turn.specs.Entries.{chip_from, fresh_from}
 use Rattle.turn.specs.PrefixLaws.{WholeRecords}
 use Rattle.turn.specs.Pieces.{joined, WholePieces, a_piece}
-use Rattle.chip_bytes_layout.specs.declared.Kept.{Kept}
+use Rattle.chip_bytes_layout.specs.Kept.{Kept}
 use Rattle.chip_bytes_layout.specs.Layout.{setup_stands, keeps, kept_of as chip_of}
 use Rattle.chip_bytes_layout.specs.Layout.{could_stand as chip_stands}
 use Rattle.chip_bytes_layout.proofs.OneLaws.{not_yet, stands}
