@@ -17,5 +17,5 @@ pub slice_bounds-done_by-start : goal.slice_bounds-done_by-start
 slice_bounds-done_by-start c = omega (arith, inside (goal.at.slice_bounds-done_by-start c).In-Some)
 
 pub returns : goal.returns
-returns c = alone_is c.args.chip.now c.args.records.now c.args.entries.now c.in-Some.header (sym c.header_of.ensures ∙ c.in-Some.is) c.if-header-records.false
+returns c = alone_is c.args.chip.now c.args.records.now c.args.entries.now c.in-Some.header (sym c.header_of.ensures ∙ c.in-Some.is) (omega arith)
     c.in-Some-done_by.outcome c.if-chip-lt-KEPT_CHIP.false c.if-entries-lt-ENTRY.false c.done_by.ensures c.in-Some-done_by.is c.put_entry.ensures
