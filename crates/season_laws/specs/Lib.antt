@@ -1,1 +1,2 @@
 pub mod GrownLaws
+pub mod ColumnsLaws
