@@ -31,7 +31,8 @@ some : List ℕ → Bool
 some [] = false
 some (x ∷ xs) = true
 
-same_inputs : (xs ys : List Input) → map (λ i. i.least.count) xs ≡ map (λ i. i.least.count) ys → map (λ i. i.least.scan) xs ≡ map (λ i. i.least.scan) ys
+same_inputs : (xs ys : List Input) → map (λ i. i.least.count) xs ≡ map (λ i. i.least.count) ys
+    → map (λ i. i.least.scan) xs ≡ map (λ i. i.least.scan) ys
     → map (λ i. i.greatest.count) xs ≡ map (λ i. i.greatest.count) ys → map (λ i. i.greatest.scan) xs ≡ map (λ i. i.greatest.scan) ys
     → map (λ i. i.sum) xs ≡ map (λ i. i.sum) ys → map (λ i. i.linked.scans) xs ≡ map (λ i. i.linked.scans) ys
     → map (λ i. i.linked.sum) xs ≡ map (λ i. i.linked.sum) ys → xs ≡ ys
@@ -41,8 +42,8 @@ same_inputs [] (y ∷ ys) lc ls gc gs s ks ku = absurd (true≢false (sym (ap so
 same_inputs (x ∷ xs) [] lc ls gc gs s ks ku = absurd (true≢false (ap some s))
 same_inputs (x ∷ xs) (y ∷ ys) lc ls gc gs s ks ku =
     let first : x ≡ y =
-        same_input x y (ap (head_or 0) lc) (ap (head_or 0) ls) (ap (head_or 0) gc) (ap (head_or 0) gs) (ap (head_or 0) s) (ap (head_or 0) ks)
-        (ap (head_or 0) ku) in
+        same_input x y (ap (head_or 0) lc) (ap (head_or 0) ls) (ap (head_or 0) gc) (ap (head_or 0) gs) (ap (head_or 0) s)
+        (ap (head_or 0) ks) (ap (head_or 0) ku) in
     let rest : xs ≡ ys =
         same_inputs xs ys (ap tail_of lc) (ap tail_of ls) (ap tail_of gc) (ap tail_of gs) (ap tail_of s) (ap tail_of ks) (ap tail_of ku) in
     λ j. first j ∷ rest j
