@@ -1,2 +1,4 @@
 pub mod GrownLaws
 pub mod ColumnsLaws
+pub mod SingleLaws
+pub mod PlacesLaws
