@@ -1,49 +1,25 @@
 -- A scan and ticks, and a record by what was read, by the parts of the code. Assumes nothing.
-use mathlib.Core.Path.{◌≡◌, refl, sym, ap, ◌∙◌}
+use mathlib.Core.Path.{◌≡◌, sym, ap, ◌∙◌}
 use mathlib.Core.Bool.{Bool, true, false, cond}
-use mathlib.Core.List.{List, [], ◌∷◌}
-use mathlib.Core.Logic.{⊎_elim}
-use Prim.Native.Nat.{ℕ, ◌-◌, ◌≤◌}
-use native.Mathlib.Omega.{arith}
-use lib.IntN.{ℤ}
-use lib.ListN.{length, take, drop}
-use borrow.Author.Tests.{le-leb}
-use types.Run.{OneOf}
-use denote.Enum.Declared.{tag_of}
-use Rattle.events.specs.declared.Counts.{Counts}
-use Rattle.events.specs.declared.Event.{Event}
-use Rattle.events.specs.declared.Event.TheVariants.{Setup, Por, Boot, Scan, Temp, Count, Sense, Pin, Load, Xready, OnBus, Level, Ticks}
-use Rattle.events.specs.declared.Event.TheVariants.{Soak, Wires}
-use Rattle.events.specs.contracts.Event.{the_type as event_type}
+use mathlib.Core.List.{List}
+use Prim.Native.Nat.{ℕ}
+use lib.ListN.{take}
 use Rattle.events.specs.Fault.{Faults}
 use Rattle.events.specs.Setup.{inputs}
 use Rattle.events.specs.declared.Fault.TheVariants.{Ov, Uv}
-use Rattle.events.specs.Fault.{among}
-use Rattle.records.specs.declared.Read.{Read}
-use Rattle.records.specs.declared.Read.TheVariants.{Record, Refused, Cut}
-use Rattle.records.specs.contracts.Read.{the_type as read_type}
-use Rattle.records.specs.Record.{read_of, counts_in}
-use Rattle.constants.specs.Answer.{Said, gives, refuses, value_said, number_said}
 use Rattle.cell_counts.specs.declared.Looked.{Looked}
 use Rattle.cell_counts.specs.Scan.{looked_at}
 use Rattle.settings.specs.declared.Settings.{Settings}
 use Rattle.registers.specs.declared.Registers.{Registers}
-use Rattle.registers.specs.State.{with_shown}
-use Rattle.registers.specs.Fault.{raised}
-use Rattle.registers.specs.Judging.{scan_kept, pulled_by_level}
+use Rattle.registers.specs.Judging.{scan_kept}
 use Rattle.limits.specs.Rule.{rule}
 use Rattle.chip.specs.declared.Chip.{Chip}
 use Rattle.chip.specs.Answer.{Stepped}
 use Rattle.chip.specs.Chip.{numbered, with_registers}
-use Rattle.turn.specs.Turn.{Turn, turned, turn_of}
-use Rattle.turn.specs.declared.Turned.{Turned}
-use Rattle.turn.specs.TurnedLaws.{as_turn}
 use Rattle.plain_due.specs.Streaks.{Streaks}
-use Rattle.plain_due.specs.Streaks.{no_streaks}
-use Rattle.plain_due.specs.Decision.{scan_due, ticks_due}
-use Rattle.plain_back.specs.Said.{streaks_in, most, said_back, back_said}
-use Rattle.plain.specs.Decision.{shows, scan_shown, ticks_shown, scan_done, ticks_done}
-use Rattle.plain.specs.Plain.{decided, plain_done, plain_turned, plain_turn}
+use Rattle.plain_due.specs.Decision.{scan_due}
+use Rattle.plain_back.specs.Said.{streaks_in}
+use Rattle.plain.specs.Decision.{shows, scan_shown, scan_done}
 
 -- ── a scan and ticks, in SHIP and in NORMAL ──
 module _ (c : Chip) (before : List ℕ) where

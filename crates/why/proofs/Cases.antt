@@ -2,14 +2,14 @@
 use mathlib.Core.Path.{◌≡◌, refl, sym, ap, ap₂, subst, ◌∙◌}
 use mathlib.Core.Bool.{Bool, true, false, not, cond, true≢false}
 use mathlib.Core.List.{List, ◌++◌}
-use Prim.Native.Nat.{ℕ, zero, suc, ◌+◌, ◌-◌, ◌*◌, ◌%◌, ◌≤◌, ◌<◌, ◌^◌}
+use Prim.Native.Nat.{ℕ, zero, suc, ◌+◌, ◌-◌, ◌%◌, ◌≤◌, ◌<◌, ◌^◌}
 use native.Mathlib.Omega.{arith}
 use native.Mathlib.Nat.{div-zero}
 use native.Mathlib.Numerals.{add-one}
 use lib.Dec.{eqb, leb, ltb}
 use lib.IntN.{ℤ, pos, neg_ℤ}
 use lib.ListN.{length, take, drop}
-use borrow.Author.Tests.{ne_eqb, le-leb, lt-leb, leb-true, leb-false}
+use borrow.Author.Tests.{ne_eqb, le-leb, lt-leb}
 use Rattle.bits.specs.Bit.{bit}
 use Rattle.settings.specs.declared.Settings.{Settings}
 use Rattle.turn.specs.Entries.{entries}
@@ -18,7 +18,7 @@ use Rattle.turn.specs.CountedLaws.{entries_count}
 use Rattle.turn.proofs.Runs.{rest_is}
 use Rattle.bits.specs.Numbers.{word_bytes}
 use Rattle.why_rows.specs.declared.Why.{Why}
-use Rattle.std.specs.Prelude.{◌||◌, Option, Some, None}
+use Rattle.std.specs.Prelude.{◌||◌, Some, None}
 use Rattle.events.specs.declared.Fault.{Fault}
 use Rattle.events.specs.declared.Fault.TheVariants.{Ov, Uv, Scd, Ocd}
 use Rattle.limits.specs.declared.Rule.{Rule}

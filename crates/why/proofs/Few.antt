@@ -29,7 +29,7 @@ use Rattle.chip.specs.declared.Chip.{Chip}
 use Rattle.turn.specs.Turn.{turned, turn_of}
 use Rattle.why_scan.specs.declared.Says.{Says}
 use Rattle.why_walk.specs.declared.Standing.{Standing}
-use Rattle.why_scan.specs.Scan.{says_none, says_scan}
+use Rattle.why_scan.specs.Scan.{says_none}
 use Rattle.why_walk.specs.Says.{scan_says, ticks_say, event_says, says_read, says_in, streak_after}
 use Rattle.why_walk.specs.Standing.{begun, past, advanced, standing_at}
 use Rattle.why.specs.Rise.{is_such, rose_on, risen, searched_on, searched, Few}

@@ -1,3 +1,2 @@
-pub mod Rises
 pub mod Few
 pub mod Cases

@@ -1,5 +1,5 @@
 -- The walk: what stands at its head, by the laws of Loop.
-use Rattle.std.proofs.Common.{List, ap, arith, drop, length, of_z, rules, subst, sym, take, to_z, w32, ℕ, ℤ, ◌+◌, ◌-◌, ◌∙◌, ◌≡◌, ◌≤◌, Some}
+use Rattle.std.proofs.Common.{List, ap, arith, drop, length, of_z, rules, subst, sym, take, to_z, w32, ℕ, ◌+◌, ◌-◌, ◌∙◌, ◌≡◌, ◌≤◌, Some}
 use Rattle.records.specs.declared.Read.TheVariants.{Record}
 use Rattle.events.specs.declared.Event.{Event}
 use Rattle.events.specs.declared.Event.TheVariants.{Sense}
@@ -9,7 +9,7 @@ use borrow.Enum.Refused.{opened}
 use Rattle.plain_back.specs.declared.Walk.{Walk}
 use Rattle.plain_back.specs.declared.Tick.{Tick}
 use Rattle.plain_back.specs.declared.Passed.{Passed}
-use Rattle.plain_back.specs.Walk.{TickIn, ticks_said, passed_on, Small}
+use Rattle.plain_back.specs.Walk.{TickIn, ticks_said, passed_on}
 use Rattle.plain_back.proofs.Loop.{Walking, walking_first, said_none, first_other, walking_end, walking_cut, walking_more, tick_passes, small}
 use Rattle.plain_back.proofs.walk_over.Goals as goal
 use Rattle.plain_back.proofs.walk_over.Goals.{After-ticks_said-walk}

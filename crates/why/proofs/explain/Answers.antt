@@ -1,6 +1,6 @@
 -- By the refusals, or the row.
-use Rattle.std.proofs.Common.{arith, false, le-ltb, length, lt-ltb, refl, rules, sym, true, ◌∙◌, ◌≡◌, ◌≤◌, Some, None}
-use Rattle.causes.specs.Cause.{known, known_bit}
+use Rattle.std.proofs.Common.{arith, false, le-ltb, length, lt-ltb, refl, rules, sym, true, ◌∙◌, ◌≡◌, ◌≤◌}
+use Rattle.causes.specs.Cause.{known_bit}
 use Rattle.why.proofs.Few.{few_short}
 use Rattle.why.proofs.Cases.{explained_by, why_as, counted, uncounted, up_is, why_good, row_is, bit_known, never_up}
 use Rattle.why.proofs.explain.Goals as goal

@@ -1,6 +1,5 @@
 -- By the refusals, or the row.
-use Rattle.std.proofs.Common.{false, le-ltb, length, lt-ltb, refl, sym, true, ◌∙◌, ◌≡◌, Some, None}
-use Rattle.causes.specs.Hold.{is_drive}
+use Rattle.std.proofs.Common.{false, le-ltb, length, lt-ltb, refl, sym, true, ◌∙◌}
 use Rattle.why.proofs.Few.{few_none}
 use Rattle.why.proofs.Cases.{held_by_lem, off_as, counted, uncounted, off_is, off_row_is, drive_known, drive_none}
 use Rattle.why.proofs.hold.Goals as goal
