@@ -1,2 +1,3 @@
 pub mod Cause
 pub mod Hold
+pub mod SameLaws

@@ -33,15 +33,22 @@ fn scan_says(chip: Chip, counts: [u16; 15], bit: u8) -> Says
     let s = chip.registers.settings;
     let inputs = chip.setup.inputs();
     match bit {
-        weight::OV => {
-            let line = limits::over_line(s);
-            why_scan::scan_of(&counts, inputs, s.adc_en, |x| line < x)
-        }
-        weight::UV => {
-            let floor = chip.setup.floor;
-            let line = limits::under_line(s);
-            why_scan::scan_of(&counts, inputs, s.adc_en, |x| (floor..line).contains(&x))
-        }
+        weight::OV => why_scan::scan_of(
+            counts,
+            inputs,
+            s.adc_en,
+            true,
+            chip.setup.floor,
+            limits::over_line(s),
+        ),
+        weight::UV => why_scan::scan_of(
+            counts,
+            inputs,
+            s.adc_en,
+            false,
+            chip.setup.floor,
+            limits::under_line(s),
+        ),
         _ => Says::default(),
     }
 }

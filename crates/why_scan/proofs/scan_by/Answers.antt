@@ -3,7 +3,7 @@ use Rattle.std.proofs.Common.{rules, ◌∙◌, take, sym, true, false}
 use Rattle.std.proofs.lemmas.Iterator.{IsFirst-from_position, YieldsList-from_slice}
 use borrow.Author.Tests.{tests}
 use Rattle.why_scan.proofs.Cases.{Tells, small_front, such_counts, scan_found, scan_none}
-use Rattle.why_scan.proofs.scan_of.Goals as goal
+use Rattle.why_scan.proofs.scan_by.Goals as goal
 
 pub returns-in-Some : goal.returns-in-Some
 returns-in-Some g c such is =
