@@ -165,15 +165,6 @@ module _ (b : List ℕ) {new : List ℕ} where
         bytes = λ f rest e. m ∙ ap (λ (x : List ℕ). set x 40 (bit_of l)) e ∙ level_moved (chip_here b) f rest l;
       }
 
--- the level, by what it asks for alone
-raises_not : (l a : Bool) → (l ≡ true → a ≡ true) → (l && not a) ≡ false
-raises_not true a h = ap not (h refl)
-raises_not false a h = refl
-
-pub level_by : (b : List ℕ) {new : List ℕ} (l : Bool) → (l ≡ true → alert (status_at (take 96 b)) ≡ true) → new ≡ set b 40 (bit_of l)
-    → Moved (Level l) b new
-level_by b l h m = level_moves b l refl refl (raises_not l (alert (status_at (take 96 b))) h) m
-
 -- ── TEMP ──
 three_long : (xs : List ℕ) → length (padded 3 xs) ≡ 3
 three_long xs = ap length (three_are xs)

@@ -1,10 +1,11 @@
 // The events that are seldom met and move registers alone, done in the bytes of a kept chip: BOOT, TEMP, COUNT, PIN, LOAD, XREADY and the outside level.
-ghost use Rattle.std.specs.Prelude.{◌≡◌, take};
+ghost use Rattle.std.specs.Prelude.{◌≡◌, ◌&&◌, not, take};
 ghost use Rattle.events.specs.declared.Event.TheVariants.{Pin, Count, Level};
 ghost use Rattle.events.specs.Setup.{groups};
 ghost use Rattle.events.specs.Event.{Temp};
+ghost use Rattle.registers.specs.State.{alert};
 ghost use Rattle.chip_bytes_layout.specs.Place.{ADC_EN};
-ghost use Rattle.chip_bytes_layout.specs.Layout.{switch_at, chip_of};
+ghost use Rattle.chip_bytes_layout.specs.Layout.{switch_at, status_at, chip_of};
 ghost use Rattle.chip_bytes_layout.specs.Did.{DidBy};
 ghost use Rattle.chip_bytes_done.specs.Seldom.{readied_in, warmed_in, Moved, MovedBy, SeldomBy};
 
@@ -52,11 +53,18 @@ fn put_count(out: &mut ChipBytes, cc: u16)
     }
 }
 
+// Whether the outside level would raise OVRD_ALERT.
+fn raises(b: &ChipBytes, level: bool) -> bool
+    ensures { result ≡ (level && not (alert (status_at b.now))) }
+{
+    level && !status_at(b).alert()
+}
+
 // The outside level, but where it would raise OVRD_ALERT.
 fn put_level(out: &mut ChipBytes, level: bool) -> bool
     ensures { MovedBy (Level level) out.old result out.new }
 {
-    if level && !status_at(out).alert() {
+    if raises(out, level) {
         return false;
     }
     out[place::OUTSIDE_LEVEL] = u8::from(level);
