@@ -3,13 +3,15 @@
 
 ghost use Rattle.std.specs.Prelude.{◌≡◌, ◌+◌, ◌-◌, ◌≤◌, ◌<◌, ◌^◌, not, true, [], ◌∷◌, ◌++◌, length, drop};
 ghost use Rattle.events.specs.declared.BusEvent.TheVariants.{Start, Out, Stop};
+ghost use Rattle.ranges.specs.Refusal.{refused_number};
 ghost use Rattle.i2c_lists.specs.Reader.{word_length, words_at, list_in};
 ghost use Rattle.i2c_lists.specs.Judging.{fresh, begun, followed, judged_by, judged_all, number_in};
 ghost use Rattle.i2c_lists.specs.Records.{near, taken, records_of, number_for, Taken};
 ghost use Rattle.i2c_lists.specs.WordingLaws.{on_word, on_words, near_word};
 ghost use Rattle.i2c_lists.specs.Putting.{Puts};
 
-use constants::{number, range, size};
+use constants::refusal::Refusal;
+use constants::{range, size};
 use events::{BusEvent, Counts, Event};
 use i2c_words::Word;
 
@@ -20,7 +22,7 @@ const BEGINNING: usize = size::HEADER + BYTE;
 
 // What the words so far leave: the bytes still owed to their message, whether they begin no list, whether an address is out of
 // range, and the room that is left, with one byte more.
-#[derive(Clone, Copy)]
+#[derive(Clone, Copy, Debug, PartialEq, Eq)]
 struct Judged {
     owed: u8,
     wrong: bool,
@@ -79,21 +81,21 @@ fn judge_word(j: Judged, word: Word) -> Judged
     }
 }
 
-// The number that all the words give. STOP has 4 bytes.
+// What all the words come to. STOP has 4 bytes.
 #[tactic(auto, unfolding(crate::specs::Judging::number_in))]
-fn number(j: Judged) -> u8
-    ensures { result ≡ number_in j }
+fn verdict(j: Judged) -> Result<(), Refusal>
+    ensures { refused_number result ≡ number_in j }
 {
     if j.wrong || j.owed != 0 {
-        return number::NO_LIST;
+        return Err(Refusal::NoList);
     }
     if j.far {
-        return number::BAD_ADDRESS;
+        return Err(Refusal::BadAddress);
     }
     if j.left <= size::HEADER {
-        return number::NO_ROOM;
+        return Err(Refusal::NoRoom);
     }
-    number::DONE
+    Ok(())
 }
 
 // Where the word that begins at a place ends: at the next space, or at the line's end.
@@ -131,12 +133,12 @@ fn judge_all(line: &[u8], room: usize) -> Judged
     j
 }
 
-// The number of a line, at so much room: 0 where its records fit.
-fn judge(line: &[u8], room: usize) -> u8
+// Whether a line is a list whose records fit into so much room.
+fn judge(line: &[u8], room: usize) -> Result<(), Refusal>
     requires { room < 2 ^ 63 }
-    ensures { result ≡ number_for (list_in line.now) room }
+    ensures { refused_number result ≡ number_for (list_in line.now) room }
 {
-    number(judge_all(line, room))
+    verdict(judge_all(line, room))
 }
 
 // An event's record at a place that has room for it. Each of these answers the place after what it put.
@@ -211,9 +213,8 @@ fn put_list(line: &[u8], out: &mut [u8]) -> usize
 pub extern "C" fn toralinge_list(line: &[u8], out: &mut [u8]) -> i64
     ensures { Taken line.now out.old result out.new }
 {
-    let number = judge(line, out.len());
-    if number != number::DONE {
-        return -(number as i64);
+    match judge(line, out.len()) {
+        Ok(()) => put_list(line, out) as i64,
+        Err(why) => -i64::from(why.number()),
     }
-    put_list(line, out) as i64
 }

@@ -5,4 +5,4 @@ use Rattle.i2c_lists.specs.Judging.{number_in}
 use Rattle.i2c_lists.proofs.judge.Goals as goal
 
 pub returns : goal.returns
-returns c = c.number.ensures ∙ ap number_in c.judge_all.ensures ∙ number_is c.args.line.now c.args.room
+returns c = c.verdict.ensures ∙ ap number_in c.judge_all.ensures ∙ number_is c.args.line.now c.args.room
