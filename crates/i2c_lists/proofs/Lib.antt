@@ -5,3 +5,4 @@ pub mod Listing
 pub mod AnswersLaws
 pub mod WordingLaws
 pub mod NumberingLaws
+pub mod FirstSpace

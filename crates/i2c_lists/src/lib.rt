@@ -103,14 +103,10 @@ fn end_of(line: &[u8], at: usize) -> usize
     requires { at ≤ length line.now }
     ensures { result ≡ at + word_length (drop at line.now) }
 {
-    let mut end = at;
-    while end < line.len() {
-        if line[end] == b' ' {
-            return end;
-        }
-        end += 1;
+    match line[at..].iter().position(|b| *b == b' ') {
+        Some(n) => at + n,
+        None => line.len(),
     }
-    end
 }
 
 // What all the words of a line leave.
