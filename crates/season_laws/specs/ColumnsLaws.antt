@@ -42,18 +42,18 @@ same_inputs [] (y ∷ ys) lc ls gc gs s ks ku = absurd (true≢false (sym (ap so
 same_inputs (x ∷ xs) [] lc ls gc gs s ks ku = absurd (true≢false (ap some s))
 same_inputs (x ∷ xs) (y ∷ ys) lc ls gc gs s ks ku =
     let first : x ≡ y =
-        same_input x y (ap (head_or 0) lc) (ap (head_or 0) ls) (ap (head_or 0) gc) (ap (head_or 0) gs) (ap (head_or 0) s)
-        (ap (head_or 0) ks) (ap (head_or 0) ku) in
+    same_input x y (ap (head_or 0) lc) (ap (head_or 0) ls) (ap (head_or 0) gc) (ap (head_or 0) gs) (ap (head_or 0) s)
+    (ap (head_or 0) ks) (ap (head_or 0) ku) in
     let rest : xs ≡ ys =
-        same_inputs xs ys (ap tail_of lc) (ap tail_of ls) (ap tail_of gc) (ap tail_of gs) (ap tail_of s) (ap tail_of ks) (ap tail_of ku) in
+    same_inputs xs ys (ap tail_of lc) (ap tail_of ls) (ap tail_of gc) (ap tail_of gs) (ap tail_of s) (ap tail_of ks) (ap tail_of ku) in
     λ j. first j ∷ rest j
 
 pub same_columns : (a b : Kept) → in_columns a ≡ in_columns b → a ≡ b
 same_columns a b e =
     let same : a.inputs ≡ b.inputs =
-        same_inputs a.inputs b.inputs (ap (λ (s : Season). s.least.count) e) (ap (λ (s : Season). s.least.scan) e)
-        (ap (λ (s : Season). s.greatest.count) e) (ap (λ (s : Season). s.greatest.scan) e) (ap (λ (s : Season). s.sum) e)
-        (ap (λ (s : Season). s.linked.scans) e) (ap (λ (s : Season). s.linked.sum) e) in
+    same_inputs a.inputs b.inputs (ap (λ (s : Season). s.least.count) e) (ap (λ (s : Season). s.least.scan) e)
+    (ap (λ (s : Season). s.greatest.count) e) (ap (λ (s : Season). s.greatest.scan) e) (ap (λ (s : Season). s.sum) e)
+    (ap (λ (s : Season). s.linked.scans) e) (ap (λ (s : Season). s.linked.sum) e) in
     λ j. record {
       part = (e j).part;
       gain_code = (e j).gain_code;
