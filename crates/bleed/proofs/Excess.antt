@@ -1,12 +1,24 @@
 -- The weights of inputs are the powers of two; a group has one best byte, wherever it stands; the excess of each input. The words stand
 -- in specs/. Assumes nothing.
-use Rattle.std.specs.Prelude.{◌≡◌, refl, Bool, true, ◌&&◌, List, [], ◌∷◌, ℕ, zero, suc, ◌+◌, ◌*◌, ◌^◌, ◌<◌, eqb, length, get_or}
-use Rattle.std.proofs.Common.{sym, ap, ◌∙◌, mul-one, mul_assoc, arith, eqb-true}
+use Rattle.std.specs.Prelude.{◌≡◌, refl, Bool, true, ◌&&◌, List, [], ◌∷◌, ℕ, zero, suc, ◌+◌, ◌*◌, ◌^◌, ◌<◌, eqb, ltb, length, get_or}
+use Rattle.std.proofs.Common.{sym, ap, ◌∙◌, mul-one, mul_assoc, arith, eqb-true, ltb-true}
 use Rattle.std.proofs.Math.Nat.{pow-succ'}
 use Rattle.std.proofs.lemmas.List.{ext_get_or}
 use Rattle.bleed.proofs.BestLaws.{left_of, right_of}
 use Rattle.bleed.specs.Excess.{weights, excess_at, excesses_over}
 use Rattle.bleed.specs.Choice.{excess_in, may_in, better_in, best_below, best_in}
+
+pub weights_up : (i : ℕ) → i < 15 → 0 < get_or weights i 0
+weights_up i h = up weights i refl h
+  where
+    ups : List ℕ → Bool
+    ups [] = true
+    ups (w ∷ ws) = ltb 0 w && ups ws
+
+    up : (ws : List ℕ) (i : ℕ) → ups ws ≡ true → i < length ws → 0 < get_or ws i 0
+    up [] i e h = absurd (omega arith)
+    up (w ∷ ws) zero e h = ltb-true 0 w (left_of (ltb 0 w) (ups ws) e)
+    up (w ∷ ws) (suc i) e h = up ws i (right_of (ltb 0 w) (ups ws) e) (omega arith)
 
 doubles : ℕ → List ℕ → Bool
 doubles w [] = true
