@@ -1,13 +1,13 @@
 -- The columns of a report settle it, and what is said of a result beside the report that was settles the result (CHIP O2). Assumes nothing.
 use Rattle.std.specs.Prelude.{◌≡◌, refl, Bool, true, false, List, [], ◌∷◌, map, ℕ, Result, Ok, Err}
-use Rattle.std.proofs.Common.{sym, ap, true≢false}
+use Rattle.std.proofs.Common.{sym, ap, ◌∙◌, true≢false}
 use Rattle.constants.proofs.RefusalLaws.{same_refusal, no_zero}
 use Rattle.constants.specs.declared.refusal.Refusal.{Refusal}
 use Rattle.season.specs.declared.Mark.{Mark}
 use Rattle.season.specs.declared.Linked.{Linked as OneLinked}
 use Rattle.season.specs.declared.Input.{Input}
 use Rattle.season.specs.declared.Season.{Season as Kept}
-use Rattle.season.specs.Columns.{Season, Reported, in_columns, reported_as}
+use Rattle.season.specs.Columns.{Season, Reported, in_columns, reported, reported_as, refused_by}
 
 head_or : ℕ → List ℕ → ℕ
 head_or d [] = d
@@ -69,3 +69,16 @@ same_reported was (Ok x) (Ok y) e = ap Ok (same_columns x y (ap (λ (r : Reporte
 same_reported was (Ok x) (Err w) e = absurd (no_zero w (sym (ap (λ (r : Reported). r.number) e)))
 same_reported was (Err v) (Ok y) e = absurd (no_zero v (ap (λ (r : Reported). r.number) e))
 same_reported was (Err v) (Err w) e = ap Err (same_refusal v w (ap (λ (r : Reported). r.number) e))
+
+-- and of one that was changed in its place
+same_answer : (r s : Result Unit Refusal) → refused_by r ≡ refused_by s → r ≡ s
+same_answer (Ok u) (Ok v) e = refl
+same_answer (Ok u) (Err w) e = absurd (no_zero w (sym e))
+same_answer (Err v) (Ok u) e = absurd (no_zero v e)
+same_answer (Err v) (Err w) e = ap Err (same_refusal v w e)
+
+pub same_lent : {told : Reported} (r s : Result Unit Refusal) (a b : Kept) → reported (refused_by r) (in_columns a) ≡ told
+    → reported (refused_by s) (in_columns b) ≡ told → (r ≡ s) × (a ≡ b)
+same_lent r s a b p q =
+    let e = p ∙ sym q in
+    (same_answer r s (ap (λ (t : Reported). t.number) e), same_columns a b (ap (λ (t : Reported). t.season) e))

@@ -2,7 +2,7 @@
 use Rattle.std.proofs.Common.{length, ◌-◌}
 use Rattle.season.specs.Columns.{in_columns}
 use Rattle.season_walk.proofs.Going.{Going}
-use Rattle.season_walk.proofs.gathered_on.Given as goal
+use Rattle.season_walk.proofs.gather_on.Given as goal
 
 abbrev pub invariant-loop-at : goal.invariant-loop-at
 invariant-loop-at l = Going l.initial.takes l.initial.stands l.s l.takes l.stands (in_columns l.report) l.at
