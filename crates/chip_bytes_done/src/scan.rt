@@ -29,7 +29,8 @@ pub struct Swept {
     pub shown: Shown,
 }
 
-// The counts by the limits that are set.
+// The counts by the limits that are set. A function of its own: inlined, it clears the places of the part's inputs by a call of memset.
+#[inline(never)]
 fn looked_at(setup: Setup, s: Settings, counts: [u16; 15]) -> Looked
     ensures { result ≡ looked_at (rule Ov s).limit setup.floor (rule Uv s).limit (take (inputs setup) counts) }
 {

@@ -21,7 +21,8 @@ const LOWER: u8 = 87;
 // How many bytes a message has at most.
 const BYTES_MOST: u8 = 64;
 
-// The value of a hex digit of either case.
+// The value of a hex digit of either case. Inlined, as `value` is: both are called from three places, for every word twice.
+#[inline(always)]
 #[tactic(auto, unfolding(crate::specs::Reader::hex_of))]
 fn hex_digit(c: u8) -> Option<u8>
     ensures { result ≡ below 16 (hex_of c) }
@@ -46,6 +47,7 @@ fn digit(c: u8) -> Option<u8>
 }
 
 // The value of 0x and one or two hex digits.
+#[inline(always)]
 #[tactic(auto, unfolding(crate::specs::Reader::value_of, crate::specs::Reader::digits_of, crate::specs::Reader::pair_of))]
 fn value(w: &[u8]) -> Option<u8>
     ensures { result ≡ below 256 (value_of w.now) }

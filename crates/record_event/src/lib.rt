@@ -5,11 +5,11 @@ ghost use Rattle.std.specs.Prelude.{◌≡◌};
 ghost use Rattle.constants.specs.Kind.{kind_of};
 ghost use Rattle.record_event.specs.Values.{of_values, part_by, event_by, counts_at, counts_by};
 
-use constants::kind::{self, Kind};
+use constants::kind::Kind;
 use constants::range;
 use constants::refusal::Refusal;
 use events::{Beside, BusEvent, Counts, Event};
-use record_numbers::natural;
+use record_numbers::{kind, natural};
 use record_payload::{
     bare_by, count_by, counted_by, in_by, level_by, load_by, out_by, sense_by, setup_by, soak_by,
     ticks_by, wires_by,
@@ -17,9 +17,6 @@ use record_payload::{
 
 // The greatest part, in the width that C hands over.
 const PART_MOST: u32 = range::PART_MOST as u32;
-
-// SETUP's kind, in that width.
-const SETUP: u32 = kind::SETUP as u32;
 
 // A kind as C hands it over.
 #[tactic(auto, using(crate::proofs::Meant::wide_kind))]
@@ -70,7 +67,7 @@ pub fn part_by(part: u32) -> u8
 pub fn event_by(kind: u32, part: u32, values: &[i64]) -> Result<Event, Refusal>
     ensures { result ≡ event_by kind part values.now }
 {
-    if kind == SETUP {
+    if kind == kind::SETUP {
         return setup_by(values);
     }
     let p = part_by(part);
@@ -80,6 +77,8 @@ pub fn event_by(kind: u32, part: u32, values: &[i64]) -> Result<Event, Refusal>
     event_of(kind_of(kind)?, p, values)
 }
 
+// Values as counts. A function of its own: inlined, the fifteen counts are kept one by one beside every event that has none.
+#[inline(never)]
 fn counts_at(values: &[i64]) -> Counts
     ensures { result ≡ counts_at values.now }
 {

@@ -1,6 +1,8 @@
 // Values as C hands them over: a value as a number from 0 up, and what a byte, or two, hold of it.
 #![tactic(auto)]
 
+pub mod kind;
+
 ghost use Rattle.std.specs.Prelude.{◌≡◌};
 ghost use Rattle.record_numbers.specs.Values.{nat_of, byte_of, word_of};
 

@@ -16,6 +16,9 @@ pub type ReportBytes = [u8; REPORT_SIZE];
 // The layout's version.
 pub const VERSION: u8 = 1;
 
+// Every column has a number for each of as many inputs as a part can have.
+pub const INPUTS: usize = 15;
+
 // What the low half of a long number comes to at most, and one.
 pub const HALF: u32 = 65536;
 
@@ -23,7 +26,7 @@ pub const HALF: u32 = 65536;
 pub fn lows_of(of: [u32; 15]) -> [u16; 15]
     ensures { result ≡ lows_of of }
 {
-    let mut low = [0; 15];
+    let mut low = [0; INPUTS];
     for (i, x) in of.iter().enumerate() {
         low[i] = (x % HALF) as u16;
     }
@@ -33,7 +36,7 @@ pub fn lows_of(of: [u32; 15]) -> [u16; 15]
 pub fn highs_of(of: [u32; 15]) -> [u16; 15]
     ensures { result ≡ highs_of of }
 {
-    let mut high = [0; 15];
+    let mut high = [0; INPUTS];
     for (i, x) in of.iter().enumerate() {
         high[i] = (x / HALF) as u16;
     }

@@ -100,7 +100,8 @@ pub fn stays_fresh(fresh: bool, part: u8, answer: Result<Option<u8>, Refusal>) -
     part == 0 || (fresh && answer.is_err())
 }
 
-// A record that was done or refused, with its entry.
+// A record that was done or refused, with its entry. Inlined, since it is called from three places and each call would copy the chip twice.
+#[inline(always)]
 pub fn told(step: Stepped, fresh: bool, next: usize, last: bool) -> Turned
     ensures { as_turn result ≡ turn (as_step step) fresh next last }
 {
