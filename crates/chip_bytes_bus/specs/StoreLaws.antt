@@ -274,17 +274,13 @@ module _ (b : List ℕ) (v : ℕ) {new : List ℕ} where
 
   pub ctrl1_by : {s k : Settings} → s ≡ settings_at (take 96 b) → ships 0x04 v s ≡ false → k ≡ settings_with 0x04 v s → new ≡ control_in k b
       → Wrote 0x04 v b new
-  unfolding chip_at settings_with shown_with cellbal_with
+  unfolding settings_with
   ctrl1_by {s} {k} e n h m =
-      let same : k ≡ settings_with 0x04 v (settings_at (take 96 b)) = h ∙ ap (settings_with 0x04 v) e in
-      record {
-        stays = ap (ships 0x04 v) (sym e) ∙ n;
-        calm = λ k. k;
-        leaves =
-            λ f rest q.
-            m ∙ ap (λ (s : Settings). control_in s b) same ∙ ap (control_in (settings_with 0x04 v (settings_at (take 96 b)))) q
-            ∙ ctrl1_moved v (chip_here b) f rest;
-      }
+      let held : s.shut_b ≡ eqb (get_or b 26 0) 1 =
+      ap (λ (s : Settings). s.shut_b) e ∙ ap (λ (x : ℕ). eqb x 1) (get_or-take 96 b 26 0 (omega arith)) in
+      wrote_ctrl1 b v (ap (λ (t : Bool). t && is_shut_a v && not (is_shut_b v)) held) n
+      (ap (λ (t : Bool). not t && not (is_shut_a v) && is_shut_b v) held)
+      (m ∙ ap (λ (s : Settings). control_in s b) h)
 
   pub ctrl2_by : {k : Settings} {w : Shown} → k ≡ settings_with 0x05 v (settings_at (take 96 b))
       → w ≡ shown_with 0x05 v (shown_at (take 96 b)) → new ≡ drives_in k w b → Wrote 0x05 v b new

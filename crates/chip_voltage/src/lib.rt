@@ -51,7 +51,7 @@ pub fn linked(chip: Chip) -> u16
 pub fn forecast(chip: Chip) -> Result<Reading, Refusal>
     ensures { Forecasts chip result }
 {
-    awake(chip)?;
+    awake(chip)?; // Before a pack with no cell connected.
     let pack = wiring::link(chip.setup, chip.registers.measured.cells);
     if pack.many == 0 {
         return Err(Refusal::NotConnected);
